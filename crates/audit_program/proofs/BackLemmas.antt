@@ -31,7 +31,7 @@ use Rattle.rcce_audit.proofs.SizeLemmas.{few_fit}
 use Rattle.rcce_audit.proofs.StandingLemmas.{legal_told}
 use Rattle.rcce_audit.proofs.VerdictLemmas.{verdict_found}
 use Rattle.rcce_audit.proofs.WritingLemmas.{text_told}
-use Rattle.audit_program.specs.History.{setup_by}
+use Rattle.audit_program.specs.History.{log_setup_by}
 use Rattle.audit_program.specs.Program.{script_log}
 use Rattle.audit_program.proofs.LogLemmas.{one_long, past_none}
 
@@ -80,7 +80,7 @@ few_own script rank calls is =
 
 -- ---- the log
 
-module _ (script : Script) (chip : ChipView) (read : settled.IsWhole script.nue script.items) (run : HasRun script (setup_by script) chip) where
+module _ (script : Script) (chip : ChipView) (read : settled.IsWhole script.nue script.items) (run : HasRun script (log_setup_by script) chip) where
   -- of the ranks that a log has
   calls_at : (k : ℕ) → k < 48 → calls_of (script_log script) k ≡ plain_calls script k
   calls_at k low = get_or-map-range_with_len (plain_calls script) 0 48 k k [] low (omega arith)

@@ -15,7 +15,7 @@ use Rattle.script_reader.specs.Script.{Script}
 use Rattle.script_plain.specs.Meaning.{State, plain_end}
 use Rattle.script_plain.proofs.Runs.PlainLaws.{length-plain_end}
 use Rattle.rcce_audit.specs.declared.held.CallList.{CallList}
-use Rattle.rcce_audit.specs.Held.{bytes_in, data_by, held_calls, with_bytes}
+use Rattle.rcce_audit.specs.Held.{bytes_in, call_with_bytes, held_calls, calls_with_bytes}
 use Rattle.rcce_audit.proofs.ListLemmas.{get_or-map_within}
 use Rattle.log_run.specs.LogRuns.{done_at, plain_calls}
 
@@ -27,13 +27,13 @@ one_long (Recv from head bytes) long = sym long
 one_long (Post to head bytes) long = sym long
 one_long (Bar comm) long = refl
 
-one_back : (call : DataCall) → data_by (call_of call) (moved_by call) ≡ call
+one_back : (call : DataCall) → call_with_bytes (call_of call) (moved_by call) ≡ call
 one_back (Send to head bytes) = refl
 one_back (Recv from head bytes) = refl
 one_back (Post to head bytes) = refl
 one_back (Bar comm) = refl
 
-pub bytes_back : (calls : List DataCall) → All HasItsBytes calls → with_bytes (map call_of calls) (flat_map moved_by calls) ≡ calls
+pub bytes_back : (calls : List DataCall) → All HasItsBytes calls → calls_with_bytes (map call_of calls) (flat_map moved_by calls) ≡ calls
 bytes_back [] long = refl
 bytes_back (call ∷ calls) long =
     let n : bytes_in (call_of call) ≡ length (moved_by call) = one_long call (All-head HasItsBytes call calls long) in
@@ -41,7 +41,7 @@ bytes_back (call ∷ calls) long =
     ap (λ (k : ℕ). take k (moved_by call ++ flat_map moved_by calls)) n ∙ take-append_seam (moved_by call) (flat_map moved_by calls) in
     let behind : drop (bytes_in (call_of call)) (moved_by call ++ flat_map moved_by calls) ≡ flat_map moved_by calls =
     ap (λ (k : ℕ). drop k (moved_by call ++ flat_map moved_by calls)) n ∙ drop-append_seam (moved_by call) (flat_map moved_by calls) in
-    λ i. (ap (data_by (call_of call)) front ∙ one_back call) i ∷ (ap (with_bytes (map call_of calls)) behind ∙ bytes_back calls (All-tail HasItsBytes call calls long)) i
+    λ i. (ap (call_with_bytes (call_of call)) front ∙ one_back call) i ∷ (ap (calls_with_bytes (map call_of calls)) behind ∙ bytes_back calls (All-tail HasItsBytes call calls long)) i
 
 -- ---- the lists of the ranks
 

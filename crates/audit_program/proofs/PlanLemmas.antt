@@ -12,7 +12,7 @@ use Rattle.rcce_audit.specs.Verdicts.{IsJudge, IsVerdict}
 use Rattle.rcce_audit.proofs.ReadingLemmas.{text_back}
 use Rattle.rcce_audit.proofs.VerdictLemmas.{verdict_once}
 use Rattle.scc_mesh.specs.Scenes.{ChipView}
-use Rattle.audit_program.specs.History.{ChipTells}
+use Rattle.audit_program.specs.History.{AuditChipTells}
 use Rattle.rcce_words.specs.ScriptWords.{Command}
 use Rattle.audit_program.specs.Program.{log_plan, named_plan, verdict_ran}
 
@@ -36,5 +36,5 @@ pub named_meant : (judge : LogView → Verdict) (program : List ℕ) (named told
     → IsMeant program (named_plan judge named command) before after o → IsMeant program (named_plan judge told command) before after o
 named_meant judge program named told command before after o same meant = subst (λ (n : Option (List ℕ)). IsMeant program (named_plan judge n command) before after o) same meant
 
-pub named_tells : (files : Option (List NamedFile)) (named told : Option (List ℕ)) (command : Option Command) (chip : ChipView) (o : Outcome) → named ≡ told → ChipTells files named command chip o → ChipTells files told command chip o
-named_tells files named told command chip o same tells = subst (λ (n : Option (List ℕ)). ChipTells files n command chip o) same tells
+pub named_tells : (files : Option (List NamedFile)) (named told : Option (List ℕ)) (command : Option Command) (chip : ChipView) (o : Outcome) → named ≡ told → AuditChipTells files named command chip o → AuditChipTells files told command chip o
+named_tells files named told command chip o same tells = subst (λ (n : Option (List ℕ)). AuditChipTells files n command chip o) same tells

@@ -27,9 +27,9 @@ use Rattle.rcce_audit.specs.Verdicts.{IsVerdict}
 use Rattle.rcce_words.specs.declared.script_words.ScriptJob.{ScriptJob}
 use Rattle.rcce_words.specs.ScriptFiles.{LeadsTo, ScriptIn}
 use Rattle.rcce_words.specs.ScriptWords.{Command, job_command, plan_of}
-use Rattle.audit_program.specs.History.{HasLogged, RunTells, WordsTell, chip_log, setup_by}
-use Rattle.audit_program.specs.Loading.{Ends, HasRan, Launches, logged_ran}
-use Rattle.audit_program.specs.Program.{command_plan, log_ran, run_plan, script_log}
+use Rattle.audit_program.specs.History.{HasLogged, RunTells, WordsTell, chip_log, log_setup_by}
+use Rattle.audit_program.specs.Loading.{EndsByPlan, HasRan, LaunchesLogged, logged_ran}
+use Rattle.audit_program.specs.Program.{audit_command_plan, log_ran, log_run_plan, script_log}
 use Rattle.audit_program.proofs.BackLemmas.{judged_legal, read_back}
 
 -- ---- the plan of a script
@@ -38,11 +38,11 @@ abbrev by_room : List ℕ → Script → Bool → Plan
 by_room file script room = if room then Runs (log_ran script) else Refuses file 0 (codes "TooLong")
 
 -- too many calls
-pub comes_refused : (name file : List ℕ) (script : Script) (files : FilesView) → false ≡ has_room_for_all script → Comes name (run_plan file script) files files (file_refused name file 0 (codes "TooLong"))
+pub comes_refused : (name file : List ℕ) (script : Script) (files : FilesView) → false ≡ has_room_for_all script → Comes name (log_run_plan file script) files files (file_refused name file 0 (codes "TooLong"))
 comes_refused name file script files full = subst (λ (room : Bool). Comes name (by_room file script room) files files (file_refused name file 0 (codes "TooLong"))) full (refl, inl refl)
 
 -- a run
-pub comes_run : (name file : List ℕ) (script : Script) (files : FilesView) → has_room_for_all script ≡ true → Comes name (run_plan file script) files files (run_outcome (log_ran script))
+pub comes_run : (name file : List ℕ) (script : Script) (files : FilesView) → has_room_for_all script ≡ true → Comes name (log_run_plan file script) files files (run_outcome (log_ran script))
 comes_run name file script files room = subst (λ (b : Bool). Comes name (by_room file script b) files files (run_outcome (log_ran script))) (sym room) (refl, inl refl)
 
 -- ---- the run
@@ -61,7 +61,7 @@ shows_none script chip why blank =
     let P : Bool → Type 0 = λ b. ByTest b (chip ≡ None) ((o ≡ run_outcome (log_ran script)) × HasLogged script chip) in
     subst P (sym (complaint_quiet (codes "rcceaudit") why)) blank
 
-pub has_ran : (file : List ℕ) (script : Script) (chip : ChipView) (before after : Sinks) (s : Status) (answer : Result Logged Complaint) → Launches file script chip answer
+pub has_ran : (file : List ℕ) (script : Script) (chip : ChipView) (before after : Sinks) (s : Status) (answer : Result Logged Complaint) → LaunchesLogged file script chip answer
     → Delivers (outcome_of (codes "rcceaudit") logged_ran answer) before after s → HasRan file script chip before after s
 has_ran file script chip before after s (Ok logged) (same, room, has) delivers = record {
   outcome = run_outcome (log_ran script);
@@ -77,9 +77,9 @@ has_ran file script chip before after s (Err why) (comes, blank) delivers = reco
 }
 
 -- the log of a chip that a script ran on
-pub has_logged : (script : Script) (set : SetupView) (chip : ChipView) → settled.IsWhole script.nue script.items → set ≡ setup_by script → HasRun script set chip → HasLogged script chip
+pub has_logged : (script : Script) (set : SetupView) (chip : ChipView) → settled.IsWhole script.nue script.items → set ≡ log_setup_by script → HasRun script set chip → HasLogged script chip
 has_logged script set chip whole same run =
-    let own : HasRun script (setup_by script) chip = subst (λ (s : SetupView). HasRun script s chip) same run in
+    let own : HasRun script (log_setup_by script) chip = subst (λ (s : SetupView). HasRun script s chip) same run in
     let log : chip_log chip ≡ script_log script =
     λ i. record { nue = (own.setup i).nue; comms = (own.setup i).comms; lists = map (λ rank. own.finished rank i) (range_with_len 0 48) } in
     record {
@@ -98,25 +98,25 @@ tells_by true told command script chip o asked shows = shows
 tells_by false told command script chip o asked shows = (script, asked, shows.0, shows.1)
 
 pub ends_ran : (command : Command) (before after : FilesView) (script : Script) (chip : ChipView) (sinks sinks_after : Sinks) (s : Status) → LeadsTo command.script command.nue before after script
-    → HasRan command.script script chip sinks sinks_after s → Ends (RunTells before.told command chip) (plan_of command_plan (Some command)) before after sinks sinks_after s
+    → HasRan command.script script chip sinks sinks_after s → EndsByPlan (RunTells before.told command chip) (plan_of audit_command_plan (Some command)) before after sinks sinks_after s
 ends_ran command before after script chip sinks sinks_after s leads ran =
-    (ran.outcome, leads.goes (codes "rcceaudit") (run_plan command.script) after ran.outcome (ran.comes after), ran.delivers, tells_by (is_quiet ran.outcome.status) before.told command script chip ran.outcome leads.stands ran.shows)
+    (ran.outcome, leads.goes (codes "rcceaudit") (log_run_plan command.script) after ran.outcome (ran.comes after), ran.delivers, tells_by (is_quiet ran.outcome.status) before.told command script chip ran.outcome leads.stands ran.shows)
 
-pub ends_complained : (command : Command) (before after : FilesView) (chip : ChipView) (why : Complaint) (sinks sinks_after : Sinks) (s : Status) → Comes (codes "rcceaudit") (command_plan command) before after (complaint_outcome (codes "rcceaudit") why)
-    → Delivers (complaint_outcome (codes "rcceaudit") why) sinks sinks_after s → chip ≡ None → Ends (RunTells before.told command chip) (plan_of command_plan (Some command)) before after sinks sinks_after s
+pub ends_complained : (command : Command) (before after : FilesView) (chip : ChipView) (why : Complaint) (sinks sinks_after : Sinks) (s : Status) → Comes (codes "rcceaudit") (audit_command_plan command) before after (complaint_outcome (codes "rcceaudit") why)
+    → Delivers (complaint_outcome (codes "rcceaudit") why) sinks sinks_after s → chip ≡ None → EndsByPlan (RunTells before.told command chip) (plan_of audit_command_plan (Some command)) before after sinks sinks_after s
 ends_complained command before after chip why sinks sinks_after s came delivers blank =
     let o : Outcome = complaint_outcome (codes "rcceaudit") why in
     let P : Bool → Type 0 = λ b. ByTest b (chip ≡ None) ((x : Script) × ScriptIn command.script before.told command.nue x × (o ≡ run_outcome (log_ran x)) × HasLogged x chip) in
     (o, came, delivers, subst P (sym (complaint_quiet (codes "rcceaudit") why)) blank)
 
 pub ends_words : (command : Option Command) (job : ScriptJob) (before after : FilesView) (chip : ChipView) (sinks sinks_after : Sinks) (s : Status) → Some (job_command job) ≡ command
-    → Ends (RunTells before.told (job_command job) chip) (plan_of command_plan (Some (job_command job))) before after sinks sinks_after s
-    → Ends (WordsTell before.told command chip) (plan_of command_plan command) before after sinks sinks_after s
+    → EndsByPlan (RunTells before.told (job_command job) chip) (plan_of audit_command_plan (Some (job_command job))) before after sinks sinks_after s
+    → EndsByPlan (WordsTell before.told command chip) (plan_of audit_command_plan command) before after sinks sinks_after s
 ends_words command job before after chip sinks sinks_after s is ends =
-    subst (λ (x : Option Command). Ends (WordsTell before.told x chip) (plan_of command_plan x) before after sinks sinks_after s) is ends
+    subst (λ (x : Option Command). EndsByPlan (WordsTell before.told x chip) (plan_of audit_command_plan x) before after sinks sinks_after s) is ends
 
 pub ends_refused : (command : Option Command) (files : FilesView) (chip : ChipView) (o : Outcome) (sinks sinks_after : Sinks) (s : Status) → None ≡ command
     → IsMeant (codes "rcceaudit") (Err (codes "words refused")) files files o → Delivers o sinks sinks_after s → chip ≡ None
-    → Ends (WordsTell files.told command chip) (plan_of command_plan command) files files sinks sinks_after s
+    → EndsByPlan (WordsTell files.told command chip) (plan_of audit_command_plan command) files files sinks sinks_after s
 ends_refused command files chip o sinks sinks_after s is meant delivers blank =
-    subst (λ (x : Option Command). Ends (WordsTell files.told x chip) (plan_of command_plan x) files files sinks sinks_after s) is (o, meant, delivers, blank)
+    subst (λ (x : Option Command). EndsByPlan (WordsTell files.told x chip) (plan_of audit_command_plan x) files files sinks sinks_after s) is (o, meant, delivers, blank)

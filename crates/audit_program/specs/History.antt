@@ -20,17 +20,22 @@ use Rattle.log_run.specs.LogRuns.{HasRun}
 use Rattle.audit_program.specs.Program.{log_ran, script_log}
 
 -- the setup of a run: line flags, and rank r on core r
-abbrev pub setup_by : Script → SetupView
-setup_by script = default_setup script.nue (rules_of script.items)
+abbrev pub log_setup_by : Script → SetupView
+log_setup_by script = default_setup script.nue (rules_of script.items)
 
 -- the log of the finished calls of a chip's ranks
 abbrev pub chip_log : ChipView → LogView
-chip_log chip = record { nue = (about_in chip).nue; comms = (about_in chip).comms; lists = map (λ rank. (records_in chip rank).calls) (range_with_len 0 48) }
+chip_log chip =
+    record {
+      nue = (about_in chip).nue;
+      comms = (about_in chip).comms;
+      lists = map (λ rank. (records_in chip rank).calls) (range_with_len 0 48);
+    }
 
 -- A script was run on the chip, and its log, which the plain meaning tells, is the log of the chip's finished calls. The text
 -- of this log is read as this log, and its verdict is that it is legal.
 pub record HasLogged (script : Script) (chip : ChipView) : Type 0 where
-  pub run : HasRun script (setup_by script) chip
+  pub run : HasRun script (log_setup_by script) chip
   pub log : chip_log chip ≡ script_log script
   pub read : log_of (log_text (chip_log chip)) ≡ Ok (chip_log chip)
   pub judged : IsVerdict (chip_log chip) verdict.Yes
@@ -47,6 +52,6 @@ WordsTell told None chip o = chip ≡ None
 WordsTell told (Some command) chip o = RunTells told command chip o
 
 -- and where a log is judged
-abbrev pub ChipTells : Option (List NamedFile) → Option (List ℕ) → Option Command → ChipView → Outcome → Type 0
-ChipTells told (Some file) command chip o = chip ≡ None
-ChipTells told None command chip o = WordsTell told command chip o
+abbrev pub AuditChipTells : Option (List NamedFile) → Option (List ℕ) → Option Command → ChipView → Outcome → Type 0
+AuditChipTells told (Some file) command chip o = chip ≡ None
+AuditChipTells told None command chip o = WordsTell told command chip o

@@ -27,7 +27,11 @@ use Rattle.log_run.specs.Sizes.{has_room_for_all}
 abbrev pub verdict_ran : Verdict → Ran
 verdict_ran verdict.Yes = record { finished = true; out = codes "legal\n"; err = [] }
 verdict_ran (verdict.No rank call) =
-    record { finished = false; out = joined (codes "not legal: ue " ∷ decimal rank ∷ codes " call " ∷ decimal call ∷ codes "\n" ∷ []); err = [] }
+    record {
+      finished = false;
+      out = joined (codes "not legal: ue " ∷ decimal rank ∷ codes " call " ∷ decimal call ∷ codes "\n" ∷ []);
+      err = [];
+    }
 
 -- what a judged log comes to: the line of its verdict
 abbrev pub judged_ran : Judged → Ran
@@ -39,12 +43,12 @@ log_plan judge file (Ok log) = Runs (verdict_ran (judge log))
 log_plan judge file (Err fault) = Refuses file fault.line (fault_name fault.kind)
 
 -- the bytes of a log's file
-abbrev pub bytes_plan : (LogView → Verdict) → List ℕ → List ℕ → Plan
-bytes_plan judge file bytes = log_plan judge file (log_of bytes)
+abbrev pub log_bytes_plan : (LogView → Verdict) → List ℕ → List ℕ → Plan
+log_bytes_plan judge file bytes = log_plan judge file (log_of bytes)
 
 -- the log's file has at most 64 MiB
-abbrev pub file_plan : (LogView → Verdict) → List ℕ → Plan
-file_plan judge file = Reads file most_log_bytes (bytes_plan judge file)
+abbrev pub log_file_plan : (LogView → Verdict) → List ℕ → Plan
+log_file_plan judge file = Reads file most_log_bytes (log_bytes_plan judge file)
 
 -- the words are one file's name
 abbrev pub file_named : List (List ℕ) → Option (List ℕ)
@@ -65,26 +69,26 @@ abbrev pub log_ran : Script → Ran
 log_ran script = record { finished = all_finished (plain_ends script); out = log_text (script_log script); err = [] }
 
 -- a script runs, where its calls are not more than a log may have of a rank
-abbrev pub run_plan : List ℕ → Script → Plan
-run_plan file script = if has_room_for_all script then Runs (log_ran script) else Refuses file 0 (codes "TooLong")
+abbrev pub log_run_plan : List ℕ → Script → Plan
+log_run_plan file script = if has_room_for_all script then Runs (log_ran script) else Refuses file 0 (codes "TooLong")
 
 -- the script's file
-abbrev pub command_plan : Command → Plan
-command_plan command = script_plan (run_plan command.script) command.script command.nue
+abbrev pub audit_command_plan : Command → Plan
+audit_command_plan command = script_plan (log_run_plan command.script) command.script command.nue
 
 -- the words: a log is judged, or a run is logged
 abbrev pub named_plan : (LogView → Verdict) → Option (List ℕ) → Option Command → Result Plan (List ℕ)
-named_plan judge (Some file) command = Ok (file_plan judge file)
-named_plan judge None command = plan_of command_plan command
+named_plan judge (Some file) command = Ok (log_file_plan judge file)
+named_plan judge None command = plan_of audit_command_plan command
 
 -- the words: a log is judged, a run is logged, or they are refused
-abbrev pub words_plan : (LogView → Verdict) → List (List ℕ) → Result Plan (List ℕ)
-words_plan judge words = named_plan judge (file_named words) (command_of words)
+abbrev pub audit_words_plan : (LogView → Verdict) → List (List ℕ) → Result Plan (List ℕ)
+audit_words_plan judge words = named_plan judge (file_named words) (command_of words)
 
 -- the program on words that name no log, for which nothing is judged: a run is logged, or the words are refused
 abbrev pub rcceaudit_log : Program
-rcceaudit_log = record { name = codes "rcceaudit"; plan = λ words. plan_of command_plan (command_of words) }
+rcceaudit_log = record { name = codes "rcceaudit"; plan = λ words. plan_of audit_command_plan (command_of words) }
 
 -- the program, by its name and what it does on its words
 abbrev pub rcceaudit : (LogView → Verdict) → Program
-rcceaudit judge = record { name = codes "rcceaudit"; plan = words_plan judge }
+rcceaudit judge = record { name = codes "rcceaudit"; plan = audit_words_plan judge }

@@ -10,9 +10,9 @@ ghost use Rattle.log_run.specs.LogRuns.{AreLegalCalls};
 ghost use Rattle.rcce_audit.specs.declared.verdicts.Verdict.{Verdict};
 ghost use Rattle.rcce_audit.specs.Logs.{LogView};
 ghost use Rattle.rcce_audit.specs.Verdicts.{IsJudge};
-ghost use Rattle.audit_program.specs.History.{ChipTells};
-ghost use Rattle.audit_program.specs.Loading.{Ends};
-ghost use Rattle.audit_program.specs.Program.{bytes_plan, command_of, file_named, file_plan, judged_ran, rcceaudit, rcceaudit_log};
+ghost use Rattle.audit_program.specs.History.{AuditChipTells};
+ghost use Rattle.audit_program.specs.Loading.{EndsByPlan};
+ghost use Rattle.audit_program.specs.Program.{log_bytes_plan, command_of, file_named, log_file_plan, judged_ran, rcceaudit, rcceaudit_log};
 ghost use Rattle.scc_mesh.specs.Scenes.{IsOpen};
 
 use crate::command::file_named;
@@ -55,12 +55,14 @@ pub fn rcceaudit<F: Files, O: Sink, E: Sink>(
     // that the plain meaning did for each rank, in order, and they are legal; reading this text gives back exactly this log, and
     // its verdict is Yes. Else the chip is blank.
     ensures logs_history { file_named (map string_bytes words.now) ≡ None
-        → EndsWith (ChipTells (F.seen files.old).told (file_named (map string_bytes words.now)) (command_of (map string_bytes words.now)) chip.new)
+        → EndsWith (AuditChipTells (F.seen files.old).told (file_named (map string_bytes words.now))
+        (command_of (map string_bytes words.now)) chip.new)
         rcceaudit_log (map string_bytes words.now) (F.seen files.old) (F.seen files.new)
         (sinks (O.seen out.old) (E.seen err.old)) (sinks (O.seen out.new) (E.seen err.new)) result }
     // The same whatever the words are.
     ensures history { (judge : LogView → Verdict) → IsJudge judge
-        → EndsWith (ChipTells (F.seen files.old).told (file_named (map string_bytes words.now)) (command_of (map string_bytes words.now)) chip.new)
+        → EndsWith (AuditChipTells (F.seen files.old).told (file_named (map string_bytes words.now))
+        (command_of (map string_bytes words.now)) chip.new)
         (rcceaudit judge) (map string_bytes words.now) (F.seen files.old) (F.seen files.new)
         (sinks (O.seen out.old) (E.seen err.old)) (sinks (O.seen out.new) (E.seen err.new)) result }
     // The finished calls of the chip are legal, whatever the status. (A blank chip has no calls.)
@@ -80,7 +82,8 @@ fn judge_log<F: Files, O: Sink, E: Sink>(
     out: &mut O,
     err: &mut E,
 ) -> Status
-    ensures { (judge : LogView → Verdict) → IsJudge judge → Ends (λ o. Unit {0}) (Ok (file_plan judge file.now)) (F.seen files.old) (F.seen files.new)
+    ensures { (judge : LogView → Verdict) → IsJudge judge
+        → EndsByPlan (λ o. Unit {0}) (Ok (log_file_plan judge file.now)) (F.seen files.old) (F.seen files.new)
         (sinks (O.seen out.old) (E.seen err.old)) (sinks (O.seen out.new) (E.seen err.new)) result }
 {
     let ending = judge_file(alloc, files, file);
@@ -93,7 +96,7 @@ fn judge_file<'a, F: Files>(
     file: &'a str,
 ) -> Result<Judged, Complaint<'a>>
     ensures { (judge : LogView → Verdict) → IsJudge judge
-        → Comes (codes "rcceaudit") (file_plan judge file.now) (F.seen files.old) (F.seen files.new)
+        → Comes (codes "rcceaudit") (log_file_plan judge file.now) (F.seen files.old) (F.seen files.new)
         (outcome_of (codes "rcceaudit") judged_ran result) }
 {
     match read_file(alloc, files, file, MOST_LOG_BYTES) {
@@ -104,7 +107,7 @@ fn judge_file<'a, F: Files>(
 
 fn judge_bytes<'a>(alloc: Global, file: &'a str, bytes: &[u8]) -> Result<Judged, Complaint<'a>>
     ensures { (judge : LogView → Verdict) (files : FilesView) → IsJudge judge
-        → Comes (codes "rcceaudit") (bytes_plan judge file.now bytes.now) files files
+        → Comes (codes "rcceaudit") (log_bytes_plan judge file.now bytes.now) files files
         (outcome_of (codes "rcceaudit") judged_ran result) }
 {
     match read_log(alloc, bytes) {

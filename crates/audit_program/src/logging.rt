@@ -5,9 +5,9 @@ ghost use Rattle.scc_mesh.specs.Scenes.{IsOpen};
 ghost use Rattle.outcomes.specs.Delivery.{sinks};
 ghost use Rattle.log_run.specs.LogRuns.{AreLegalCalls};
 ghost use Rattle.log_run.specs.Sizes.{has_room_for_all};
-ghost use Rattle.audit_program.specs.History.{RunTells, WordsTell, setup_by};
-ghost use Rattle.audit_program.specs.Loading.{Ends, HasRan, Launches};
-ghost use Rattle.audit_program.specs.Program.{command_of, command_plan};
+ghost use Rattle.audit_program.specs.History.{RunTells, WordsTell, log_setup_by};
+ghost use Rattle.audit_program.specs.Loading.{EndsByPlan, HasRan, LaunchesLogged};
+ghost use Rattle.audit_program.specs.Program.{command_of, audit_command_plan};
 ghost use Rattle.rcce_words.specs.ScriptWords.{job_command, plan_of};
 
 use crate::command::job_of;
@@ -31,8 +31,8 @@ pub fn log_words<F: Files, O: Sink, E: Sink>(
     chip: &mut Chip,
 ) -> Status
     requires blank { chip.old ≡ None }
-    ensures ends { Ends (WordsTell (F.seen files.old).told (command_of (map string_bytes words.now)) chip.new)
-        (plan_of command_plan (command_of (map string_bytes words.now))) (F.seen files.old) (F.seen files.new)
+    ensures ends { EndsByPlan (WordsTell (F.seen files.old).told (command_of (map string_bytes words.now)) chip.new)
+        (plan_of audit_command_plan (command_of (map string_bytes words.now))) (F.seen files.old) (F.seen files.new)
         (sinks (O.seen out.old) (E.seen err.old)) (sinks (O.seen out.new) (E.seen err.new)) result }
     ensures legal { IsOpen chip.new → AreLegalCalls chip.new }
 {
@@ -57,8 +57,8 @@ fn log_job<F: Files, O: Sink, E: Sink>(
     requires blank { chip.old ≡ None }
     requires some { 1 ≤ job.nue }
     requires most { job.nue ≤ 48 }
-    ensures ends { Ends (RunTells (F.seen files.old).told (job_command job.entry) chip.new)
-        (plan_of command_plan (Some (job_command job.entry))) (F.seen files.old) (F.seen files.new)
+    ensures ends { EndsByPlan (RunTells (F.seen files.old).told (job_command job.entry) chip.new)
+        (plan_of audit_command_plan (Some (job_command job.entry))) (F.seen files.old) (F.seen files.new)
         (sinks (O.seen out.old) (E.seen err.old)) (sinks (O.seen out.new) (E.seen err.new)) result }
     ensures legal { IsOpen chip.new → AreLegalCalls chip.new }
 {
@@ -78,7 +78,8 @@ fn log_script<O: Sink, E: Sink>(
     chip: &mut Chip,
 ) -> Status
     requires blank { chip.old ≡ None }
-    ensures ran { HasRan file.now scripts.now chip.new (sinks (O.seen out.old) (E.seen err.old)) (sinks (O.seen out.new) (E.seen err.new)) result }
+    ensures ran { HasRan file.now scripts.now chip.new (sinks (O.seen out.old) (E.seen err.old))
+        (sinks (O.seen out.new) (E.seen err.new)) result }
     ensures legal { IsOpen chip.new → AreLegalCalls chip.new }
 {
     let ending = launch(alloc, scripts, file, chip);
@@ -93,7 +94,7 @@ fn launch<'s>(
     chip: &mut Chip,
 ) -> Result<Logged<'s>, Complaint<'s>>
     requires blank { chip.old ≡ None }
-    ensures launched { Launches file.now scripts.now chip.new result }
+    ensures launched { LaunchesLogged file.now scripts.now chip.new result }
     ensures legal { IsOpen chip.new → AreLegalCalls chip.new }
 {
     match has_room(alloc, scripts) {
@@ -112,7 +113,7 @@ fn run_within<'s>(
 ) -> Result<Logged<'s>, Complaint<'s>>
     requires blank { chip.old ≡ None }
     requires room { room ≡ has_room_for_all scripts.now }
-    ensures launched { Launches file.now scripts.now chip.new result }
+    ensures launched { LaunchesLogged file.now scripts.now chip.new result }
     ensures legal { IsOpen chip.new → AreLegalCalls chip.new }
 {
     if room {
@@ -134,7 +135,7 @@ fn run<'s>(
 ) -> Result<Logged<'s>, Complaint<'s>>
     requires blank { chip.old ≡ None }
     requires room { has_room_for_all scripts.now ≡ true }
-    ensures launched { (file : List ℕ) → Launches file scripts.now chip.new result }
+    ensures launched { (file : List ℕ) → LaunchesLogged file scripts.now chip.new result }
     ensures legal { IsOpen chip.new → AreLegalCalls chip.new }
 {
     scripts.acceptance_law();
@@ -146,7 +147,7 @@ fn run<'s>(
 
 // The setup of a run: line flags, and rank r on core r.
 fn setup_by(scripts: &Scripts) -> Setup
-    ensures { result ≡ setup_by scripts.now }
+    ensures { result ≡ log_setup_by scripts.now }
 {
     let _ = scripts.nue();
     scripts.setup(Layout::lines(), default_hosts())

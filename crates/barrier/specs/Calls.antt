@@ -29,7 +29,8 @@ pub record Finishes (old : Member) (now : ParityHolder) : Type 0 where
   -- the own gather flag of this communicator was flipped once, unless the barrier was entered before
   pub flips : (record_in now.sight).flips ≡ flips_by old.op.comm old.op.stage (record_in old.sight).flips
   pub rest : KeepsAllButBarriers (record_in old.sight) (record_in now.sight)
-  pub no_vain : (place : WordAt) → MayEndAt old.sight.seat old.op.comm place → vain_tries (AtWord place (flag_value (value_at now.parity old.op.comm))) events ≡ 0
+  pub no_vain : (place : WordAt) → MayEndAt old.sight.seat old.op.comm place
+      → vain_tries (AtWord place (flag_value (value_at now.parity old.op.comm))) events ≡ 0
 
 -- the call gave up: the barrier that is handed back stands where the record stands, and the last looks, as many as
 -- were allowed, were vain at the flag where it stands

@@ -24,11 +24,15 @@ abbrev pub waits_at : Turn → Option Spot
 waits_at (turn.Waiting spot) = Some spot
 waits_at answer = None
 
--- what each stage does: it writes one flag, looks at one, or does nothing
+-- what each stage does: it writes one flag, looks at one, or does nothing. Eight parameters: of the stage its place (the
+-- seat, the communicator), itself and the value that this barrier writes; of the rank its sight and its core, before the
+-- turn and after it.
 abbrev pub Does : Seat → ℕ → BarStage → (value : ℕ) → Sight → Private → Sight → Private → Type 0
 Does seat comm Flip value s c t d = StoresWord s c (gather_word seat comm seat.rank) value t d
-Does seat comm (Gather seen) value s c t d = (found : ℕ) × LooksAt s c (gather_word seat comm (member_at seat.setup comm seat.rank (seen + 1))) found t d
-Does seat comm (Release released) value s c t d = StoresWord s c (release_word seat comm (member_at seat.setup comm seat.rank (released + 1))) value t d
+Does seat comm (Gather seen) value s c t d =
+    (found : ℕ) × LooksAt s c (gather_word seat comm (member_at seat.setup comm seat.rank (seen + 1))) found t d
+Does seat comm (Release released) value s c t d =
+    StoresWord s c (release_word seat comm (member_at seat.setup comm seat.rank (released + 1))) value t d
 Does seat comm Await value s c t d = (found : ℕ) × LooksAt s c (release_word seat comm seat.rank) found t d
 Does seat comm Finished value s c t d = (t ≡ s) × (d ≡ c)
 
@@ -46,16 +50,19 @@ pub record KeepsAllButBarriers (rec new : Record) : Type 0 where
 
 -- what each answer means for the barrier and the record
 abbrev pub BarMeans : Member → Member → Turn → Type 0
-BarMeans old now turn.Moved = (bar_left old.sight.seat old.op ≡ bar_left old.sight.seat now.op + 1) × ((record_in now.sight).calls ≡ (record_in old.sight).calls)
+BarMeans old now turn.Moved =
+    (bar_left old.sight.seat old.op ≡ bar_left old.sight.seat now.op + 1) × ((record_in now.sight).calls ≡ (record_in old.sight).calls)
     × (is_finished old.op.stage ≡ false) × (is_finished now.op.stage ≡ false)
 BarMeans old now (turn.Waiting spot) = (now.op ≡ old.op) × (record_in now.sight ≡ record_in old.sight)
-BarMeans old now turn.Done = (now.op.stage ≡ Finished) × ((record_in now.sight).calls ≡ (record_in old.sight).calls ++ bar_call old.op) × (is_gather old.op.stage ≡ false)
+BarMeans old now turn.Done = (now.op.stage ≡ Finished) × ((record_in now.sight).calls ≡ (record_in old.sight).calls ++ bar_call old.op)
+    × (is_gather old.op.stage ≡ false)
 
 -- one turn of a barrier
 pub record BarTurned (old now : Member) (answer : Turn) : Type 0 where
   pub events : List Event
   pub did : Did old.sight events now.sight
-  pub does : Does old.sight.seat old.op.comm old.op.stage (flag_value (value_at now.parity old.op.comm)) old.sight old.core now.sight now.core
+  pub does : Does old.sight.seat old.op.comm old.op.stage (flag_value (value_at now.parity old.op.comm)) old.sight old.core
+      now.sight now.core
   -- it waits exactly where its one look was vain
   pub tried : Tried (aim_at old.sight.seat old.op.comm old.op.stage (flag_value (value_at now.parity old.op.comm))) events (waits_at answer)
   pub same : now.op.comm ≡ old.op.comm

@@ -28,7 +28,8 @@ pub fn barrier<V: Evict, P: Port>(
 ) -> Result<(), BarStop>
     requires some { 1 ≤ polls }
     requires stands { BarStands (P.sight port.old) core.old op parity.old }
-    ensures ends { Ends (meeting (P.sight port.old) core.old op parity.old) polls (with_parity (P.sight port.new) core.new parity.new) result }
+    ensures ends { Ends (meeting (P.sight port.old) core.old op parity.old) polls
+        (with_parity (P.sight port.new) core.new parity.new) result }
 {
     let mut op = op;
     let mut vain: u32 = 0;

@@ -32,17 +32,23 @@ pub fn begins_law()
 
 /// After a barrier that answered Ok the rank is in no call again, at its seat. What it keeps besides is in `Finishes`.
 pub fn ends_law()
-    ensures between { (s t : Sight) (c d : Private) (op : BarAt) (before values : List Bool) → Finishes (meeting s c op before) (with_parity t d values) → IsBetweenBarriers t d values }
-    ensures seat { (s t : Sight) (c d : Private) (op : BarAt) (before values : List Bool) → Finishes (meeting s c op before) (with_parity t d values) → t.seat ≡ s.seat }
+    ensures between { (s t : Sight) (c d : Private) (op : BarAt) (before values : List Bool)
+        → Finishes (meeting s c op before) (with_parity t d values) → IsBetweenBarriers t d values }
+    ensures seat { (s t : Sight) (c d : Private) (op : BarAt) (before values : List Bool)
+        → Finishes (meeting s c op before) (with_parity t d values) → t.seat ≡ s.seat }
 {}
 
 /// A call that stalled, and one that went on with the barrier handed back and answered Ok, come to one barrier.
 pub fn goes_on_law()
-    ensures calls { (s m t : Sight) (c b d : Private) (op : BarAt) (polls : ℕ) (before values later : List Bool) (stop : BarStop) (first : Stalls (meeting s c op before) polls (with_parity m b values) stop)
+    ensures calls { (s m t : Sight) (c b d : Private) (op : BarAt) (polls : ℕ) (before values later : List Bool) (stop : BarStop)
+        (first : Stalls (meeting s c op before) polls (with_parity m b values) stop)
         → Finishes (meeting m b first.now values) (with_parity t d later) → (record_in t).calls ≡ (record_in s).calls ++ bar_call op }
-    ensures flips { (s m t : Sight) (c b d : Private) (op : BarAt) (polls : ℕ) (before values later : List Bool) (stop : BarStop) (first : Stalls (meeting s c op before) polls (with_parity m b values) stop)
-        → Finishes (meeting m b first.now values) (with_parity t d later) → (record_in t).flips ≡ flips_by op.comm op.stage (record_in s).flips }
-    ensures rest { (s m t : Sight) (c b d : Private) (op : BarAt) (polls : ℕ) (before values later : List Bool) (stop : BarStop) (first : Stalls (meeting s c op before) polls (with_parity m b values) stop)
+    ensures flips { (s m t : Sight) (c b d : Private) (op : BarAt) (polls : ℕ) (before values later : List Bool) (stop : BarStop)
+        (first : Stalls (meeting s c op before) polls (with_parity m b values) stop)
+        → Finishes (meeting m b first.now values) (with_parity t d later)
+        → (record_in t).flips ≡ flips_by op.comm op.stage (record_in s).flips }
+    ensures rest { (s m t : Sight) (c b d : Private) (op : BarAt) (polls : ℕ) (before values later : List Bool) (stop : BarStop)
+        (first : Stalls (meeting s c op before) polls (with_parity m b values) stop)
         → Finishes (meeting m b first.now values) (with_parity t d later) → KeepsAllButBarriers (record_in s) (record_in t) }
 {}
 
@@ -56,12 +62,14 @@ pub fn other_port_law()
 
 /// Before its first event a rank is in no call, and its parity has no flag set.
 pub fn start_law()
-    ensures between { (s : Sight) (c : Private) (values : List Bool) → s.events ≡ [] → c.out ≡ None → ((comm : ℕ) → value_at values comm ≡ false)
+    ensures between { (s : Sight) (c : Private) (values : List Bool) → s.events ≡ [] → c.out ≡ None
+        → ((comm : ℕ) → value_at values comm ≡ false)
         → IsBetweenBarriers s c values }
 {}
 
 /// After the turn that ends a barrier the rank is in no call.
 pub fn done_law()
-    ensures between { (s t : Sight) (c d : Private) (op now : BarAt) (values later : List Bool) → BarTurned (meeting s c op values) (meeting t d now later) Done
+    ensures between { (s t : Sight) (c d : Private) (op now : BarAt) (values later : List Bool)
+        → BarTurned (meeting s c op values) (meeting t d now later) Done
         → BarStands t d now later → IsBetweenBarriers t d later }
 {}

@@ -64,7 +64,8 @@ impl BarOp {
         requires stage { self.old.stage ≡ Flip }
         requires stands { BarStands (P.sight port.old) core.old self.old parity.old }
         ensures stands { BarStands (P.sight port.new) core.new self.new parity.new }
-        ensures turned { BarTurned (meeting (P.sight port.old) core.old self.old parity.old) (meeting (P.sight port.new) core.new self.new parity.new) result }
+        ensures turned { BarTurned (meeting (P.sight port.old) core.old self.old parity.old)
+            (meeting (P.sight port.new) core.new self.new parity.new) result }
         ensures goes_on { waits_at result ≡ None }
     {
         let own = port.rank();
@@ -93,7 +94,8 @@ impl BarOp {
         requires stage { self.old.stage ≡ Gather seen }
         requires stands { BarStands (P.sight port.old) core.old self.old parity.now }
         ensures stands { BarStands (P.sight port.new) core.new self.new parity.now }
-        ensures turned { BarTurned (meeting (P.sight port.old) core.old self.old parity.now) (meeting (P.sight port.new) core.new self.new parity.now) result }
+        ensures turned { BarTurned (meeting (P.sight port.old) core.old self.old parity.now)
+            (meeting (P.sight port.new) core.new self.new parity.now) result }
         ensures steps { MadeSteps P.stepped (P.sight port.old) (P.sight port.new) }
     {
         let own = port.rank();
@@ -123,7 +125,8 @@ impl BarOp {
         requires stage { self.old.stage ≡ Release released }
         requires stands { BarStands (P.sight port.old) core.old self.old parity.now }
         ensures stands { BarStands (P.sight port.new) core.new self.new parity.now }
-        ensures turned { BarTurned (meeting (P.sight port.old) core.old self.old parity.now) (meeting (P.sight port.new) core.new self.new parity.now) result }
+        ensures turned { BarTurned (meeting (P.sight port.old) core.old self.old parity.now)
+            (meeting (P.sight port.new) core.new self.new parity.now) result }
         ensures goes_on { waits_at result ≡ None }
     {
         let own = port.rank();
@@ -150,7 +153,8 @@ impl BarOp {
         requires stage { self.old.stage ≡ Await }
         requires stands { BarStands (P.sight port.old) core.old self.old parity.now }
         ensures stands { BarStands (P.sight port.new) core.new self.new parity.now }
-        ensures turned { BarTurned (meeting (P.sight port.old) core.old self.old parity.now) (meeting (P.sight port.new) core.new self.new parity.now) result }
+        ensures turned { BarTurned (meeting (P.sight port.old) core.old self.old parity.now)
+            (meeting (P.sight port.new) core.new self.new parity.now) result }
         ensures steps { MadeSteps P.stepped (P.sight port.old) (P.sight port.new) }
     {
         let own = port.rank();
@@ -176,7 +180,8 @@ impl BarOp {
     ) -> Turn
         requires stands { BarStands (P.sight port.old) core.old self.old parity.old }
         ensures stands { BarStands (P.sight port.new) core.new self.new parity.new }
-        ensures turned { BarTurned (meeting (P.sight port.old) core.old self.old parity.old) (meeting (P.sight port.new) core.new self.new parity.new) result }
+        ensures turned { BarTurned (meeting (P.sight port.old) core.old self.old parity.old)
+            (meeting (P.sight port.new) core.new self.new parity.new) result }
         ensures steps { (spot : Spot) → waits_at result ≡ Some spot → MadeSteps P.stepped (P.sight port.old) (P.sight port.new) }
     {
         match self.stage {

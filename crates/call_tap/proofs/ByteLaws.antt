@@ -10,24 +10,24 @@ use Rattle.scc_proto.specs.Messages.{Notes, Progress, begun, bytes_from, chunk_b
 use Rattle.scc_proto.specs.Moves.{Move, DraftHeader, DraftChunk, RaiseSignal, LookSignal, ReadHeader, ReadChunk, LowerSignal, FlipGather, LookGather, WriteRelease, LookRelease, StoreHeap, NoMove, Misplaced, after, calls_after, calls_let_go, calls_raised, calls_received, calls_released, calls_sent, draft_chunk, draft_header, finished_if, flip_gather, is_posted, look_gather, look_ready, look_release, lower_ready, lower_sent, raise_ready, raise_sent, read_chunk, stage_after, write_release}
 use Rattle.scc_proto.specs.Records.{Act, Moving, NotingSignal, ChangingSignal, Holding, Freeing, act_of, after_act, chunk_of, is_permitted, record_after, record_from, record_of}
 use Rattle.scc_proto.specs.Stages.{Filling, Raised, Answered, Stage, Idle, Drafting, Sending, Between, Taking, Barrier, Record, blank}
-use Rattle.call_tap.specs.Bytes.{AreBytes, HasBytes}
+use Rattle.call_tap.specs.Bytes.{AreBelow256, HasBytes}
 
-none_bytes : AreBytes []
+none_bytes : AreBelow256 []
 none_bytes zero = omega arith
 none_bytes (suc i) = omega arith
 
-bytes_append : (xs ys : List ℕ) → AreBytes xs → AreBytes ys → AreBytes (xs ++ ys)
+bytes_append : (xs ys : List ℕ) → AreBelow256 xs → AreBelow256 ys → AreBelow256 (xs ++ ys)
 bytes_append [] ys are more i = more i
 bytes_append (x ∷ xs) ys are more zero = are zero
 bytes_append (x ∷ xs) ys are more (suc i) = bytes_append xs ys (λ j. are (suc j)) more i
 
-noted_bytes : (notes : Notes) (start n : ℕ) → AreBytes (bytes_from notes start n)
+noted_bytes : (notes : Notes) (start n : ℕ) → AreBelow256 (bytes_from notes start n)
 unfolding bytes_from
 noted_bytes notes start zero i = none_bytes i
 noted_bytes notes start (suc n) zero = omega arith
 noted_bytes notes start (suc n) (suc i) = noted_bytes notes (suc start) n i
 
-chunk_through : (size : ℕ) (message : Progress) (chunk : Notes) → AreBytes message.bytes → AreBytes (with_chunk size message chunk).bytes
+chunk_through : (size : ℕ) (message : Progress) (chunk : Notes) → AreBelow256 message.bytes → AreBelow256 (with_chunk size message chunk).bytes
 chunk_through size message chunk are = bytes_append message.bytes (bytes_from chunk 0 (chunk_bytes size message)) are (noted_bytes chunk 0 (chunk_bytes size message))
 
 -- ---- what a rank is in the midst of
@@ -36,9 +36,9 @@ chunk_through size message chunk are = bytes_append message.bytes (bytes_from ch
 abbrev OpenBytes : Stage → Type 0
 OpenBytes Idle = Unit {0}
 OpenBytes (Drafting header chunk) = Unit {0}
-OpenBytes (Sending to part message chunk) = AreBytes message.bytes
-OpenBytes (Between from message) = AreBytes message.bytes
-OpenBytes (Taking from message chunk) = AreBytes message.bytes
+OpenBytes (Sending to part message chunk) = AreBelow256 message.bytes
+OpenBytes (Between from message) = AreBelow256 message.bytes
+OpenBytes (Taking from message chunk) = AreBelow256 message.bytes
 OpenBytes (Barrier comm seen released) = Unit {0}
 
 if_open : (b : Bool) (one other : Stage) → OpenBytes one → OpenBytes other → OpenBytes (if b then one else other)

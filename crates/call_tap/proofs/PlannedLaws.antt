@@ -6,7 +6,7 @@ use Rattle.std.proofs.lemmas.List.Elements.{All-head, All-tail}
 use Rattle.scc_base.specs.Calls.{DataCall, Send, Recv, Post, Bar, HasItsBytes, bytes_asked, call_of}
 use Rattle.scc_base.specs.declared.calls.Call.{Call}
 use Rattle.scc_proto.proofs.Tests.{both_first, both_second}
-use Rattle.call_tap.specs.Kept.{HasRoom}
+use Rattle.call_tap.specs.Kept.{HasTapRoom}
 use Rattle.call_tap.specs.Planned.{has_room_for, bytes_planned}
 use Rattle.record_machine.specs.Following.{moved_by}
 
@@ -32,7 +32,7 @@ length_calls : (calls : List DataCall) → length (map call_of calls) ≡ length
 length_calls [] = refl
 length_calls (call ∷ calls) = let a = length_calls calls in omega (arith, a)
 
-pub planned_room : (planned rest : List Call) (calls : List DataCall) → has_room_for planned ≡ true → planned ≡ map call_of calls ++ rest → All HasItsBytes calls → HasRoom calls
+pub planned_room : (planned rest : List Call) (calls : List DataCall) → has_room_for planned ≡ true → planned ≡ map call_of calls ++ rest → All HasItsBytes calls → HasTapRoom calls
 planned_room planned rest calls room is long =
     let a = ap length is ∙ length-append (map call_of calls) rest in
     let b = length_calls calls in

@@ -14,29 +14,29 @@ use Rattle.scc_proto.proofs.PortLaws.{record_of-nil, record_of-push}
 use Rattle.record_machine.specs.Following.{Adds, FollowsRecord, moved_by}
 use Rattle.call_tap.specs.declared.kept.Kept.{Kept}
 use Rattle.call_tap.specs.declared.taps.Tap.{Tap}
-use Rattle.call_tap.specs.Kept.{AreKept, HasRoom, IsKept}
-use Rattle.call_tap.specs.Taps.{HasRead, Reads}
+use Rattle.call_tap.specs.Kept.{AreKept, HasTapRoom, IsKept}
+use Rattle.call_tap.specs.Taps.{HasRead, TapReads}
 
 -- a tap of a rank that has made no access
 pub fresh_read : (tap : Tap) (s : SetupView) (rank : ℕ) → tap.machine.setup ≡ s → tap.machine.rank ≡ rank → FollowsRecord tap.machine blank → IsKept tap.kept [] → HasRead tap s rank []
 fresh_read tap s rank setup_is rank_is follows kept = record {
   setup_is = setup_is;
   rank_is = rank_is;
-  reads = ∣ subst (λ (r : Record). Reads tap r) (sym (record_of-nil s rank)) (record { follows = follows; kept = kept }) ∣₁;
+  reads = ∣ subst (λ (r : Record). TapReads tap r) (sym (record_of-nil s rank)) (record { follows = follows; kept = kept }) ∣₁;
 }
 
 -- one access more
 pub read_on : (old new : Tap) (e : Event) → (new.machine.setup ≡ old.machine.setup) × (new.machine.rank ≡ old.machine.rank)
-    → ((rec : Record) → Reads old rec → Reads new (record_after old.machine.setup old.machine.rank rec e))
+    → ((rec : Record) → TapReads old rec → TapReads new (record_after old.machine.setup old.machine.rank rec e))
     → (s : SetupView) (rank : ℕ) (events : List Event) → HasRead old s rank events → HasRead new s rank (events ++ e ∷ [])
 read_on old new e same goes s rank events read = record {
   setup_is = same.0 ∙ read.setup_is;
   rank_is = same.1 ∙ read.rank_is;
   reads = ∥∥₁_map read.reads (λ r.
       let rec = record_of s rank events in
-      subst (λ (x : Record). Reads new x) (sym (record_of-push s rank events e))
-      (subst (λ (k : ℕ). Reads new (record_after s k rec e)) read.rank_is
-      (subst (λ (x : SetupView). Reads new (record_after x old.machine.rank rec e)) read.setup_is (goes rec r))));
+      subst (λ (x : Record). TapReads new x) (sym (record_of-push s rank events e))
+      (subst (λ (k : ℕ). TapReads new (record_after s k rec e)) read.rank_is
+      (subst (λ (x : SetupView). TapReads new (record_after x old.machine.rank rec e)) read.setup_is (goes rec r))));
 }
 
 -- an access that finishes no call

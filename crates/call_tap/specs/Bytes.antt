@@ -4,9 +4,9 @@ use Rattle.scc_base.specs.Calls.{DataCall}
 use Rattle.record_machine.specs.Following.{moved_by}
 
 -- each of them is below 256
-abbrev pub AreBytes : List ℕ → Type 0
-AreBytes bytes = (i : ℕ) → slice_index bytes i < 256
+abbrev pub AreBelow256 : List ℕ → Type 0
+AreBelow256 bytes = (i : ℕ) → slice_index bytes i < 256
 
 -- each of the bytes that a call moves is below 256
 abbrev pub HasBytes : DataCall → Type 0
-HasBytes call = AreBytes (moved_by call)
+HasBytes call = AreBelow256 (moved_by call)

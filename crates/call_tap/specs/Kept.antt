@@ -5,7 +5,7 @@ use Rattle.call_tap.specs.declared.kept.Kept.{Kept}
 use Rattle.record_machine.specs.Following.{moved_by}
 
 -- there is room for these calls and for their bytes: a tap has room for as many as a log may have of a rank
-pub record HasRoom (calls : List DataCall) : Type 0 where
+pub record HasTapRoom (calls : List DataCall) : Type 0 where
   pub calls_within : length calls ≤ 10000
   pub bytes_within : length (flat_map moved_by calls) ≤ 262144
 
@@ -16,4 +16,4 @@ pub record AreKept (k : Kept) (calls : List DataCall) : Type 0 where
 
 -- these calls are kept, where there is room for them
 abbrev pub IsKept : Kept → List DataCall → Type 0
-IsKept k calls = HasRoom calls → AreKept k calls
+IsKept k calls = HasTapRoom calls → AreKept k calls

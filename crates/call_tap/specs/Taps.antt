@@ -9,7 +9,7 @@ use Rattle.call_tap.specs.declared.taps.Tap.{Tap}
 use Rattle.call_tap.specs.Kept.{IsKept}
 
 -- a tap has come to this record
-pub record Reads (tap : Tap) (rec : Record) : Type 0 where
+pub record TapReads (tap : Tap) (rec : Record) : Type 0 where
   pub follows : FollowsRecord tap.machine rec
   pub kept : IsKept tap.kept rec.calls
 
@@ -17,4 +17,4 @@ pub record Reads (tap : Tap) (rec : Record) : Type 0 where
 pub record HasRead (tap : Tap) (s : SetupView) (rank : ℕ) (events : List Event) : Type 0 where
   pub setup_is : tap.machine.setup ≡ s
   pub rank_is : tap.machine.rank ≡ rank
-  pub reads : ∥ Reads tap (record_of s rank events) ∥₁
+  pub reads : ∥ TapReads tap (record_of s rank events) ∥₁

@@ -14,7 +14,7 @@ use Rattle.script_plain.specs.declared.ends.UeEnd.{UeEnd}
 use Rattle.script_plain.specs.declared.ends.UeEnd.TheVariants as ue_end
 use Rattle.script_plain.specs.Ends.{Ended, ended_at}
 use Rattle.check_program.specs.declared.causes.Cause.TheVariants as cause
-use Rattle.check_program.specs.Waiting.{HasRefused, IsCause, ReachesIn, cause_at, cause_of, is_waiting, least_walked, stepped, stopped_by, walked}
+use Rattle.check_program.specs.Waiting.{HasEndedRefusing, IsCause, ReachesIn, cause_at, cause_of, is_waiting, least_walked, stepped, stopped_by, walked}
 
 module _ (next : ℕ → Option ℕ) where
   -- steps, and then more steps
@@ -240,7 +240,7 @@ module _ (next : ℕ → Option ℕ) (ends : List Ended) (low : (i k : ℕ) → 
   stop_means rank last way none below ue_end.Finished is = (way, is)
   stop_means rank last way none below (ue_end.Waits line call) is =
       absurd (let both : false ≡ true = sym (ap is_some none) ∙ waiting last below ∙ ap is_waiting is in cc)
-  stop_means rank last way none below (ue_end.Mismatch line from sent asked) is = (way, subst HasRefused (sym is) tt)
+  stop_means rank last way none below (ue_end.Mismatch line from sent asked) is = (way, subst HasEndedRefusing (sym is) tt)
 
   pub cause_means : (rank : ℕ) → rank < length ends → IsCause next ends rank (cause_of next ends rank)
   cause_means rank below = by (next (walked next (length ends) rank)) refl (walk_goes next (length ends) rank)

@@ -14,11 +14,11 @@ use Rattle.outcomes.specs.Delivery.{AreSteady, ShowsOr, Sinks}
 use Rattle.outcomes.specs.Outcomes.{Outcome, too_long}
 use Rattle.outcomes.specs.Plans.{contents_outcome, expected, plan_outcome, words_outcome}
 use Rattle.outcomes.specs.Promises.{Promises}
-use Rattle.check_program.specs.Program.{command_plan, rccecheck, run_plan}
+use Rattle.check_program.specs.Program.{command_plan, rccecheck, check_run_plan}
 use Rattle.check_program.specs.Statuses.{HasRunStatus, command_status, contents_status, parsed_status, run_status}
 
 module _ (program : List ℕ) (files : List NamedFile) where
-  of_parsed : (file : List ℕ) (parsed : Result Script ReadFault) → (plan_outcome program (parsed_plan run_plan file parsed) files).status ≡ parsed_status parsed
+  of_parsed : (file : List ℕ) (parsed : Result Script ReadFault) → (plan_outcome program (parsed_plan check_run_plan file parsed) files).status ≡ parsed_status parsed
   of_parsed file (Err fault) = refl
   of_parsed file (Ok script) = refl
 
@@ -27,10 +27,10 @@ module _ (program : List ℕ) (files : List NamedFile) where
   of_length false file o s is = is
 
   of_contents : (command : Command) (contents : Option (List ℕ))
-      → (contents_outcome program command.script most_script_bytes (λ bytes. plan_outcome program (bytes_plan run_plan command.script command.nue bytes) files) contents).status ≡ contents_status command.nue contents
+      → (contents_outcome program command.script most_script_bytes (λ bytes. plan_outcome program (bytes_plan check_run_plan command.script command.nue bytes) files) contents).status ≡ contents_status command.nue contents
   of_contents command None = refl
   of_contents command (Some bytes) =
-      of_length (nat_lt most_script_bytes (length bytes)) command.script (plan_outcome program (bytes_plan run_plan command.script command.nue bytes) files) (parsed_status (parse_script bytes command.nue))
+      of_length (nat_lt most_script_bytes (length bytes)) command.script (plan_outcome program (bytes_plan check_run_plan command.script command.nue bytes) files) (parsed_status (parse_script bytes command.nue))
       (of_parsed command.script (parse_script bytes command.nue))
 
   of_command : (command : Option Command) → (words_outcome program (plan_of command_plan command) files).status ≡ command_status command files

@@ -14,16 +14,16 @@ use Rattle.check_program.specs.Texts.{check_text}
 use Rattle.check_program.specs.Waiting.{all_found}
 
 -- what a script comes to: whether each rank finishes, and the lines
-abbrev pub ran_of : (ℕ → ℕ → ℕ) → List Match → List Ended → Ran
-ran_of keys matches ends = record { finished = all_finished ends; out = check_text matches (all_found keys ends); err = [] }
+abbrev pub check_ran_of : (ℕ → ℕ → ℕ) → List Match → List Ended → Ran
+check_ran_of keys matches ends = record { finished = all_finished ends; out = check_text matches (all_found keys ends); err = [] }
 
 -- a script is run by its plain meaning
-abbrev pub run_plan : Script → Plan
-run_plan script = Runs (ran_of (keys_of script) (plain_matches script) (plain_ends script))
+abbrev pub check_run_plan : Script → Plan
+check_run_plan script = Runs (check_ran_of (keys_of script) (plain_matches script) (plain_ends script))
 
 -- the script's file
 abbrev pub command_plan : Command → Plan
-command_plan command = script_plan run_plan command.script command.nue
+command_plan command = script_plan check_run_plan command.script command.nue
 
 -- the program, by its name and what it does on its words: `-nue N SCRIPT`, and no others
 abbrev pub rccecheck : Program

@@ -35,4 +35,5 @@ run_status words files = command_status (script_command words) files
 -- Where the files tell their contents and no call failed, the status is that of a run of the script. The one other answer is
 -- want of memory.
 pub record HasRunStatus (words : List (List ℕ)) (files files_after : FilesView) (before after : Sinks) (s : Status) : Type 0 where
-  pub steady : IfSome files.told (λ told. IsSteady files.faults files_after.faults → AreSteady before after → (s ≡ run_status words told) ⊎ (s ≡ status.Memory))
+  pub steady : IfSome files.told (λ told. IsSteady files.faults files_after.faults → AreSteady before after
+      → (s ≡ run_status words told) ⊎ (s ≡ status.Memory))

@@ -12,7 +12,8 @@ use Rattle.check_program.specs.declared.trouble.Trouble.TheVariants as trouble
 -- a message that came: the sender and its line, the receiver and its line, and the head
 abbrev pub match_line : Match → List ℕ
 match_line one =
-    joined (decimal one.from ∷ codes ":" ∷ decimal one.send_line ∷ codes " -> " ∷ decimal one.to ∷ codes ":" ∷ decimal one.recv_line ∷ codes " "
+    joined (decimal one.from ∷ codes ":" ∷ decimal one.send_line ∷ codes " -> " ∷ decimal one.to ∷ codes ":"
+    ∷ decimal one.recv_line ∷ codes " "
     ∷ kind_text (kind_at one.head.kind) ∷ codes " " ∷ decimal one.head.comm ∷ codes " " ∷ decimal one.head.len ∷ codes "\n" ∷ [])
 
 -- the name of a cause, and the rank that it is about
@@ -31,7 +32,8 @@ cause_rank (cause.Cycle rank) = rank
 abbrev pub trouble_line : ℕ → Trouble → List ℕ
 trouble_line rank trouble.Finished = []
 trouble_line rank (trouble.Waits on why) =
-    joined (codes "ue " ∷ decimal rank ∷ codes " waits for " ∷ decimal on ∷ codes ", cause " ∷ cause_name why ∷ decimal (cause_rank why) ∷ codes "\n" ∷ [])
+    joined (codes "ue " ∷ decimal rank ∷ codes " waits for " ∷ decimal on ∷ codes ", cause " ∷ cause_name why ∷ decimal (cause_rank why)
+    ∷ codes "\n" ∷ [])
 trouble_line rank (trouble.Mismatch from) =
     joined (codes "ue " ∷ decimal rank ∷ codes " mismatch with " ∷ decimal from ∷ codes "\n" ∷ [])
 

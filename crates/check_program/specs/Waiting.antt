@@ -80,18 +80,19 @@ abbrev pub IsInRing : (ℕ → Option ℕ) → ℕ → Type 0
 IsInRing next rank = (n : ℕ) × (0 < n) × (stepped next n rank ≡ Some rank)
 
 -- a rank that has refused a message
-abbrev pub HasRefused : UeEnd → Type 0
-HasRefused ue_end.Finished = ⊥
-HasRefused (ue_end.Waits line call) = ⊥
-HasRefused (ue_end.Mismatch line from sent asked) = Unit {0}
+abbrev pub HasEndedRefusing : UeEnd → Type 0
+HasEndedRefusing ue_end.Finished = ⊥
+HasEndedRefusing (ue_end.Waits line call) = ⊥
+HasEndedRefusing (ue_end.Mismatch line from sent asked) = Unit {0}
 
 -- What a cause says of a rank: at most as many steps as there are ranks lead from it to a rank that has finished, to one that
 -- has refused a message, or to one in a ring, from which no step leads to a lesser rank. (No step leads on from the first two,
 -- and each rank has at most one step; so there is no other cause.)
 abbrev pub IsCause : (ℕ → Option ℕ) → List Ended → ℕ → Cause → Type 0
 IsCause next ends rank (cause.Finished k) = ReachesIn next (length ends) rank k × ((ended_at ends k).end ≡ ue_end.Finished)
-IsCause next ends rank (cause.Mismatch k) = ReachesIn next (length ends) rank k × HasRefused (ended_at ends k).end
-IsCause next ends rank (cause.Cycle k) = ReachesIn next (length ends) rank k × IsInRing next k × ((other : ℕ) → Reaches next k other → k ≤ other)
+IsCause next ends rank (cause.Mismatch k) = ReachesIn next (length ends) rank k × HasEndedRefusing (ended_at ends k).end
+IsCause next ends rank (cause.Cycle k) =
+    ReachesIn next (length ends) rank k × IsInRing next k × ((other : ℕ) → Reaches next k other → k ≤ other)
 
 -- why a walk ends at a rank that does not wait
 abbrev pub stopped_by : ℕ → UeEnd → Cause

@@ -7,7 +7,7 @@ ghost use Rattle.outcomes.specs.Complaints.{outcome_of};
 ghost use Rattle.outcomes.specs.Delivery.{sinks};
 ghost use Rattle.outcomes.specs.Promises.{Promises};
 ghost use Rattle.rcce_words.specs.ScriptWords.{job_command, plan_of, script_command};
-ghost use Rattle.check_program.specs.Program.{command_plan, rccecheck, run_plan};
+ghost use Rattle.check_program.specs.Program.{command_plan, rccecheck, check_run_plan};
 ghost use Rattle.check_program.specs.Reports.{report_ran};
 ghost use Rattle.check_program.specs.Statuses.{HasRunStatus};
 
@@ -75,7 +75,7 @@ fn run_file<'a, F: Files>(
 }
 
 fn run_script<'a>(alloc: Global, script: Scripts) -> Result<Report, Complaint<'a>>
-    ensures { (files : FilesView) → Comes (codes "rccecheck") (run_plan script) files files
+    ensures { (files : FilesView) → Comes (codes "rccecheck") (check_run_plan script) files files
         (outcome_of (codes "rccecheck") report_ran result) }
 {
     match report_of(alloc, &script) {

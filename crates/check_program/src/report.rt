@@ -4,7 +4,7 @@ ghost use Rattle.std.specs.Prelude.{◌≡◌, map, IfOk};
 ghost use Rattle.rcce_io.specs.Sending.{Sends, joined};
 ghost use Rattle.script_plain.specs.Matches.{plain_matches};
 ghost use Rattle.script_plain.specs.Meaning.{keys_of, plain_ends};
-ghost use Rattle.check_program.specs.Program.{ran_of};
+ghost use Rattle.check_program.specs.Program.{check_ran_of};
 ghost use Rattle.check_program.specs.Reports.{report_ran};
 ghost use Rattle.check_program.specs.Texts.{match_line};
 
@@ -57,7 +57,8 @@ fn write_matches<S: Sink>(sink: &mut S, matches: &Matches) -> Result<(), WriteFa
 
 /// What is found of a script: its messages, and its end.
 pub fn report_of(alloc: Global, script: &Scripts) -> Result<Report, AllocError>
-    ensures { IfOk result (λ report. report_ran report ≡ ran_of (keys_of script.now) (plain_matches script.now) (plain_ends script.now)) }
+    ensures { IfOk result (λ report. report_ran report
+        ≡ check_ran_of (keys_of script.now) (plain_matches script.now) (plain_ends script.now)) }
 {
     let History { matches, end } = plain_history(alloc, script)?;
     let found = all_found(alloc, &end, script)?;

@@ -63,7 +63,9 @@ fn trouble_of(end: &End, scripts: &Scripts, rank: Rank) -> Trouble
 fn waiting(end: &End, scripts: &Scripts, rank: Rank) -> Trouble
     requires ended { end.now ≡ plain_ends scripts.now }
     requires below { rank < scripts.now.nue }
-    ensures { result ≡ trouble_by_waits (cause_of (waits_for (keys_of scripts.now) end.now) end.now rank) (waits_for (keys_of scripts.now) end.now rank) }
+    ensures { result
+        ≡ trouble_by_waits (cause_of (waits_for (keys_of scripts.now) end.now) end.now rank)
+        (waits_for (keys_of scripts.now) end.now rank) }
 {
     let Some(on) = waits_for(end, scripts, rank) else {
         return Trouble::Finished;

@@ -17,7 +17,9 @@ use script_reader::Scripts;
 pub fn cause(end: &End, scripts: &Scripts, rank: Rank) -> Option<Cause>
     requires ended { end.now ≡ plain_ends scripts.now }
     requires below { rank < scripts.now.nue }
-    ensures gives { result ≡ option_map (λ on. cause_of (waits_for (keys_of scripts.now) end.now) end.now rank) (waits_for (keys_of scripts.now) end.now rank) }
+    ensures gives { result
+        ≡ option_map (λ on. cause_of (waits_for (keys_of scripts.now) end.now) end.now rank)
+        (waits_for (keys_of scripts.now) end.now rank) }
     // None exactly where the rank does not wait.
     ensures waits { is_some result ≡ is_waiting (ended_at end.now rank).end }
     // At most as many steps as there are ranks lead to it: to a rank that has finished or refused a message, or to the least

@@ -12,9 +12,9 @@ use Rattle.scc_mesh.specs.Scenes.{ChipView, about_in, events_in, records_in}
 use Rattle.scc_mesh.specs.Turns.{IsTurned}
 use Rattle.chip_run.specs.declared.rests.Rest.{Rest}
 use Rattle.chip_run.specs.declared.rests.Rest.TheVariants as rest
-use Rattle.chip_run.specs.Crews.{AllFinished, AllRest, CrewStands, GoesOn, IsCrew, OneTurn, OneUnfinished, SweepStands, SweptTo, WorkerRests, all_left, end_by}
+use Rattle.chip_run.specs.Crews.{AllFinished, AllRest, CrewStands, CrewGoesOn, IsCrew, OneTurn, OneUnfinished, SweepStands, SweptTo, WorkerRests, all_left, end_by}
 use Rattle.chip_run.specs.Conducts.{Conduct, Later, NoTurn, Moving, Staying, WorkerView}
-use Rattle.chip_run.specs.Turns.{CameTo, HasStayed, RestsAt, both_rest}
+use Rattle.chip_run.specs.Turns.{TurnCameTo, HasStayed, RestsAt, both_rest}
 use Rattle.chip_run.proofs.LaterLaws.{later_both}
 use Rattle.chip_run.proofs.ServedLaws.{one_entry, sum_set}
 
@@ -35,10 +35,10 @@ rests_kept false s old now k w like (inr waits) = inr (record {
 })
 
 module _ {A : Type 0} (c : Conduct A) where
-  pub goes_on_self : (chip : ChipView) (crew : List A) → GoesOn c chip crew chip crew
+  pub goes_on_self : (chip : ChipView) (crew : List A) → CrewGoesOn c chip crew chip crew
   goes_on_self chip crew = record { about = refl; table = refl; count = refl; each = λ k d low. NoTurn; left = omega arith }
 
-  pub goes_on_both : (chip mid now : ChipView) (crew some later : List A) → GoesOn c chip crew mid some → GoesOn c mid some now later → GoesOn c chip crew now later
+  pub goes_on_both : (chip mid now : ChipView) (crew some later : List A) → CrewGoesOn c chip crew mid some → CrewGoesOn c mid some now later → CrewGoesOn c chip crew now later
   goes_on_both chip mid now crew some later one two =
       let less : all_left c (about_in chip) later ≤ all_left c (about_in chip) some = subst (λ (s : SetupView). all_left c s later ≤ all_left c s some) one.about two.left in
       record {
@@ -98,17 +98,17 @@ module _ {A : Type 0} (c : Conduct A) where
     stayed_same : (b : Bool) → HasStayed c b chip at now turn.old turn.new → left_at at turn.new ≡ left_at at turn.old
     stayed_same b stayed = ap (λ (w : WorkerView). w.left) stayed.seen
 
-    pub less_left : (came : Rest) → CameTo c came chip at now turn.old turn.new → all_left c s later ≤ all_left c s crew
+    pub less_left : (came : Rest) → TurnCameTo c came chip at now turn.old turn.new → all_left c s later ≤ all_left c s crew
     less_left rest.Moved comes = let sum = sums in let less = comes.less in omega (arith, sum, less)
     less_left rest.Finished comes = let sum = sums in let same = stayed_same true comes in omega (arith, sum, same)
     less_left rest.Unfinished comes = let sum = sums in let same = stayed_same false comes in omega (arith, sum, same)
 
-    later_by : (came : Rest) → CameTo c came chip at now turn.old turn.new → Later c turn.old turn.new
+    later_by : (came : Rest) → TurnCameTo c came chip at now turn.old turn.new → Later c turn.old turn.new
     later_by rest.Moved comes = Moving turn.old turn.new NoTurn comes.moves
     later_by rest.Finished comes = Staying turn.old turn.new NoTurn comes.stays
     later_by rest.Unfinished comes = Staying turn.old turn.new NoTurn comes.stays
 
-    pub turn_goes_on : GoesOn c chip crew now later
+    pub turn_goes_on : CrewGoesOn c chip crew now later
     turn_goes_on = record {
       about = is_turned.about;
       table = is_turned.table;
@@ -175,7 +175,7 @@ module _ {A : Type 0} (c : Conduct A) where
     as_all front k d low = (true, front k d low)
 
     -- a turn that moved, behind turns that may have moved
-    moved_after : (start : ChipView) (first : List A) → GoesOn c start first chip crew → left_at at turn.new < left_at at turn.old → all_left c (about_in start) later < all_left c (about_in start) first
+    moved_after : (start : ChipView) (first : List A) → CrewGoesOn c start first chip crew → left_at at turn.new < left_at at turn.old → all_left c (about_in start) later < all_left c (about_in start) first
     moved_after start first goes less =
         let sum = sums in
         let fewer : all_left c s later < all_left c s crew = omega (arith, sum, less) in
@@ -183,8 +183,8 @@ module _ {A : Type 0} (c : Conduct A) where
         let most = goes.left in omega (arith, here, most)
 
     -- one turn more of a row of turns
-    swept_by : (start : ChipView) (first : List A) (before after : Rest) → GoesOn c start first chip crew → SweptTo c before at start first chip crew
-        → CameTo c after chip at now turn.old turn.new → SweptTo c (both_rest before after) (at + 1) start first now later
+    swept_by : (start : ChipView) (first : List A) (before after : Rest) → CrewGoesOn c start first chip crew → SweptTo c before at start first chip crew
+        → TurnCameTo c after chip at now turn.old turn.new → SweptTo c (both_rest before after) (at + 1) start first now later
     swept_by start first rest.Moved after goes swept comes =
         let less : all_left c (about_in start) later ≤ all_left c (about_in start) crew = subst (λ (x : SetupView). all_left c x later ≤ all_left c x crew) goes.about (less_left after comes) in
         omega (arith, swept, less)
@@ -195,7 +195,7 @@ module _ {A : Type 0} (c : Conduct A) where
     swept_by start first rest.Unfinished rest.Finished goes (all, some) comes = (all_rest true comes all, still_unfinished true comes some)
     swept_by start first rest.Unfinished rest.Unfinished goes (all, some) comes = (all_rest false comes all, still_unfinished false comes some)
 
-    pub swept_on : (start : ChipView) (first : List A) (before : Rest) → GoesOn c start first chip crew → SweptTo c before at start first chip crew
+    pub swept_on : (start : ChipView) (first : List A) (before : Rest) → CrewGoesOn c start first chip crew → SweptTo c before at start first chip crew
         → SweptTo c (both_rest before came) (at + 1) start first now later
     swept_on start first before goes swept = swept_by start first before came goes swept turn.turned.comes
 
@@ -230,7 +230,7 @@ module _ {A : Type 0} (c : Conduct A) where
   moved_falls rest.Unfinished n first chip now crew later is same swept = absurd (cc (is))
 
   -- and no round leaves more
-  pub round_falls : (first chip now : ChipView) (crew later : List A) → about_in chip ≡ about_in first → GoesOn c chip crew now later → all_left c (about_in first) later ≤ all_left c (about_in first) crew
+  pub round_falls : (first chip now : ChipView) (crew later : List A) → about_in chip ≡ about_in first → CrewGoesOn c chip crew now later → all_left c (about_in first) later ≤ all_left c (about_in first) crew
   round_falls first chip now crew later same goes = subst (λ (x : SetupView). all_left c x later ≤ all_left c x crew) same goes.left
 
 pub below_all : (a b c : ℕ) → a < b → b ≤ c → a < c

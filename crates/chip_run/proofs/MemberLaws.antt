@@ -10,7 +10,7 @@ use Rattle.chip_run.specs.declared.members.Member.{Member}
 use Rattle.chip_run.specs.Away.{IsRow, TookRow, TookTurns, members_of}
 use Rattle.chip_run.specs.Conducts.{Conduct, Later, NoTurn}
 use Rattle.chip_run.specs.Crews.{IsCrew, OneTurn}
-use Rattle.chip_run.specs.Turns.{CameTo, HoldsNone, NoneElseHolds, TurnMeans, Turned, TurnedAtHome}
+use Rattle.chip_run.specs.Turns.{TurnCameTo, RankHoldsNone, NoneElseHolds, TurnMeans, Turned, TurnedAtHome}
 use Rattle.chip_run.specs.declared.rests.Rest.{Rest}
 use Rattle.chip_run.specs.declared.rests.Rest.TheVariants as rest
 use Rattle.chip_run.proofs.CrewHands.{crew_free, one_turned, ties_here}
@@ -70,13 +70,13 @@ module _ {A : Type 0} (c : Conduct A) where
         };
       }
 
-  came_member : (came : Rest) (chip : ChipView) (r : ℕ) (now : ChipView) (old new : Member A) → CameTo c came chip r now old.worker new.worker → CameTo (members_of c) came chip r now old new
+  came_member : (came : Rest) (chip : ChipView) (r : ℕ) (now : ChipView) (old new : Member A) → TurnCameTo c came chip r now old.worker new.worker → TurnCameTo (members_of c) came chip r now old new
   came_member rest.Moved chip r now old new comes = record { moves = comes.moves; less = comes.less }
   came_member rest.Finished chip r now old new comes = record { stays = comes.stays; seen = comes.seen; alike = comes.alike; rests = comes.rests }
   came_member rest.Unfinished chip r now old new comes = record { stays = comes.stays; seen = comes.seen; alike = comes.alike; rests = comes.rests }
 
   -- between turns no rank of its crew holds a register
-  pub members_free : ((x : A) (s : SetupView) (r : ℕ) (events : List Event) → c.tied x s r events → HoldsNone s r events)
+  pub members_free : ((x : A) (s : SetupView) (r : ℕ) (events : List Event) → c.tied x s r events → RankHoldsNone s r events)
       → (chip : ChipView) (crew : List (Member A)) (d : Member A) (me : ℕ) → IsCrew (members_of c) chip crew → NoneElseHolds (about_in chip) (records_in chip) me
   members_free hands = crew_free (members_of c) (λ m s r events home. hands m.worker s r events home.ties)
 

@@ -11,7 +11,7 @@ use Rattle.chip_run.specs.declared.rests.Rest.TheVariants as rest
 use Rattle.chip_run.specs.declared.ends.RunEnd.{RunEnd}
 use Rattle.chip_run.specs.declared.ends.RunEnd.TheVariants as run_end
 use Rattle.chip_run.specs.Conducts.{Conduct, WorkerView}
-use Rattle.chip_run.specs.Crews.{AllRest, EndsWith, SweptTo, end_by}
+use Rattle.chip_run.specs.Crews.{AllRest, RunEndedAs, SweptTo, end_by}
 use Rattle.chip_run.specs.Turns.{RestsAt}
 use Rattle.chip_run.specs.Waiting.{IsLooking, BarWaits, AtRoot, AtMember, NoneDrafts, Waits}
 use Rattle.chip_run.specs.Wants.{Want}
@@ -26,14 +26,14 @@ all_rest_by c rest.Unfinished end n start first chip crew is (whole, one) = whol
 
 -- and that is how the run ended
 pub ends_with_by : {A : Type 0} (c : Conduct A) (came : Rest) (end : RunEnd) (n : ℕ) (start : ChipView) (first : List A) (chip : ChipView) (crew : List A) → end_by came ≡ Some end
-    → n ≡ length crew → SweptTo c came n start first chip crew → EndsWith c end chip crew
+    → n ≡ length crew → SweptTo c came n start first chip crew → RunEndedAs c end chip crew
 ends_with_by c rest.Moved end n start first chip crew is all swept = absurd (cc (is))
 ends_with_by {A} c rest.Finished end n start first chip crew is all swept =
     let end_is : run_end.Finished ≡ end = cc (is) in
-    subst (λ (x : RunEnd). EndsWith c x chip crew) end_is (subst (λ (m : ℕ). SweptTo c rest.Finished m start first chip crew) all swept)
+    subst (λ (x : RunEnd). RunEndedAs c x chip crew) end_is (subst (λ (m : ℕ). SweptTo c rest.Finished m start first chip crew) all swept)
 ends_with_by {A} c rest.Unfinished end n start first chip crew is all swept =
     let end_is : run_end.Stuck ≡ end = cc (is) in
-    subst (λ (x : RunEnd). EndsWith c x chip crew) end_is (subst (λ (m : ℕ). SweptTo c rest.Unfinished m start first chip crew) all swept)
+    subst (λ (x : RunEnd). RunEndedAs c x chip crew) end_is (subst (λ (m : ℕ). SweptTo c rest.Unfinished m start first chip crew) all swept)
 
 -- ---- a rank that rests with no open call is in the midst of nothing
 module _ (s : SetupView) (rec : Record) (none : open_call s rec ≡ None) where

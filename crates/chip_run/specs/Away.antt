@@ -13,7 +13,8 @@ use Rattle.chip_run.specs.Crews.{sum_from}
 use Rattle.chip_run.specs.Turns.{Stretched, Turned}
 use Rattle.chip_run.specs.declared.members.Member.{Member}
 
--- turns through a port, one after the other, with these answers; the latest stands first
+-- turns through a port, one after the other, with these answers; the latest stands first. Seven parameters: the workers'
+-- conduct, what a step of their port is, the answers, and the worker and its sight before the first turn and after the last.
 abbrev pub TookTurns : {A : Type 0} → Conduct A → (List Event → Event → Type 0) → List Turn → A → Sight → A → Sight → Type 0
 TookTurns c stepped [] old s new t = (new ≡ old) × (t ≡ s)
 TookTurns {A} c stepped (answer ∷ before) old s new t =
@@ -36,8 +37,10 @@ pub record IsRow (most : ℕ) (answers : List Turn) : Type 0 where
   pub ends : EndsRow most answers
   pub first : (n : ℕ) → EndsRow most (drop (suc n) answers) → ⊥
 
--- turns through a port, one after the other
-pub record SomeTurns {A : Type 0} (c : Conduct A) (stepped : List Event → Event → Type 0) (answers : List Turn) (old : A) (s : Sight) (new : A) (t : Sight) : Type 0 where
+-- turns through a port, one after the other. Seven parameters, those of `TookTurns`, with the events and the facts that the
+-- turns leave as fields.
+pub record SomeTurns {A : Type 0} (c : Conduct A) (stepped : List Event → Event → Type 0) (answers : List Turn) (old : A) (s : Sight)
+    (new : A) (t : Sight) : Type 0 where
   pub events : List Event
   pub did : Did s events t
   pub later : Later c old new
@@ -46,7 +49,8 @@ pub record SomeTurns {A : Type 0} (c : Conduct A) (stepped : List Event → Even
   pub took : TookTurns c stepped answers old s new t
 
 -- a row of turns: until the rank is over, or has waited in a thousand turns in a row
-pub record RowOfTurns {A : Type 0} (c : Conduct A) (stepped : List Event → Event → Type 0) (old : A) (s : Sight) (new : A) (t : Sight) : Type 0 where
+pub record RowOfTurns {A : Type 0} (c : Conduct A) (stepped : List Event → Event → Type 0) (old : A) (s : Sight) (new : A)
+    (t : Sight) : Type 0 where
   pub answers : List Turn
   pub is_row : IsRow 1000 answers
   pub turns : SomeTurns c stepped answers old s new t
@@ -72,8 +76,10 @@ abbrev pub row_left : ℕ → ℕ → ℕ → ℕ
 row_left most left vain = most * left + (most - vain)
 
 -- the next stretch of a row of a rank that is away, with the number of its last turns that were vain, before the
--- stretch and behind it
-pub record NextStretch {A : Type 0} (c : Conduct A) (s : SetupView) (old : A) (token : Option Ticket) (vain : ℕ) (new : A) (later : Option Ticket) (now : ℕ) : Type 0 where
+-- stretch and behind it. Eight parameters: the workers' conduct, the setup, and three things that a stretch changes, each
+-- twice: the worker, its ticket and the number.
+pub record NextStretch {A : Type 0} (c : Conduct A) (s : SetupView) (old : A) (token : Option Ticket) (vain : ℕ) (new : A)
+    (later : Option Ticket) (now : ℕ) : Type 0 where
   pub going : vain < 1000
   pub first : Ticket
   pub last : Ticket
@@ -83,8 +89,10 @@ pub record NextStretch {A : Type 0} (c : Conduct A) (s : SetupView) (old : A) (t
   pub stretched : Stretched c (WasSeatStep (sight_away s first).seat) old (sight_away s first) new (sight_away s last) answer
   pub counts : now ≡ vain_by 1000 answer vain
 
--- stretches of a row of a rank that is away, one after the other
-pub data Stretches {A : Type 0} (c : Conduct A) (s : SetupView) (old : A) (token : Option Ticket) (vain : ℕ) : A → Option Ticket → ℕ → Type 0 where
+-- stretches of a row of a rank that is away, one after the other. Eight parameters: those of `NextStretch`, of which the
+-- later worker, ticket and number are of the row's end.
+pub data Stretches {A : Type 0} (c : Conduct A) (s : SetupView) (old : A) (token : Option Ticket) (vain : ℕ) : A → Option Ticket → ℕ
+    → Type 0 where
   NoStretch : Stretches c s old token vain old token vain
   OneStretch : (mid new : A) (some later : Option Ticket) (half now : ℕ) → Stretches c s old token vain mid some half
       → NextStretch c s mid some half new later now → Stretches c s old token vain new later now
@@ -95,7 +103,8 @@ IsAway stands s table r None = ⊥
 IsAway stands s table r (Some t) = (t.table ≡ table) × (t.rank ≡ r) × stands s r t.events
 
 -- a worker stands where its rank's events stand, and the place for the rank's token is empty
-pub record IsAtHome (tied : SetupView → ℕ → List Event → Type 0) (token : Option Ticket) (s : SetupView) (r : ℕ) (events : List Event) : Type 0 where
+pub record IsAtHome (tied : SetupView → ℕ → List Event → Type 0) (token : Option Ticket) (s : SetupView) (r : ℕ)
+    (events : List Event) : Type 0 where
   pub ties : tied s r events
   pub empty : token ≡ None
 

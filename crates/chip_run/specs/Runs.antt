@@ -32,7 +32,8 @@ RowsTo {A} c (suc n) chip crew now later =
     × TookRows c one some two more × TurnsOf c (range_with_len 0 (length more)) two more now later
 
 -- a round: in threads a row of turns of each worker, on one thread a thousand turns for each rank, of the ranks that the
--- generator's next words name
+-- generator's next words name. Seven parameters: the workers' conduct, and the order of the turns, the chip and the crew,
+-- each before and after.
 abbrev pub NextRound : {A : Type 0} → Conduct A
     → Rounds → Rounds → ChipView → List A → ChipView → List A → Type 0
 NextRound c rounds.InThreads new chip crew now later = (new ≡ rounds.InThreads) × TookRows c chip crew now later
@@ -40,7 +41,7 @@ NextRound c (rounds.Picked picks) new chip crew now later =
     (new ≡ rounds.Picked (drawn pcg32 (1000 * length crew) picks))
     × TurnsOf c (named pcg32 (length crew) (1000 * length crew) picks) chip crew now later
 
--- n rounds, with a sweep of all ranks in their order behind each one
+-- n rounds, with a sweep of all ranks in their order behind each one. Eight parameters: those of `NextRound`, and n.
 abbrev pub RoundsTo : {A : Type 0} → Conduct A
     → Rounds → ℕ → Rounds → ChipView → List A → ChipView → List A → Type 0
 RoundsTo c rounds.InThreads n new chip crew now later = (new ≡ rounds.InThreads) × RowsTo c n chip crew now later

@@ -22,8 +22,8 @@ use Rattle.chip_run.specs.Waiting.{Waits}
 use Rattle.chip_run.specs.Wants.{Want}
 
 -- a rank holds no test-and-set register
-abbrev pub HoldsNone : SetupView → ℕ → List Event → Type 0
-HoldsNone s rank events = (core : ℕ) → (record_of s rank events).held core ≡ None
+abbrev pub RankHoldsNone : SetupView → ℕ → List Event → Type 0
+RankHoldsNone s rank events = (core : ℕ) → (record_of s rank events).held core ≡ None
 
 -- no other rank holds a test-and-set register
 abbrev pub NoneElseHolds : SetupView → (ℕ → Record) → ℕ → Type 0
@@ -32,7 +32,8 @@ NoneElseHolds s records me = (k core : ℕ) → k < s.nue → k ≢ me → (reco
 -- one event of a turn is the look that makes the rank wait. On all words that agree with the records of the ranks, the look,
 -- where it is a step of them, shows that the rank waits for what it wants. (The rank's record is the one before the look, and
 -- no other rank holds a register.)
-pub record LookedAt (stepped : List Event → Event → Type 0) (s : SetupView) (rank : ℕ) (own events : List Event) (want : Want) : Type 0 where
+pub record LookedAt (stepped : List Event → Event → Type 0) (s : SetupView) (rank : ℕ) (own events : List Event)
+    (want : Want) : Type 0 where
   pub before : List Event
   pub look : Event
   pub behind : List Event
@@ -47,8 +48,10 @@ pub record HasMoved {A : Type 0} (c : Conduct A) (s : SetupView) (rank : ℕ) (o
   pub less : (c.seen s rank new).left < (c.seen s rank old).left
 
 -- a turn that waited: it stored nothing, left the record alike and what is seen of the worker as it was, and its look shows
--- what it waits for
-pub record HasWaited {A : Type 0} (c : Conduct A) (stepped : List Event → Event → Type 0) (s : SetupView) (rank : ℕ) (own events : List Event) (old new : A) : Type 0 where
+-- what it waits for. Eight parameters: the workers' conduct, what a step of their port is, whose turn it was (the setup, the
+-- rank), the rank's events before the turn and in it, and the worker before and after.
+pub record HasWaited {A : Type 0} (c : Conduct A) (stepped : List Event → Event → Type 0) (s : SetupView) (rank : ℕ)
+    (own events : List Event) (old new : A) : Type 0 where
   pub stays : c.stays old new
   pub seen : c.seen s rank new ≡ c.seen s rank old
   pub rests : list_all is_resting events ≡ true
@@ -60,21 +63,25 @@ pub record IsOver (rec : Record) (w : WorkerView) : Type 0 where
   pub ends : w.want ≡ Want.Nothing
   pub idle : rec.stage ≡ Idle
 
--- a turn of a rank that is over did nothing
+-- a turn of a rank that is over did nothing. Seven parameters: those of `HasWaited` without the port's steps, since there
+-- were none.
 pub record IsDone {A : Type 0} (c : Conduct A) (s : SetupView) (rank : ℕ) (own events : List Event) (old new : A) : Type 0 where
   pub stays : c.stays old new
   pub seen : c.seen s rank new ≡ c.seen s rank old
   pub nothing : events ≡ []
   pub over : IsOver (record_of s rank own) (c.seen s rank old)
 
--- what each answer of a turn means
-abbrev pub TurnMeans : {A : Type 0} → Conduct A → (List Event → Event → Type 0) → SetupView → ℕ → List Event → List Event → A → A → Turn → Type 0
+-- what each answer of a turn means. Nine parameters: those of `HasWaited`, and the answer.
+abbrev pub TurnMeans : {A : Type 0} → Conduct A → (List Event → Event → Type 0) → SetupView → ℕ → List Event → List Event → A → A
+    → Turn → Type 0
 TurnMeans c stepped s rank own events old new turn.Moved = HasMoved c s rank old new
 TurnMeans c stepped s rank own events old new (turn.Waiting spot) = HasWaited c stepped s rank own events old new
 TurnMeans c stepped s rank own events old new turn.Done = IsDone c s rank own events old new
 
--- a turn through a port
-pub record Turned {A : Type 0} (c : Conduct A) (stepped : List Event → Event → Type 0) (old : A) (s : Sight) (new : A) (t : Sight) (answer : Turn) : Type 0 where
+-- a turn through a port. Seven parameters: the workers' conduct, what a step of their port is, the worker and its sight
+-- before and after, and the answer.
+pub record Turned {A : Type 0} (c : Conduct A) (stepped : List Event → Event → Type 0) (old : A) (s : Sight) (new : A) (t : Sight)
+    (answer : Turn) : Type 0 where
   pub events : List Event
   pub did : Did s events t
   pub means : TurnMeans c stepped s.seat.setup s.seat.rank s.events events old new answer
@@ -82,10 +89,13 @@ pub record Turned {A : Type 0} (c : Conduct A) (stepped : List Event → Event �
 -- turns in a row, each of which moved
 pub data TurnsMoved {A : Type 0} (c : Conduct A) (stepped : List Event → Event → Type 0) (old : A) (s : Sight) : A → Sight → Type 0 where
   OneMoved : (new : A) (t : Sight) → Turned c stepped old s new t turn.Moved → TurnsMoved c stepped old s new t
-  MoreMoved : (mid new : A) (m t : Sight) → TurnsMoved c stepped old s mid m → Turned c stepped mid m new t turn.Moved → TurnsMoved c stepped old s new t
+  MoreMoved : (mid new : A) (m t : Sight) → TurnsMoved c stepped old s mid m → Turned c stepped mid m new t turn.Moved
+      → TurnsMoved c stepped old s new t
 
--- a stretch: one turn, whatever it came to, or turns in a row, each of which moved
-pub data Stretched {A : Type 0} (c : Conduct A) (stepped : List Event → Event → Type 0) (old : A) (s : Sight) (new : A) (t : Sight) (answer : Turn) : Type 0 where
+-- a stretch: one turn, whatever it came to, or turns in a row, each of which moved. Seven parameters, those of `Turned`: the
+-- answer is that of the last turn.
+pub data Stretched {A : Type 0} (c : Conduct A) (stepped : List Event → Event → Type 0) (old : A) (s : Sight) (new : A) (t : Sight)
+    (answer : Turn) : Type 0 where
   OneTurn : Turned c stepped old s new t answer → Stretched c stepped old s new t answer
   InARow : TurnsMoved c stepped old s new t → answer ≡ turn.Moved → Stretched c stepped old s new t answer
 
@@ -126,29 +136,35 @@ abbrev pub RestsAt : Bool → SetupView → (ℕ → Record) → ℕ → WorkerV
 RestsAt true s now me w = HasFinished (now me) w
 RestsAt false s now me w = HasStopped (now me) w ⊎ WaitsThen s now me w.want
 
--- a turn of a rank at home that did not move
+-- a turn of a rank at home that did not move. Seven parameters: the workers' conduct, whether it is finished, the rank, and
+-- the chip and the worker before and after.
 pub record HasStayed {A : Type 0} (c : Conduct A) (finished : Bool) (chip : ChipView) (r : ℕ) (now : ChipView) (old new : A) : Type 0 where
   pub stays : c.stays old new
   pub seen : c.seen (about_in chip) r new ≡ c.seen (about_in chip) r old
   pub alike : Like (records_in chip r) (records_in now r)
   pub rests : RestsAt finished (about_in chip) (records_in now) r (c.seen (about_in chip) r new)
 
--- what a turn of a rank at home came to: it went on, or it has stayed, finished or not
-abbrev pub CameTo : {A : Type 0} → Conduct A → Rest → ChipView → ℕ → ChipView → A → A → Type 0
-CameTo c rest.Moved chip r now old new = HasMoved c (about_in chip) r old new
-CameTo c rest.Finished chip r now old new = HasStayed c true chip r now old new
-CameTo c rest.Unfinished chip r now old new = HasStayed c false chip r now old new
+-- what a turn of a rank at home came to: it went on, or it has stayed, finished or not. Seven parameters: those of
+-- `HasStayed`, with what the turn came to in place of whether it is finished.
+abbrev pub TurnCameTo : {A : Type 0} → Conduct A → Rest → ChipView → ℕ → ChipView → A → A → Type 0
+TurnCameTo c rest.Moved chip r now old new = HasMoved c (about_in chip) r old new
+TurnCameTo c rest.Finished chip r now old new = HasStayed c true chip r now old new
+TurnCameTo c rest.Unfinished chip r now old new = HasStayed c false chip r now old new
 
--- a turn of a rank at home, through a port of its own
-pub record OwnTurn {A : Type 0} (c : Conduct A) (chip : ChipView) (r : ℕ) (old : A) (now : ChipView) (new : A) (answer : Turn) : Type 0 where
+-- a turn of a rank at home, through a port of its own. Seven parameters: the workers' conduct, the rank, the chip and the
+-- worker before and after, and the answer.
+pub record OwnTurn {A : Type 0} (c : Conduct A) (chip : ChipView) (r : ℕ) (old : A) (now : ChipView) (new : A)
+    (answer : Turn) : Type 0 where
   pub turned : IsTurned chip r now
   pub events : List Event
   pub longer : events_in now r ≡ events_in chip r ++ events
   pub ties : c.tied new (about_in now) r (events_in now r)
   pub means : TurnMeans c (Saw now r) (about_in chip) r (events_in chip r) events old new answer
 
--- a turn of a rank at home, and what it came to
-pub record TurnedAtHome {A : Type 0} (c : Conduct A) (chip : ChipView) (r : ℕ) (old : A) (now : ChipView) (new : A) (came : Rest) : Type 0 where
+-- a turn of a rank at home, and what it came to. Seven parameters, those of `OwnTurn`, with what the turn came to in place
+-- of the answer of its port.
+pub record TurnedAtHome {A : Type 0} (c : Conduct A) (chip : ChipView) (r : ℕ) (old : A) (now : ChipView) (new : A)
+    (came : Rest) : Type 0 where
   pub turned : IsTurned chip r now
   pub ties : c.tied new (about_in now) r (events_in now r)
-  pub comes : CameTo c came chip r now old new
+  pub comes : TurnCameTo c came chip r now old new

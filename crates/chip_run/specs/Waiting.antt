@@ -42,7 +42,8 @@ pub record TakeWaits (s : SetupView) (view : View) (me from : ℕ) (rec : Record
 -- a rank waits in a barrier: member 0 for the flip of the first member that it has not seen, any other member for its
 -- release
 pub data BarWaits (s : SetupView) (view : View) (me comm : ℕ) (rec : Record) : Type 0 where
-  AtRoot : (seen member : ℕ) → is_present s comm ≡ true → place_of s comm me ≡ 0 → rec.stage ≡ Barrier comm seen 0 → seen < last_of s comm me
+  AtRoot : (seen member : ℕ) → is_present s comm ≡ true → place_of s comm me ≡ 0 → rec.stage ≡ Barrier comm seen 0
+      → seen < last_of s comm me
       → member < s.nue → setup_key s comm member ≡ setup_key s comm me → place_of s comm member ≡ suc seen
       → view.gather comm member ≢ rec.flips comm % 2 → BarWaits s view me comm rec
   AtMember : is_present s comm ≡ true → place_of s comm me ≢ 0 → rec.stage ≡ Barrier comm 0 0 → view.release comm me ≢ rec.flips comm % 2

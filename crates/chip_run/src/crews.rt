@@ -40,7 +40,8 @@ pub(crate) fn round<W: Worker + Drop>(chip: &mut Chip, crew: &mut [Member<W>], p
     requires crew { IsCrew (members_of W.conduct) chip.old crew.old }
     requires some { 0 < length crew.old }
     ensures picks { picks.new ≡ drawn pcg32 (1000 * length crew.old) picks.old }
-    ensures order { TurnsOf (members_of W.conduct) (named pcg32 (length crew.old) (1000 * length crew.old) picks.old) chip.old crew.old chip.new crew.new }
+    ensures order { TurnsOf (members_of W.conduct) (named pcg32 (length crew.old) (1000 * length crew.old) picks.old) chip.old crew.old
+        chip.new crew.new }
     ensures stands { CrewStands (members_of W.conduct) chip.old crew.old chip.new crew.new }
 {
     let ranks = chip.setup().nue() as usize;

@@ -25,7 +25,8 @@ pub fn looks_stay_vain()
         → (k : ℕ) (want : Want) → k < s.nue → Waits s (view_of s one) k (records k) want → Waits s (view_of s other) k (recs k) want }
     // A look among the events of a turn that waited is vain after the sweep: the turn left the record alike, and so did all
     // turns behind it.
-    ensures carried { (s : SetupView) (at now : Memory) (seen records : ℕ → Record) (me : ℕ) (rec : Record) (before rest : List Event) (want : Want)
+    ensures carried { (s : SetupView) (at now : Memory) (seen records : ℕ → Record) (me : ℕ) (rec : Record) (before rest : List Event)
+        (want : Want)
         → Agrees s at seen → Agrees s now records → me < s.nue → seen me ≡ record_from s me rec before
         → list_all is_resting before ≡ true → list_all is_resting rest ≡ true
         → Like rec (record_from s me rec (before ++ rest)) → Like rec (records me) → ((j : ℕ) → j ≢ me → Like (seen j) (records j))
@@ -34,7 +35,9 @@ pub fn looks_stay_vain()
     ensures same { (s : SetupView) (view : View) (me : ℕ) (rec now : Record) (want : Want)
         → Like rec now → Waits s view me rec want → Waits s view me now want }
     // A send whose chunk is up waits where its `ready` is not set: it cannot have seen it set.
-    ensures raised { (s : SetupView) (memory : Memory) (records : ℕ → Record) (me to : ℕ) (head : MessageHead) (part : Part) (message : Progress) (chunk : Notes)
-        → Agrees s memory records → are_peers s me to ≡ true → (records me).stage ≡ Sending to part message chunk → (part ≡ Raised) ⊎ (part ≡ Answered)
+    ensures raised { (s : SetupView) (memory : Memory) (records : ℕ → Record) (me to : ℕ) (head : MessageHead) (part : Part)
+        (message : Progress) (chunk : Notes)
+        → Agrees s memory records → are_peers s me to ≡ true → (records me).stage ≡ Sending to part message chunk
+        → (part ≡ Raised) ⊎ (part ≡ Answered)
         → message.head ≡ head → (view_of s memory).signal Ready to me ≢ 1 → RaiseWaits s (view_of s memory) me to head (records me) }
 {}

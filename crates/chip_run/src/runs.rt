@@ -2,7 +2,7 @@
 
 ghost use Rattle.std.specs.Prelude.{◌≡◌, ◌<◌, length};
 ghost use Rattle.chip_run.specs.Away.{members_of};
-ghost use Rattle.chip_run.specs.Crews.{AllRest, CrewStands, EndsWith, IsCrew};
+ghost use Rattle.chip_run.specs.Crews.{AllRest, CrewStands, RunEndedAs, IsCrew};
 ghost use Rattle.chip_run.specs.Runs.{InOrder, NextRound, rounds_of};
 ghost use Rattle.chip_run.specs.Waiting.{NoneDrafts};
 ghost use Rattle.scc_mesh.specs.Scenes.{about_in, records_in};
@@ -84,7 +84,7 @@ pub fn run<W: Worker + Drop + Send, G: Gate + Sync, R: Threads + Sync>(
     // Each worker rests: it has finished, a mismatch stopped it, or it waits.
     ensures rests { AllRest (members_of W.conduct) chip.new crew.new (length crew.new) }
     // It answers Finished where all have finished, and Stuck where one has not.
-    ensures answer { EndsWith (members_of W.conduct) result chip.new crew.new }
+    ensures answer { RunEndedAs (members_of W.conduct) result chip.new crew.new }
     // A rank that has no call open is in the midst of nothing: it has no message in draft.
     ensures no_draft { NoneDrafts (about_in chip.new) (records_in chip.new) }
     // Under Serial the turns were those of the ranks that the seed's generator names, and in threads each worker took a row of

@@ -2,7 +2,7 @@
 
 ghost use Rattle.std.specs.Prelude.{ℕ, length};
 ghost use Rattle.std.specs.List.{range_with_len};
-ghost use Rattle.chip_run.specs.Crews.{AllRest, CrewStands, EndsWith, IsCrew, SweepStands};
+ghost use Rattle.chip_run.specs.Crews.{AllRest, CrewStands, RunEndedAs, IsCrew, SweepStands};
 ghost use Rattle.chip_run.specs.Orders.{TurnsOf, sweeps_of};
 ghost use Rattle.chip_run.specs.Waiting.{NoneDrafts};
 ghost use Rattle.scc_mesh.specs.Scenes.{about_in, records_in};
@@ -36,7 +36,7 @@ pub fn run_by_sweeps<W: Worker>(chip: &mut Chip, crew: &mut [W]) -> RunEnd
     // Each worker rests: it has finished, a mismatch stopped it, or it waits.
     ensures rests { AllRest W.conduct chip.new crew.new (length crew.new) }
     // It answers Finished where all have finished, and Stuck where one has not.
-    ensures answer { EndsWith W.conduct result chip.new crew.new }
+    ensures answer { RunEndedAs W.conduct result chip.new crew.new }
     // A rank that has no call open is in the midst of nothing: it has no message in draft.
     ensures no_draft { NoneDrafts (about_in chip.new) (records_in chip.new) }
     // The turns were those of all ranks in their order, again and again.

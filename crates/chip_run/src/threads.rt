@@ -74,7 +74,8 @@ fn hand_out<W: Worker + Drop>(chip: &mut Chip, crew: &mut [Member<W>])
     requires crew { IsCrew (members_of W.conduct) chip.old crew.old }
     ensures none { IsHomeBelow chip.new 0 }
     ensures same { (about_in chip.new ≡ about_in chip.old) × (table_in chip.new ≡ table_in chip.old) }
-    ensures served { Served (λ k m n. (n.worker ≡ m.worker) × IsAway (W.conduct.tied n.worker) (about_in chip.old) (table_in chip.old) k n.token)
+    ensures served { Served (λ k m n. (n.worker ≡ m.worker)
+        × IsAway (W.conduct.tied n.worker) (about_in chip.old) (table_in chip.old) k n.token)
         (length crew.old) crew.old crew.new }
 {
     for at in 0..crew.len() {
@@ -91,9 +92,13 @@ fn in_threads<W: Worker + Drop + Send, G: Gate + Sync, R: Threads + Sync>(
     crew: &mut [Member<W>],
 )
     requires some { 0 < length crew.old }
-    requires away { (i : ℕ) (d : _) → i < length crew.old → let m = slice_index_or crew.old i d in IsAway (W.conduct.tied m.worker) words.space.now.about words.space.now.table i m.token }
-    ensures away { (i : ℕ) (d : _) → i < length crew.old → let m = slice_index_or crew.new i d in IsAway (W.conduct.tied m.worker) words.entry.space.now.about words.entry.space.now.table i m.token }
-    ensures rows { (i : ℕ) (d : _) → i < length crew.old → TookRow W.conduct words.entry.space.now.about i (slice_index_or crew.old i d).worker (slice_index_or crew.new i d).worker }
+    requires away { (i : ℕ) (d : _) → i < length crew.old
+        → let m = slice_index_or crew.old i d in IsAway (W.conduct.tied m.worker) words.space.now.about words.space.now.table i m.token }
+    ensures away { (i : ℕ) (d : _) → i < length crew.old
+        → let m = slice_index_or crew.new i d in IsAway (W.conduct.tied m.worker) words.entry.space.now.about
+        words.entry.space.now.table i m.token }
+    ensures rows { (i : ℕ) (d : _) → i < length crew.old
+        → TookRow W.conduct words.entry.space.now.about i (slice_index_or crew.old i d).worker (slice_index_or crew.new i d).worker }
 {
     let threads = crew.len();
     thread::for_each_mut(
@@ -102,7 +107,8 @@ fn in_threads<W: Worker + Drop + Send, G: Gate + Sync, R: Threads + Sync>(
         threads,
         &|at: usize, member: &mut Member<W>|
             requires { IsAway (W.conduct.tied member.old.worker) words.space.now.about words.space.now.table at member.old.token }
-            ensures { IsAway (W.conduct.tied member.new.worker) words.entry.space.now.about words.entry.space.now.table at member.new.token × TookRow W.conduct words.entry.space.now.about at member.old.worker member.new.worker }
+            ensures { IsAway (W.conduct.tied member.new.worker) words.entry.space.now.about words.entry.space.now.table at member.new.token
+                × TookRow W.conduct words.entry.space.now.about at member.old.worker member.new.worker }
         { go(words, gate, roll, at, member) },
     );
 }
@@ -117,17 +123,25 @@ fn in_few_threads<W: Worker + Drop + Send, G: Gate + Sync, R: Threads + Sync>(
     each: usize,
 )
     requires each { 0 < each }
-    requires away { (i : ℕ) (d : _) → i < length crew.old → let m = slice_index_or crew.old i d in IsAway (W.conduct.tied m.worker) words.space.now.about words.space.now.table i m.token }
-    ensures away { (i : ℕ) (d : _) → i < length crew.old → let m = slice_index_or crew.new i d in IsAway (W.conduct.tied m.worker) words.entry.space.now.about words.entry.space.now.table i m.token }
-    ensures rows { (i : ℕ) (d : _) → i < length crew.old → TookRow W.conduct words.entry.space.now.about i (slice_index_or crew.old i d).worker (slice_index_or crew.new i d).worker }
+    requires away { (i : ℕ) (d : _) → i < length crew.old
+        → let m = slice_index_or crew.old i d in IsAway (W.conduct.tied m.worker) words.space.now.about words.space.now.table i m.token }
+    ensures away { (i : ℕ) (d : _) → i < length crew.old
+        → let m = slice_index_or crew.new i d in IsAway (W.conduct.tied m.worker) words.entry.space.now.about
+        words.entry.space.now.table i m.token }
+    ensures rows { (i : ℕ) (d : _) → i < length crew.old
+        → TookRow W.conduct words.entry.space.now.about i (slice_index_or crew.old i d).worker (slice_index_or crew.new i d).worker }
 {
     thread::for_each_chunk_mut(
         rt,
         crew,
         each,
         &|start: usize, members: &mut [Member<W>]|
-            requires { (start + length members.old < 2 ^ 64) × ((k : ℕ) (d : _) → k < length members.old → let m = slice_index_or members.old k d in IsAway (W.conduct.tied m.worker) words.space.now.about words.space.now.table (start + k) m.token) }
-            ensures { (k : ℕ) (d : _) → k < length members.old → let m = slice_index_or members.new k d in IsAway (W.conduct.tied m.worker) words.entry.space.now.about words.entry.space.now.table (start + k) m.token
+            requires { (start + length members.old < 2 ^ 64) × ((k : ℕ) (d : _) → k < length members.old
+                → let m = slice_index_or members.old k d in IsAway (W.conduct.tied m.worker) words.space.now.about words.space.now.table
+                (start + k) m.token) }
+            ensures { (k : ℕ) (d : _) → k < length members.old
+                → let m = slice_index_or members.new k d in IsAway (W.conduct.tied m.worker) words.entry.space.now.about
+                words.entry.space.now.table (start + k) m.token
                 × TookRow W.conduct words.entry.space.now.about (start + k) (slice_index_or members.old k d).worker m.worker }
         { rows_together(words, gate, roll, start, members) },
     );
@@ -144,9 +158,13 @@ fn all_rows<W: Worker + Drop + Send, G: Gate + Sync, R: Threads + Sync>(
 )
     requires some { 0 < length crew.old }
     requires each { 0 < each }
-    requires away { (i : ℕ) (d : _) → i < length crew.old → let m = slice_index_or crew.old i d in IsAway (W.conduct.tied m.worker) words.space.now.about words.space.now.table i m.token }
-    ensures away { (i : ℕ) (d : _) → i < length crew.old → let m = slice_index_or crew.new i d in IsAway (W.conduct.tied m.worker) words.entry.space.now.about words.entry.space.now.table i m.token }
-    ensures rows { (i : ℕ) (d : _) → i < length crew.old → TookRow W.conduct words.entry.space.now.about i (slice_index_or crew.old i d).worker (slice_index_or crew.new i d).worker }
+    requires away { (i : ℕ) (d : _) → i < length crew.old
+        → let m = slice_index_or crew.old i d in IsAway (W.conduct.tied m.worker) words.space.now.about words.space.now.table i m.token }
+    ensures away { (i : ℕ) (d : _) → i < length crew.old
+        → let m = slice_index_or crew.new i d in IsAway (W.conduct.tied m.worker) words.entry.space.now.about
+        words.entry.space.now.table i m.token }
+    ensures rows { (i : ℕ) (d : _) → i < length crew.old
+        → TookRow W.conduct words.entry.space.now.about i (slice_index_or crew.old i d).worker (slice_index_or crew.new i d).worker }
 {
     if each > 1 {
         in_few_threads(rt, words, gate, roll, crew, each);
@@ -159,10 +177,12 @@ fn all_rows<W: Worker + Drop + Send, G: Gate + Sync, R: Threads + Sync>(
 fn take_home<W: Worker + Drop>(chip: &mut Chip, crew: &mut [Member<W>])
     requires none { IsHomeBelow chip.old 0 }
     requires each { length crew.old ≡ (about_in chip.old).nue }
-    requires away { (i : ℕ) (d : _) → i < length crew.old → let m = slice_index_or crew.old i d in IsAway (W.conduct.tied m.worker) (about_in chip.old) (table_in chip.old) i m.token }
+    requires away { (i : ℕ) (d : _) → i < length crew.old
+        → let m = slice_index_or crew.old i d in IsAway (W.conduct.tied m.worker) (about_in chip.old) (table_in chip.old) i m.token }
     ensures whole { IsWhole chip.new }
     ensures same { (about_in chip.new ≡ about_in chip.old) × (table_in chip.new ≡ table_in chip.old) }
-    ensures served { Served (λ k m n. (n.worker ≡ m.worker) × IsAtHome (W.conduct.tied n.worker) n.token (about_in chip.old) k (events_in chip.new k))
+    ensures served { Served (λ k m n. (n.worker ≡ m.worker)
+        × IsAtHome (W.conduct.tied n.worker) n.token (about_in chip.old) k (events_in chip.new k))
         (length crew.old) crew.old crew.new }
 {
     for at in 0..crew.len() {

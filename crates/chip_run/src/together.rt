@@ -26,8 +26,11 @@ fn begin<W: Worker + Drop, G: Gate>(words: Words<'_>, gate: &G, at: usize, membe
 fn go_on<W: Worker + Drop>(words: Words<'_>, at: usize, member: &mut Member<W>) -> bool
     requires away { IsAway (W.conduct.tied member.old.worker) words.space.now.about words.space.now.table at member.old.token }
     ensures away { IsAway (W.conduct.tied member.new.worker) words.entry.space.now.about words.entry.space.now.table at member.new.token }
-    ensures stretches { Stretches W.conduct words.entry.space.now.about member.old.worker member.old.token member.old.vain member.new.worker member.new.token member.new.vain }
-    ensures less { result ≡ true → row_left 1000 (W.conduct.seen words.entry.space.now.about at member.new.worker).left member.new.vain < row_left 1000 (W.conduct.seen words.entry.space.now.about at member.old.worker).left member.old.vain }
+    ensures stretches { Stretches W.conduct words.entry.space.now.about member.old.worker member.old.token member.old.vain
+        member.new.worker member.new.token member.new.vain }
+    ensures less { result ≡ true
+        → row_left 1000 (W.conduct.seen words.entry.space.now.about at member.new.worker).left member.new.vain
+        < row_left 1000 (W.conduct.seen words.entry.space.now.about at member.old.worker).left member.old.vain }
     ensures over { result ≡ false → (member.new ≡ member.old) × (1000 ≤ member.new.vain) }
 {
     if member.vain >= VAIN {
@@ -50,10 +53,16 @@ fn pass<W: Worker + Drop>(
     members: &mut [Member<W>],
 ) -> bool
     requires room { start + length members.old < 2 ^ 64 }
-    requires away { (k : ℕ) (d : _) → k < length members.old → let m = slice_index_or members.old k d in IsAway (W.conduct.tied m.worker) words.space.now.about words.space.now.table (start + k) m.token }
-    ensures served { Served (λ k m n. IsAway (W.conduct.tied n.worker) words.entry.space.now.about words.entry.space.now.table (start + k) n.token
-        × Stretches W.conduct words.entry.space.now.about m.worker m.token m.vain n.worker n.token n.vain) (length members.old) members.old members.new }
-    ensures less { result ≡ true → rows_left W.conduct words.entry.space.now.about start members.new < rows_left W.conduct words.entry.space.now.about start members.old }
+    requires away { (k : ℕ) (d : _) → k < length members.old
+        → let m = slice_index_or members.old k d in IsAway (W.conduct.tied m.worker) words.space.now.about words.space.now.table
+        (start + k) m.token }
+    ensures served { Served
+        (λ k m n. IsAway (W.conduct.tied n.worker) words.entry.space.now.about words.entry.space.now.table (start + k) n.token
+        × Stretches W.conduct words.entry.space.now.about m.worker m.token m.vain n.worker n.token n.vain) (length members.old)
+        members.old members.new }
+    ensures less { result ≡ true
+        → rows_left W.conduct words.entry.space.now.about start members.new
+        < rows_left W.conduct words.entry.space.now.about start members.old }
     ensures over { result ≡ false → (k : ℕ) (d : _) → k < length members.new → 1000 ≤ (slice_index_or members.new k d).vain }
 {
     let mut goes = false;
@@ -74,7 +83,9 @@ fn begin_all<W: Worker + Drop, G: Gate>(
     members: &mut [Member<W>],
 )
     requires room { start + length members.old < 2 ^ 64 }
-    requires away { (k : ℕ) (d : _) → k < length members.old → let m = slice_index_or members.old k d in IsAway (W.conduct.tied m.worker) words.space.now.about words.space.now.table (start + k) m.token }
+    requires away { (k : ℕ) (d : _) → k < length members.old
+        → let m = slice_index_or members.old k d in IsAway (W.conduct.tied m.worker) words.space.now.about words.space.now.table
+        (start + k) m.token }
     ensures served { Served (λ k m n. n ≡ record m { vain = 0 }) (length members.old) members.old members.new }
 {
     for at in 0..members.len() {
@@ -91,10 +102,16 @@ pub(crate) fn rows_together<W: Worker + Drop, G: Gate>(
     members: &mut [Member<W>],
 )
     requires room { start + length members.old < 2 ^ 64 }
-    requires away { (k : ℕ) (d : _) → k < length members.old → let m = slice_index_or members.old k d in IsAway (W.conduct.tied m.worker) words.space.now.about words.space.now.table (start + k) m.token }
+    requires away { (k : ℕ) (d : _) → k < length members.old
+        → let m = slice_index_or members.old k d in IsAway (W.conduct.tied m.worker) words.space.now.about words.space.now.table
+        (start + k) m.token }
     ensures count { length members.new ≡ length members.old }
-    ensures away { (k : ℕ) (d : _) → k < length members.old → let m = slice_index_or members.new k d in IsAway (W.conduct.tied m.worker) words.entry.space.now.about words.entry.space.now.table (start + k) m.token }
-    ensures rows { (k : ℕ) (d : _) → k < length members.old → TookRow W.conduct words.entry.space.now.about (start + k) (slice_index_or members.old k d).worker (slice_index_or members.new k d).worker }
+    ensures away { (k : ℕ) (d : _) → k < length members.old
+        → let m = slice_index_or members.new k d in IsAway (W.conduct.tied m.worker) words.entry.space.now.about
+        words.entry.space.now.table (start + k) m.token }
+    ensures rows { (k : ℕ) (d : _) → k < length members.old
+        → TookRow W.conduct words.entry.space.now.about (start + k) (slice_index_or members.old k d).worker
+        (slice_index_or members.new k d).worker }
 {
     roll.begin();
     begin_all(words, gate, start, members);

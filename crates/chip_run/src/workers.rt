@@ -15,7 +15,7 @@ pub trait Worker {
     ghost use Rattle.scc_base.specs.Setups.{SetupView};
     ghost use Rattle.scc_base.specs.declared.events.Event.{Event};
     ghost use Rattle.chip_run.specs.Conducts.{Conduct};
-    ghost use Rattle.chip_run.specs.Turns.{HoldsNone, Stretched, Turned};
+    ghost use Rattle.chip_run.specs.Turns.{RankHoldsNone, Stretched, Turned};
 
     // What a run knows of it.
     ghost conduct: { Conduct Self };
@@ -31,14 +31,16 @@ pub trait Worker {
     fn stretch<P: Port>(&mut self, port: P) -> (Turn, P)
         requires ties { conduct.tied self.old (P.sight port).seat.setup (P.sight port).seat.rank (P.sight port).events }
         ensures ties { conduct.tied self.new (P.sight result.1).seat.setup (P.sight result.1).seat.rank (P.sight result.1).events }
-        ensures stretched { Stretched conduct (P.stepped (P.sight port).seat) self.old (P.sight port) self.new (P.sight result.1) result.0 };
+        ensures stretched { Stretched conduct (P.stepped (P.sight port).seat) self.old (P.sight port) self.new
+            (P.sight result.1) result.0 };
 
     /// Whether a mismatch stopped it.
     fn is_stopped(&self) -> bool
         ensures tells { (s : SetupView) (rank : ℕ) → result ≡ (conduct.seen s rank self.now).is_stopped };
 
     // Its rank holds no register between turns.
-    ghost hands: { (x : Self) (s : SetupView) (rank : ℕ) (events : List Event) → conduct.tied x s rank events → HoldsNone s rank events };
+    ghost hands: { (x : Self) (s : SetupView) (rank : ℕ) (events : List Event) → conduct.tied x s rank events
+        → RankHoldsNone s rank events };
 }
 
 /// One turn of a rank at home.

@@ -20,5 +20,6 @@ sight_alone s r events = record { seat = record { setup = s; rank = r; mark = gn
 pub record IsTeam {A : Type 0} (stands : A → SetupView → ℕ → List Event → Type 0) (chip : ChipView) (players : List A) : Type 0 where
   pub whole : IsWhole chip
   pub fits : length players ≤ (about_in chip).nue
-  pub each : (r : ℕ) (player : A) → r < length players → player ≡ slice_index_or players r player → stands player (about_in chip) r (events_in chip r)
+  pub each : (r : ℕ) (player : A) → r < length players → player ≡ slice_index_or players r player
+      → stands player (about_in chip) r (events_in chip r)
   pub empty : (r : ℕ) → length players ≤ r → events_in chip r ≡ []

@@ -23,7 +23,9 @@ pieces_for Scatter nue len srcs rank = window (rank * len) len (srcs 0)
 pieces_for Allgather nue len srcs rank = all_of nue srcs
 pieces_for Alltoall nue len srcs rank = all_of nue (λ k. window (rank * len) len (srcs k))
 
--- a rank has made one such call, and nothing else: with src and dst of their lengths, and its own piece copied
+-- a rank has made one such call, and nothing else: with src and dst of their lengths, and its own piece copied. Seven
+-- parameters: the call (which one, of how many ranks, of pieces of what length), the rank, the bytes that it gave and those
+-- that it got, and its calls.
 pub record HasMade (more : More) (nue len rank : ℕ) (src dst : List ℕ) (calls : List DataCall) : Type 0 where
   pub calls_are : calls ≡ data_calls more rank nue len src dst
   pub src_is : length src ≡ src_len_of more rank nue len

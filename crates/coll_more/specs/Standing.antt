@@ -37,12 +37,16 @@ pub record IsRecvOf (call : PieceCall) (op : RecvAt) : Type 0 where
   pub head : op.head ≡ plain_head call.len
   pub unended : is_received op.stage ≡ false
 
--- the record, the core, the slot and the bytes stand where the message stands that comes next in the table
+-- the record, the core, the slot and the bytes stand where the message stands that comes next in the table. Eight
+-- parameters: what stands (the sight, the core, the slot), where the call is (the table, how many of its messages ended, the
+-- stage), and the bytes that it gives and gets.
 abbrev pub StandsAt : Sight → Private → SlotAt → List PieceCall → ℕ → (src dst : List ℕ) → Stage → Type 0
 StandsAt s c slot table ended src dst Own = (ended ≡ 0) × IsBetweenMessages s c slot
 StandsAt s c slot table ended src dst Between = IsBetweenMessages s c slot
-StandsAt s c slot table ended src dst (Sending call op) = (slice_get table ended ≡ Some call) × IsSendOf call op × SendStands s c op slot (bytes_of call src dst)
-StandsAt s c slot table ended src dst (Receiving call op) = (slice_get table ended ≡ Some call) × IsRecvOf call op × SlotStands s.seat (record_in s) slot
+StandsAt s c slot table ended src dst (Sending call op) =
+    (slice_get table ended ≡ Some call) × IsSendOf call op × SendStands s c op slot (bytes_of call src dst)
+StandsAt s c slot table ended src dst (Receiving call op) =
+    (slice_get table ended ≡ Some call) × IsRecvOf call op × SlotStands s.seat (record_in s) slot
     × RecvStands s c op (window call.first call.len dst)
 
 -- a collective call fits the record, the core, the slot and the bytes at its rank; these calls had the record before it

@@ -47,7 +47,8 @@ left_from seat op place = sum_by (call_bound seat.setup.layout) (drop place (tab
 abbrev pub left_by : Seat → MoreAt → SlotAt → Stage → ℕ
 left_by seat op slot Own = 1 + left_from seat op op.ended
 left_by seat op slot Between = left_from seat op op.ended
-left_by seat op slot (Sending call send) = (1 + send_left seat.setup.layout (chunk_of seat.setup) send slot) + left_from seat op (op.ended + 1)
+left_by seat op slot (Sending call send) =
+    (1 + send_left seat.setup.layout (chunk_of seat.setup) send slot) + left_from seat op (op.ended + 1)
 left_by seat op slot (Receiving call receive) = (1 + recv_left (chunk_of seat.setup) receive) + left_from seat op (op.ended + 1)
 
 -- how many turns that do not wait a collective call has left at most
@@ -72,7 +73,8 @@ is_over seat op = is_over_by (table_of seat op) op.ended op.stage
 
 -- a receive that looks at the head of a message has met another one than its own, whose words the record has noted
 abbrev pub MetOther : Record → MessageHead → Stage → Type 0
-MetOther rec sent (Receiving call receive) = (receive.stage ≡ Header) × (sent ≢ plain_head call.len) × (header : Notes) × (rec.notes call.peer ≡ Some header) × SaysHead header sent
+MetOther rec sent (Receiving call receive) =
+    (receive.stage ≡ Header) × (sent ≢ plain_head call.len) × (header : Notes) × (rec.notes call.peer ≡ Some header) × SaysHead header sent
 MetOther rec sent stage = ⊥
 
 -- the op, the slot and dst are as before, and the record but for what it has seen
@@ -85,18 +87,23 @@ pub record IsStill (old now : Participant) : Type 0 where
 -- what each answer means: Moved alone lowers the number of turns left; Waiting and Mismatch leave all as it was; and Done comes
 -- exactly where nothing was left before, and then nothing is done
 abbrev pub MoreMeans : Participant → Participant → RecvTurn → Type 0
-MoreMeans old now turn.Moved = (more_left old.sight.seat now.op now.slot < more_left old.sight.seat old.op old.slot) × (is_over old.sight.seat old.op ≡ false)
+MoreMeans old now turn.Moved =
+    (more_left old.sight.seat now.op now.slot < more_left old.sight.seat old.op old.slot) × (is_over old.sight.seat old.op ≡ false)
 MoreMeans old now (turn.Waiting spot) = IsStill old now × (is_over old.sight.seat old.op ≡ false)
-MoreMeans old now turn.Done = (now.op ≡ old.op) × (now.slot ≡ old.slot) × (now.dst ≡ old.dst) × (now.sight ≡ old.sight) × (now.core ≡ old.core)
+MoreMeans old now turn.Done =
+    (now.op ≡ old.op) × (now.slot ≡ old.slot) × (now.dst ≡ old.dst) × (now.sight ≡ old.sight) × (now.core ≡ old.core)
     × (is_over old.sight.seat old.op ≡ true)
-MoreMeans old now (turn.Mismatch sent) = IsStill old now × (is_over old.sight.seat old.op ≡ false) × MetOther (record_in now.sight) sent old.op.stage
+MoreMeans old now (turn.Mismatch sent) =
+    IsStill old now × (is_over old.sight.seat old.op ≡ false) × MetOther (record_in now.sight) sent old.op.stage
 
 -- what a turn does, by what comes next: what the message in hand does; a copy and a message that begins make no event
 abbrev pub MoreDoes : Participant → Stage → (done : Bool) → Sight → Private → Type 0
 MoreDoes old Own done t d = (t ≡ old.sight) × (d ≡ old.core)
 MoreDoes old Between done t d = (t ≡ old.sight) × (d ≡ old.core)
-MoreDoes old (Sending call send) done t d = SendDoes (sending old.sight old.core send old.slot (bytes_of call old.src old.dst)) send.stage done t d
-MoreDoes old (Receiving call receive) done t d = RecvDoes (receiving old.sight old.core receive (window call.first call.len old.dst)) receive.stage done t d
+MoreDoes old (Sending call send) done t d =
+    SendDoes (sending old.sight old.core send old.slot (bytes_of call old.src old.dst)) send.stage done t d
+MoreDoes old (Receiving call receive) done t d =
+    RecvDoes (receiving old.sight old.core receive (window call.first call.len old.dst)) receive.stage done t d
 
 -- one turn of a collective call: what it did, and what it came to
 pub record MoreTurned (old now : Participant) (answer : RecvTurn) : Type 0 where

@@ -18,7 +18,8 @@ ghost use Rattle.coll_more.specs.declared.kinds.More.{More};
 /// At a rank that is in no call any collective call can begin, with src and dst of their lengths.
 pub fn begins_law()
     ensures begins { (s : Sight) (c : Private) (slot : SlotAt) (more : More) (len : ℕ) (src dst : List ℕ) → IsBetweenMessages s c slot
-        → IsFit more s.seat.rank s.seat.setup.nue len src dst → MoreStands (record_in s).calls (taking_part s c (new_more more len) slot src dst) }
+        → IsFit more s.seat.rank s.seat.setup.nue len src dst
+        → MoreStands (record_in s).calls (taking_part s c (new_more more len) slot src dst) }
 {}
 
 /// The turns that a collective call has left at its start: at most those of its messages, two more for each of them, and two.
@@ -31,13 +32,15 @@ pub fn turns_law()
 /// Where the calls of all ranks are legal and each rank has made one such call, dst has the pieces: of gather and allgather all
 /// that the ranks handed in, of scatter the rank's piece of the root's, of alltoall its piece of every rank's.
 pub fn pieces_law()
-    ensures pieces { (more : More) (nue len : ℕ) (keys : ℕ → ℕ → ℕ) (calls : ℕ → List DataCall) (slots : ℕ → Option Outgoing) (srcs dsts : ℕ → List ℕ)
+    ensures pieces { (more : More) (nue len : ℕ) (keys : ℕ → ℕ → ℕ) (calls : ℕ → List DataCall) (slots : ℕ → Option Outgoing)
+        (srcs dsts : ℕ → List ℕ)
         → IsLegal nue keys calls slots → HaveMade more nue len srcs dsts calls
         → (rank : ℕ) → rank < nue → dsts rank ≡ pieces_for more nue len srcs rank }
 {}
 
 /// What stands at a port stands at every port of the same rank: the same setup, rank and events.
 pub fn other_port_law()
-    ensures stands { (base : List DataCall) (s : Sight) (mark rest : Gv) (hold : ℕ) (c : Private) (op : MoreAt) (slot : SlotAt) (src dst : List ℕ)
+    ensures stands { (base : List DataCall) (s : Sight) (mark rest : Gv) (hold : ℕ) (c : Private) (op : MoreAt) (slot : SlotAt)
+        (src dst : List ℕ)
         → MoreStands base (taking_part s c op slot src dst) → MoreStands base (taking_part (at_port s mark rest hold) c op slot src dst) }
 {}

@@ -103,7 +103,8 @@ impl MoreOp {
         requires own { IsTrue (is_own self.old.stage) }
         requires stands { (c : Private) × (slot : SlotAt) × Stands (taking_part (P.sight port.now) c self.old slot src.now dst.old) }
         ensures turns { (c : Private) (slot : SlotAt) → Stands (taking_part (P.sight port.now) c self.old slot src.now dst.old)
-            → Turns (taking_part (P.sight port.now) c self.old slot src.now dst.old) (taking_part (P.sight port.now) c self.new slot src.now dst.new) result }
+            → Turns (taking_part (P.sight port.now) c self.old slot src.now dst.old)
+            (taking_part (P.sight port.now) c self.new slot src.now dst.new) result }
         ensures moves { result ≡ turn.Moved }
     {
         known(port);
@@ -125,7 +126,8 @@ impl MoreOp {
         requires between { IsTrue (is_between self.old.stage) }
         requires short { self.old.len ≤ 1024 }
         ensures turns { (c : Private) (slot : SlotAt) (src dst : List ℕ) → Stands (taking_part (P.sight port.now) c self.old slot src dst)
-            → Turns (taking_part (P.sight port.now) c self.old slot src dst) (taking_part (P.sight port.now) c self.new slot src dst) result }
+            → Turns (taking_part (P.sight port.now) c self.old slot src dst)
+            (taking_part (P.sight port.now) c self.new slot src dst) result }
         ensures goes { recv_waits result ≡ None }
     {
         known(port);
@@ -220,7 +222,8 @@ impl MoreOp {
     ) -> RecvTurn
         requires stands { Stands (taking_part (P.sight port.old) core.old self.old slot.old src.now dst.old) }
         // The op and the rank fit together as before, over the same earlier calls.
-        ensures stands { (base : List DataCall) → MoreStands base (taking_part (P.sight port.old) core.old self.old slot.old src.now dst.old)
+        ensures stands { (base : List DataCall)
+            → MoreStands base (taking_part (P.sight port.old) core.old self.old slot.old src.now dst.old)
             → MoreStands base (taking_part (P.sight port.new) core.new self.new slot.new src.now dst.new) }
         ensures turned { MoreTurned (taking_part (P.sight port.old) core.old self.old slot.old src.now dst.old)
             (taking_part (P.sight port.new) core.new self.new slot.new src.now dst.new) result }

@@ -4,24 +4,24 @@ use Rattle.scc_base.specs.Setups.{SetupView}
 use Rattle.scc_mesh.specs.Scenes.{ChipView, IsNew, about_in}
 use Rattle.coll_more.specs.Ops.{data_calls}
 use Rattle.coll_more.specs.Pieces.{pieces_for}
-use Rattle.coll_run.specs.Teams.{AreFresh, HaveEnded, IsFreshTeam, MemberView, srcs_of}
+use Rattle.coll_run.specs.Teams.{AreFresh, TeamHasEnded, IsFreshTeam, MemberView, srcs_of}
 use Rattle.outcomes.specs.Coming.{IsMeant}
 use Rattle.outcomes.specs.Complaints.{complaint_outcome}
 use Rattle.outcomes.specs.Outcomes.{Outcome, no_memory, run_outcome, words_refused}
 use Rattle.outcomes.specs.declared.complaint.Complaint.{Complaint}
-use Rattle.coll_program.specs.History.{ChipTells, HasRun}
-use Rattle.coll_program.specs.Jobs.{got_by, setup_of, src_of}
-use Rattle.coll_program.specs.Program.{job_of, no_files, words_plan}
+use Rattle.coll_program.specs.History.{CollChipTells, HasRun}
+use Rattle.coll_program.specs.Jobs.{got_by, coll_setup_of, src_of}
+use Rattle.coll_program.specs.Program.{coll_job_of, no_files, coll_words_plan}
 use Rattle.coll_program.specs.Pieces.{dst_at}
-use Rattle.coll_program.specs.Reports.{report_ran}
-use Rattle.coll_program.specs.Runs.{IsTeamOf, Launches, RunsWords}
+use Rattle.coll_program.specs.Reports.{coll_report_ran}
+use Rattle.coll_program.specs.Runs.{IsTeamOf, LaunchesJob, RunsWords}
 use Rattle.coll_program.specs.Texts.{lines_by}
 use Rattle.coll_program.specs.declared.command.Job.{Job}
 use Rattle.coll_program.specs.declared.report.Report.{Report}
 use Rattle.coll_program.proofs.TextLemmas.{dst_is, lines_same, pieces_same}
 
 -- the ranks of a job on a chip that was just opened
-pub fresh_team : (job : Job) (chip : ChipView) (team : List MemberView) → IsNew (setup_of job.nue) chip → IsTeamOf job team → IsFreshTeam job.more job.len chip team
+pub fresh_team : (job : Job) (chip : ChipView) (team : List MemberView) → IsNew (coll_setup_of job.nue) chip → IsTeamOf job team → IsFreshTeam job.more job.len chip team
 fresh_team job chip team new is =
     let nue : (about_in chip).nue ≡ job.nue = ap (λ (s : SetupView). s.nue) new.about in
     record {
@@ -36,8 +36,8 @@ some_member : (team : List MemberView) → 1 ≤ length team → MemberView
 some_member [] some = absurd (omega (arith, some))
 some_member (m ∷ ms) some = m
 
-module _ (job : Job) (chip now : ChipView) (team later : List MemberView) (some : 1 ≤ job.nue) (new : IsNew (setup_of job.nue) chip) (is : IsTeamOf job team)
-    (ended : HaveEnded job.more job.len chip team now later) where
+module _ (job : Job) (chip now : ChipView) (team later : List MemberView) (some : 1 ≤ job.nue) (new : IsNew (coll_setup_of job.nue) chip) (is : IsTeamOf job team)
+    (ended : TeamHasEnded job.more job.len chip team now later) where
   nue_is : (about_in chip).nue ≡ job.nue
   nue_is = ap (λ (s : SetupView). s.nue) new.about
 
@@ -76,22 +76,22 @@ module _ (job : Job) (chip now : ChipView) (team later : List MemberView) (some 
 -- ---- what words come to
 
 module _ (words : List (List ℕ)) (chip : ChipView) where
-  quiet_tells : (o : Outcome) → o ≡ no_memory (codes "rccecoll") → chip ≡ None → ChipTells words chip o
-  quiet_tells o same blank = subst (ChipTells words chip) (sym same) blank
+  quiet_tells : (o : Outcome) → o ≡ no_memory (codes "rccecoll") → chip ≡ None → CollChipTells words chip o
+  quiet_tells o same blank = subst (CollChipTells words chip) (sym same) blank
 
-  pub runs_job : (job : Job) (answer : Result Report Complaint) → job_of words ≡ Some job → Launches job chip answer → RunsWords words chip answer
+  pub runs_job : (job : Job) (answer : Result Report Complaint) → coll_job_of words ≡ Some job → LaunchesJob job chip answer → RunsWords words chip answer
   runs_job job (Ok report) is launched = (
-    subst (λ (o : Option Job). IsMeant (codes "rccecoll") (words_plan o) no_files no_files (run_outcome (report_ran report))) (sym is) (refl, inl (ap run_outcome launched.0)),
+    subst (λ (o : Option Job). IsMeant (codes "rccecoll") (coll_words_plan o) no_files no_files (run_outcome (coll_report_ran report))) (sym is) (refl, inl (ap run_outcome launched.0)),
     (job, is, launched.1),
   )
   runs_job job (Err why) is launched = (
-    subst (λ (o : Option Job). IsMeant (codes "rccecoll") (words_plan o) no_files no_files (complaint_outcome (codes "rccecoll") why)) (sym is) (refl, inr launched.0),
+    subst (λ (o : Option Job). IsMeant (codes "rccecoll") (coll_words_plan o) no_files no_files (complaint_outcome (codes "rccecoll") why)) (sym is) (refl, inr launched.0),
     quiet_tells (complaint_outcome (codes "rccecoll") why) launched.0 launched.1,
   )
 
-  pub refuses_words : (why : Complaint) → job_of words ≡ None → complaint_outcome (codes "rccecoll") why ≡ words_refused (codes "rccecoll") (codes "words refused") → chip ≡ None
+  pub refuses_words : (why : Complaint) → coll_job_of words ≡ None → complaint_outcome (codes "rccecoll") why ≡ words_refused (codes "rccecoll") (codes "words refused") → chip ≡ None
       → RunsWords words chip (Err why)
   refuses_words why none same blank = (
-    subst (λ (o : Option Job). IsMeant (codes "rccecoll") (words_plan o) no_files no_files (complaint_outcome (codes "rccecoll") why)) (sym none) (refl, same),
-    subst (ChipTells words chip) (sym same) blank,
+    subst (λ (o : Option Job). IsMeant (codes "rccecoll") (coll_words_plan o) no_files no_files (complaint_outcome (codes "rccecoll") why)) (sym none) (refl, same),
+    subst (CollChipTells words chip) (sym same) blank,
   )

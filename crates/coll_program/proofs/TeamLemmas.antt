@@ -7,7 +7,7 @@ use Rattle.chip_run.proofs.OrderLaws.{range_more}
 use Rattle.coll_more.specs.Tables.{src_len_of}
 use Rattle.coll_run.specs.Teams.{HasJoined, MemberView}
 use Rattle.coll_run.proofs.JoinLemmas.{each_joined}
-use Rattle.coll_program.specs.Jobs.{byte_at, src_of}
+use Rattle.coll_program.specs.Jobs.{handed_byte, src_of}
 use Rattle.coll_program.specs.Runs.{AreRanksOf}
 use Rattle.coll_program.specs.declared.command.Job.{Job}
 
@@ -24,7 +24,7 @@ byte_more f n b items later so_far is byte =
 pub src_long : (job : Job) (rank : ℕ) (src : List ℕ) (count : ℕ) → src ≡ src_of job rank → rank ≡ count → length src ≡ src_len_of job.more count job.nue job.len
 src_long job rank src count is same =
     ap length is
-    ∙ length-map (range_with_len 0 (src_len_of job.more rank job.nue job.len)) (byte_at job.more rank job.len)
+    ∙ length-map (range_with_len 0 (src_len_of job.more rank job.nue job.len)) (handed_byte job.more rank job.len)
     ∙ length-range_with_len 0 (src_len_of job.more rank job.nue job.len)
     ∙ ap (λ (r : ℕ). src_len_of job.more r job.nue job.len) same
 

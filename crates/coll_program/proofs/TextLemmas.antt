@@ -8,12 +8,12 @@ use Rattle.coll_more.specs.declared.kinds.More.{More}
 use Rattle.coll_more.specs.declared.kinds.More.TheVariants.{Gather, Scatter, Allgather, Alltoall}
 use Rattle.coll_run.specs.Teams.{MemberView}
 use Rattle.coll_program.specs.Pieces.{dst_at, dst_of}
-use Rattle.coll_program.specs.Texts.{line_by, lines_by, shown_of}
+use Rattle.coll_program.specs.Texts.{got_line, lines_by, shown_of}
 
 module _ (more : More) (f g : ℕ → List ℕ) where
-  lines_from : (a n : ℕ) → ((k : ℕ) → a ≤ k → k < a + n → f k ≡ g k) → joined (map (λ rank. line_by more rank (f rank)) (range_with_len a n)) ≡ joined (map (λ rank. line_by more rank (g rank)) (range_with_len a n))
+  lines_from : (a n : ℕ) → ((k : ℕ) → a ≤ k → k < a + n → f k ≡ g k) → joined (map (λ rank. got_line more rank (f rank)) (range_with_len a n)) ≡ joined (map (λ rank. got_line more rank (g rank)) (range_with_len a n))
   lines_from a zero same = refl
-  lines_from a (suc n) same = λ i. line_by more a (same a (omega arith) (omega arith) i) ++ lines_from (a + 1) n (λ k low less. same k (omega (arith, low)) (omega (arith, less))) i
+  lines_from a (suc n) same = λ i. got_line more a (same a (omega arith) (omega arith) i) ++ lines_from (a + 1) n (λ k low less. same k (omega (arith, low)) (omega (arith, less))) i
 
 shown_within : (more : More) (nue : ℕ) → 1 ≤ nue → shown_of more nue ≤ nue
 shown_within Gather nue some = some

@@ -21,27 +21,27 @@ more_of word =
     else (if bytes_eq word (codes "alltoall") then Some Alltoall else None)))
 
 -- a job, where there are such a number of ranks, a call and a length
-abbrev pub job_with : Option ℕ → Option More → Option ℕ → Option Job
-job_with (Some nue) (Some more) (Some len) = Some (record { nue = nue; more = more; len = len })
-job_with nue more len = None
+abbrev pub coll_job_with : Option ℕ → Option More → Option ℕ → Option Job
+coll_job_with (Some nue) (Some more) (Some len) = Some (record { nue = nue; more = more; len = len })
+coll_job_with nue more len = None
 
 -- the words `N KIND LEN`, and no others
-abbrev pub job_of : List (List ℕ) → Option Job
-job_of (count ∷ kind ∷ len ∷ []) = job_with (ue_count_of count) (more_of kind) (number_in 0 1024 len)
-job_of _ = None
+abbrev pub coll_job_of : List (List ℕ) → Option Job
+coll_job_of (count ∷ kind ∷ len ∷ []) = coll_job_with (ue_count_of count) (more_of kind) (number_in 0 1024 len)
+coll_job_of _ = None
 
 -- a run always finishes
 abbrev pub job_ran : Job → Ran
 job_ran job = record { finished = true; out = job_text job; err = [] }
 
 -- the words: refused, or a job
-abbrev pub words_plan : Option Job → Result Plan (List ℕ)
-words_plan None = Err (codes "words refused")
-words_plan (Some job) = Ok (Runs (job_ran job))
+abbrev pub coll_words_plan : Option Job → Result Plan (List ℕ)
+coll_words_plan None = Err (codes "words refused")
+coll_words_plan (Some job) = Ok (Runs (job_ran job))
 
 -- the program, by its name and what it does on its words
 abbrev pub rccecoll : Program
-rccecoll = record { name = codes "rccecoll"; plan = λ words. words_plan (job_of words) }
+rccecoll = record { name = codes "rccecoll"; plan = λ words. coll_words_plan (coll_job_of words) }
 
 -- it is handed no files
 abbrev pub no_files : FilesView

@@ -6,5 +6,5 @@ use Rattle.coll_program.specs.Texts.{lines_by}
 use Rattle.coll_program.specs.declared.report.Report.{Report}
 
 -- a report tells the lines of its ranks
-abbrev pub report_ran : Report → Ran
-report_ran report = record { finished = true; out = lines_by report.job.more report.job.nue (dst_at report.team.items); err = [] }
+abbrev pub coll_report_ran : Report → Ran
+coll_report_ran report = record { finished = true; out = lines_by report.job.more report.job.nue (dst_at report.team.items); err = [] }

@@ -6,10 +6,10 @@ use Rattle.outcomes.specs.Coming.{IsMeant}
 use Rattle.outcomes.specs.Complaints.{complaint_outcome, outcome_of}
 use Rattle.outcomes.specs.Outcomes.{no_memory}
 use Rattle.outcomes.specs.declared.complaint.Complaint.{Complaint}
-use Rattle.coll_program.specs.History.{ChipTells, HasRun}
+use Rattle.coll_program.specs.History.{CollChipTells, HasRun}
 use Rattle.coll_program.specs.Jobs.{src_of}
-use Rattle.coll_program.specs.Program.{job_ran, job_of, no_files, words_plan}
-use Rattle.coll_program.specs.Reports.{report_ran}
+use Rattle.coll_program.specs.Program.{job_ran, coll_job_of, no_files, coll_words_plan}
+use Rattle.coll_program.specs.Reports.{coll_report_ran}
 use Rattle.coll_program.specs.declared.command.Job.{Job}
 use Rattle.coll_program.specs.declared.report.Report.{Report}
 
@@ -24,12 +24,13 @@ abbrev pub IsTeamOf : Job → List MemberView → Type 0
 IsTeamOf job team = AreRanksOf job job.nue team
 
 -- a run took place, or there was no memory for it
-abbrev pub Launches : Job → ChipView → Result Report Complaint → Type 0
-Launches job chip (Ok report) = (report_ran report ≡ job_ran job) × HasRun job chip
-Launches job chip (Err why) = (complaint_outcome (codes "rccecoll") why ≡ no_memory (codes "rccecoll")) × (chip ≡ None)
+abbrev pub LaunchesJob : Job → ChipView → Result Report Complaint → Type 0
+LaunchesJob job chip (Ok report) = (coll_report_ran report ≡ job_ran job) × HasRun job chip
+LaunchesJob job chip (Err why) = (complaint_outcome (codes "rccecoll") why ≡ no_memory (codes "rccecoll")) × (chip ≡ None)
 
 -- what was done is what the words mean, and the chip tells it
 abbrev pub RunsWords : List (List ℕ) → ChipView → Result Report Complaint → Type 0
 RunsWords words chip answer =
-    IsMeant (codes "rccecoll") (words_plan (job_of words)) no_files no_files (outcome_of (codes "rccecoll") report_ran answer)
-    × ChipTells words chip (outcome_of (codes "rccecoll") report_ran answer)
+    IsMeant (codes "rccecoll") (coll_words_plan (coll_job_of words)) no_files no_files
+    (outcome_of (codes "rccecoll") coll_report_ran answer)
+    × CollChipTells words chip (outcome_of (codes "rccecoll") coll_report_ran answer)

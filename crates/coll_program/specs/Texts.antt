@@ -9,19 +9,19 @@ use Rattle.coll_program.specs.Jobs.{got_by}
 use Rattle.coll_program.specs.declared.command.Job.{Job}
 
 -- the word of a call
-abbrev pub kind_text : More → List ℕ
-kind_text Gather = codes "gather"
-kind_text Scatter = codes "scatter"
-kind_text Allgather = codes "allgather"
-kind_text Alltoall = codes "alltoall"
+abbrev pub more_word : More → List ℕ
+more_word Gather = codes "gather"
+more_word Scatter = codes "scatter"
+more_word Allgather = codes "allgather"
+more_word Alltoall = codes "alltoall"
 
 -- the front of a line: the rank and the call
-abbrev pub front_of : More → (rank : ℕ) → List ℕ
-front_of more rank = joined (codes "ue " ∷ decimal rank ∷ codes " " ∷ kind_text more ∷ codes " " ∷ [])
+abbrev pub line_front : More → (rank : ℕ) → List ℕ
+line_front more rank = joined (codes "ue " ∷ decimal rank ∷ codes " " ∷ more_word more ∷ codes " " ∷ [])
 
 -- the line of a rank that has got these bytes
-abbrev pub line_by : More → (rank : ℕ) → List ℕ → List ℕ
-line_by more rank bytes = front_of more rank ++ (hex_text bytes ++ codes "\n")
+abbrev pub got_line : More → (rank : ℕ) → List ℕ → List ℕ
+got_line more rank bytes = line_front more rank ++ (hex_text bytes ++ codes "\n")
 
 -- how many ranks have a line: all of them, and of a gather the root alone
 abbrev pub shown_of : More → ℕ → ℕ
@@ -30,7 +30,7 @@ shown_of more nue = nue
 
 -- the lines of the ranks that have one, where each has got these bytes
 abbrev pub lines_by : More → (nue : ℕ) → (ℕ → List ℕ) → List ℕ
-lines_by more nue got = joined (map (λ rank. line_by more rank (got rank)) (range_with_len 0 (shown_of more nue)))
+lines_by more nue got = joined (map (λ rank. got_line more rank (got rank)) (range_with_len 0 (shown_of more nue)))
 
 -- the lines of a job
 abbrev pub job_text : Job → List ℕ

@@ -1,7 +1,7 @@
 //! The words after the program's name.
 
 ghost use Rattle.std.specs.Prelude.{◌≡◌, ◌≤◌, ◌∷◌, [], map, string_bytes, IfSome};
-ghost use Rattle.coll_program.specs.Program.{job_of, more_of};
+ghost use Rattle.coll_program.specs.Program.{coll_job_of, more_of};
 
 use coll_more::More;
 use outcomes::ue_count;
@@ -36,7 +36,7 @@ fn more_of(word: &str) -> Option<More>
 
 /// What three words ask for.
 fn job_by(count: &str, kind: &str, len: &str) -> Option<Job>
-    ensures gives { result ≡ job_of (count.now ∷ kind.now ∷ len.now ∷ []) }
+    ensures gives { result ≡ coll_job_of (count.now ∷ kind.now ∷ len.now ∷ []) }
     ensures some { IfSome result (λ job. 1 ≤ job.nue) }
     ensures most { IfSome result (λ job. job.nue ≤ 48) }
     ensures short { IfSome result (λ job. job.len ≤ 1024) }
@@ -50,7 +50,7 @@ fn job_by(count: &str, kind: &str, len: &str) -> Option<Job>
 
 /// What the words ask for, if they are `N KIND LEN`. No memory is taken.
 pub fn job_of(words: &[String]) -> Option<Job>
-    ensures gives { result ≡ job_of (map string_bytes words.now) }
+    ensures gives { result ≡ coll_job_of (map string_bytes words.now) }
     ensures some { IfSome result (λ job. 1 ≤ job.nue) }
     ensures most { IfSome result (λ job. job.nue ≤ 48) }
     ensures short { IfSome result (λ job. job.len ≤ 1024) }

@@ -3,11 +3,11 @@
 ghost use Rattle.std.specs.Prelude.{◌≡◌, ◌≤◌, map, string_bytes, None};
 ghost use Rattle.outcomes.specs.Delivery.{sinks};
 ghost use Rattle.outcomes.specs.Promises.{EndsWith, Promises};
-ghost use Rattle.coll_program.specs.History.{ChipTells, HasRun};
-ghost use Rattle.coll_program.specs.Jobs.{setup_of};
+ghost use Rattle.coll_program.specs.History.{CollChipTells, HasRun};
+ghost use Rattle.coll_program.specs.Jobs.{coll_setup_of};
 ghost use Rattle.coll_program.specs.Program.{job_ran, no_files, rccecoll};
-ghost use Rattle.coll_program.specs.Reports.{report_ran};
-ghost use Rattle.coll_program.specs.Runs.{IsTeamOf, Launches, RunsWords};
+ghost use Rattle.coll_program.specs.Reports.{coll_report_ran};
+ghost use Rattle.coll_program.specs.Runs.{IsTeamOf, LaunchesJob, RunsWords};
 ghost use Rattle.scc_mesh.specs.Scenes.{IsNew};
 
 use crate::command::{Job, job_of};
@@ -40,7 +40,7 @@ pub fn rccecoll<O: Sink, E: Sink>(
         (sinks (O.seen out.old) (E.seen err.old)) (sinks (O.seen out.new) (E.seen err.new)) result }
     // The chip history: with the status 0 each rank has made exactly the calls of its table, with their bytes, and no call is
     // open; with 1 and 4 the chip is blank. Where a write failed, it is as the outcome says that was to be written.
-    ensures history { EndsWith (ChipTells (map string_bytes words.now) chip.new) rccecoll (map string_bytes words.now) no_files no_files
+    ensures history { EndsWith (CollChipTells (map string_bytes words.now) chip.new) rccecoll (map string_bytes words.now) no_files no_files
         (sinks (O.seen out.old) (E.seen err.old)) (sinks (O.seen out.new) (E.seen err.new)) result }
 {
     let ending = run_words(alloc, words, chip);
@@ -64,7 +64,7 @@ fn launch<'a>(alloc: Global, job: &Job, chip: &mut Chip) -> Result<Report, Compl
     requires some { 1 ≤ job.now.nue }
     requires most { job.now.nue ≤ 48 }
     requires short { job.now.len ≤ 1024 }
-    ensures { Launches job.now chip.new result }
+    ensures { LaunchesJob job.now chip.new result }
 {
     let Ok(team) = team_of(alloc, job) else {
         return Err(Complaint::Memory);
@@ -78,9 +78,9 @@ fn launch<'a>(alloc: Global, job: &Job, chip: &mut Chip) -> Result<Report, Compl
 // Runs the ranks on the chip.
 fn run_team(job: &Job, mut team: Vec<Member<Never>>, chip: &mut Chip) -> Report
     requires some { 1 ≤ job.now.nue }
-    requires new { IsNew (setup_of job.now.nue) chip.old }
+    requires new { IsNew (coll_setup_of job.now.nue) chip.old }
     requires team { IsTeamOf job.now team.items }
-    ensures ran { report_ran result ≡ job_ran job.now }
+    ensures ran { coll_report_ran result ≡ job_ran job.now }
     ensures has_run { HasRun job.now chip.new }
 {
     run(chip, team.as_mut_slice());

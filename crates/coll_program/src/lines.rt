@@ -2,7 +2,7 @@
 
 ghost use Rattle.std.specs.Prelude.{◌≡◌, ◌≤◌, length};
 ghost use Rattle.rcce_io.specs.Sending.{Sends};
-ghost use Rattle.coll_program.specs.Texts.{front_of, kind_text, line_by, lines_by, shown_of};
+ghost use Rattle.coll_program.specs.Texts.{line_front, more_word, got_line, lines_by, shown_of};
 ghost use Rattle.coll_program.specs.Pieces.{dst_at};
 
 use coll_more::More;
@@ -13,7 +13,7 @@ use rcce_io::{Sink, WriteFault, write_all, write_hex, write_texts};
 
 /// The word of a call.
 fn kind_word(more: More) -> &'static str
-    ensures gives { result.now ≡ kind_text more }
+    ensures gives { result.now ≡ more_word more }
 {
     match more {
         More::Gather => "gather",
@@ -25,7 +25,7 @@ fn kind_word(more: More) -> &'static str
 
 /// Writes the front of a line: the rank and the call.
 fn write_front<S: Sink>(sink: &mut S, more: More, rank: u8) -> Result<(), WriteFault>
-    ensures { Sends (front_of more rank) (S.seen sink.old) (S.seen sink.new) result }
+    ensures { Sends (line_front more rank) (S.seen sink.old) (S.seen sink.new) result }
 {
     write_texts(
         sink,
@@ -41,7 +41,7 @@ fn write_front<S: Sink>(sink: &mut S, more: More, rank: u8) -> Result<(), WriteF
 
 /// Writes the line of a rank that has got these bytes.
 fn write_line<S: Sink>(sink: &mut S, more: More, rank: u8, bytes: &[u8]) -> Result<(), WriteFault>
-    ensures { Sends (line_by more rank bytes.now) (S.seen sink.old) (S.seen sink.new) result }
+    ensures { Sends (got_line more rank bytes.now) (S.seen sink.old) (S.seen sink.new) result }
 {
     write_front(sink, more, rank)?;
     write_hex(sink, bytes)?;

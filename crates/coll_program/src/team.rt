@@ -1,7 +1,7 @@
 //! The ranks of a run before their first turns, and the setup of its chip.
 
 ghost use Rattle.std.specs.Prelude.{◌≡◌, ◌≤◌, ◌<◌, IfOk};
-ghost use Rattle.coll_program.specs.Jobs.{byte_at, setup_of, src_of};
+ghost use Rattle.coll_program.specs.Jobs.{handed_byte, coll_setup_of, src_of};
 ghost use Rattle.coll_program.specs.Runs.{IsTeamOf};
 
 use crate::command::Job;
@@ -16,7 +16,7 @@ use std::alloc::{AllocError, Global};
 fn byte_of(more: More, rank: Rank, len: u32, i: usize) -> u8
     requires some { 1 ≤ len }
     requires few { i < 65536 }
-    ensures gives { result ≡ byte_at more rank len i }
+    ensures gives { result ≡ handed_byte more rank len i }
 {
     let rank = rank.number() as usize;
     let len = len as usize;
@@ -59,7 +59,7 @@ pub fn team_of(alloc: Global, job: &Job) -> Result<Vec<Member<Never>>, AllocErro
 pub fn setup_of(nue: u8) -> Setup
     requires some { 1 ≤ nue }
     requires most { nue ≤ 48 }
-    ensures gives { result ≡ setup_of nue }
+    ensures gives { result ≡ coll_setup_of nue }
 {
     let Some(setup) = Setup::new(nue, Layout::lines(), default_hosts(), world_alone()) else {
         unreachable!()

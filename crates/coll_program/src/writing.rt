@@ -5,9 +5,9 @@ use crate::report::Report;
 use rcce_io::{Sink, WriteFault};
 
 impl outcomes::Report for Report {
-    ghost use Rattle.coll_program.specs.Reports.{report_ran};
+    ghost use Rattle.coll_program.specs.Reports.{coll_report_ran};
 
-    ghost ran = { report_ran };
+    ghost ran = { coll_report_ran };
 
     fn is_finished(&self) -> bool {
         true

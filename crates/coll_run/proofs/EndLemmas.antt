@@ -14,7 +14,7 @@ use Rattle.scc_mesh.specs.Scenes.{ChipView, about_in, events_in, records_in}
 use Rattle.send_recv.specs.Calling.{IsBetweenMessages}
 use Rattle.send_recv.specs.Ops.{SlotAt}
 use Rattle.send_recv.proofs.Starts.{free_at_start}
-use Rattle.chip_run.specs.Crews.{AllRest, GoesOn, IsCrew}
+use Rattle.chip_run.specs.Crews.{AllRest, CrewGoesOn, IsCrew}
 use Rattle.chip_run.specs.Turns.{RestsAt}
 use Rattle.chip_run.specs.Waiting.{Waits}
 use Rattle.chip_run.specs.Wants.{Want}
@@ -30,7 +30,7 @@ use Rattle.coll_more.specs.declared.ops.Stage.TheVariants.{Own, Between, Sending
 use Rattle.coll_more.proofs.EndLemmas.{begins, ended_by}
 use Rattle.coll_more.proofs.PieceLemmas.{pieces_there}
 use Rattle.coll_run.specs.Resting.{AtEnd, HaveRested, Looks, Met, Rests, want_at}
-use Rattle.coll_run.specs.Teams.{HaveEnded, IsFreshMember, IsFreshTeam, MemberStands, MemberView, seat_of, sight_of, srcs_of}
+use Rattle.coll_run.specs.Teams.{TeamHasEnded, IsFreshMember, IsFreshTeam, MemberStands, MemberView, seat_of, sight_of, srcs_of}
 use Rattle.coll_run.specs.Workers.{IsTied, member_conduct, member_seen, member_want}
 use Rattle.coll_run.proofs.RestLemmas.{all_over, passed_is}
 
@@ -85,7 +85,7 @@ wants_none false (Sending call op) is = absurd (cc (is))
 wants_none false (Receiving call op) is = absurd (cc (is))
 
 module _ (more : More) (len : ℕ) (chip now : ChipView) (team later : List MemberView) (d : MemberView) (memory : Memory) (agrees : Agrees (about_in now) memory (records_in now))
-    (fresh : IsFreshTeam more len chip team) (is : IsCrew member_conduct now later) (goes : GoesOn member_conduct chip team now later) (rests : AllRest member_conduct now later (length later)) where
+    (fresh : IsFreshTeam more len chip team) (is : IsCrew member_conduct now later) (goes : CrewGoesOn member_conduct chip team now later) (rests : AllRest member_conduct now later (length later)) where
   abbrev s : SetupView
   s = about_in now
 
@@ -214,12 +214,12 @@ module _ (more : More) (len : ℕ) (chip now : ChipView) (team later : List Memb
       ∙ (λ i. data_calls more k (same_nue i) len (same_all k i) (pieces_now k low i))
 
 module _ (more : More) (len : ℕ) (chip now : ChipView) (team later : List MemberView) (memory : Memory) (agrees : Agrees (about_in now) memory (records_in now))
-    (fresh : IsFreshTeam more len chip team) (is : IsCrew member_conduct now later) (goes : GoesOn member_conduct chip team now later) (rests : AllRest member_conduct now later (length later)) where
+    (fresh : IsFreshTeam more len chip team) (is : IsCrew member_conduct now later) (goes : CrewGoesOn member_conduct chip team now later) (rests : AllRest member_conduct now later (length later)) where
   some_at : (xs : List MemberView) (k : ℕ) → k < length xs → MemberView
   some_at [] k low = absurd (omega (arith, low))
   some_at (x ∷ xs) k low = x
 
-  pub have_ended : HaveEnded more len chip team now later
+  pub have_ended : TeamHasEnded more len chip team now later
   have_ended = record {
     about = goes.about;
     whole = is.whole;

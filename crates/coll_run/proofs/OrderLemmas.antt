@@ -11,7 +11,7 @@ use Rattle.coll_more.specs.declared.kinds.Way.{Way}
 use Rattle.coll_more.specs.declared.kinds.Way.TheVariants.{Gives, Takes}
 use Rattle.coll_more.proofs.ListLemmas.{get_behind, some_same}
 use Rattle.coll_more.proofs.TableLemmas.{high_pair, low_pair, pairs_end, root_at, root_none}
-use Rattle.coll_run.specs.Order.{IsOtherSide, delay, number_at, number_of}
+use Rattle.coll_run.specs.Order.{IsOtherSide, delay, number_at, message_number}
 
 -- ---- numbers
 
@@ -21,10 +21,10 @@ lt_true a b below = grind (arith, nat_tests)
 lt_false : (a b : ℕ) → b ≤ a → nat_lt a b ≡ false
 lt_false a b past = grind (arith, nat_tests)
 
-up : (more : More) (nue from to : ℕ) → from < to → number_of more nue from to ≡ 2 * (from + to) + delay more nue
+up : (more : More) (nue from to : ℕ) → from < to → message_number more nue from to ≡ 2 * (from + to) + delay more nue
 up more nue from to less = ap (λ (b : Bool). 2 * (from + to) + (if b then delay more nue else 1)) (lt_true from to less)
 
-down : (more : More) (nue from to : ℕ) → to ≤ from → number_of more nue from to ≡ 2 * (from + to) + 1
+down : (more : More) (nue from to : ℕ) → to ≤ from → message_number more nue from to ≡ 2 * (from + to) + 1
 down more nue from to past = ap (λ (b : Bool). 2 * (from + to) + (if b then delay more nue else 1)) (lt_false from to past)
 
 -- ---- lists whose numbers rise

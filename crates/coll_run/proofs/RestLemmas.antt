@@ -44,7 +44,7 @@ use Rattle.coll_more.specs.declared.kinds.Way.TheVariants.{Gives, Shares, Takes}
 use Rattle.coll_more.specs.declared.ops.Stage.{Stage}
 use Rattle.coll_more.specs.declared.ops.Stage.TheVariants.{Own, Between, Sending, Receiving}
 use Rattle.coll_more.proofs.ListLemmas.{some_same}
-use Rattle.coll_run.specs.Order.{IsOtherSide, number_at, number_by, number_of}
+use Rattle.coll_run.specs.Order.{IsOtherSide, number_at, number_by, message_number}
 use Rattle.coll_run.specs.Resting.{AtEnd, HaveRested, Looks, Met, Rests, want_at}
 use Rattle.coll_run.specs.Teams.{MemberView, seat_of, sight_of}
 use Rattle.coll_run.proofs.CallLemmas.{at_taken, got_some, is_plain, none_left, plain_made, sent_some, some_before, some_got, some_sent, taken_at}
@@ -57,7 +57,7 @@ by_test false yes_it not_it = not_it refl
 -- ---- the number of a message at both its ranks
 
 module _ (more : More) (nue : ℕ) where
-  by_way : (rank : ℕ) (w : Way) (peer : ℕ) → number_by more nue rank w peer ≡ (if is_taking w then number_of more nue peer rank else number_of more nue rank peer)
+  by_way : (rank : ℕ) (w : Way) (peer : ℕ) → number_by more nue rank w peer ≡ (if is_taking w then message_number more nue peer rank else message_number more nue rank peer)
   by_way rank Gives peer = refl
   by_way rank Shares peer = refl
   by_way rank Takes peer = refl
@@ -65,17 +65,17 @@ module _ (more : More) (nue : ℕ) where
   same_side : (rank : ℕ) (one other : PieceCall) → is_taking one.way ≡ is_taking other.way → one.peer ≡ other.peer → number_at more nue rank one ≡ number_at more nue rank other
   same_side rank one other way peer =
       by_way rank one.way one.peer
-      ∙ (λ i. if way i then number_of more nue (peer i) rank else number_of more nue rank (peer i))
+      ∙ (λ i. if way i then message_number more nue (peer i) rank else message_number more nue rank (peer i))
       ∙ sym (by_way rank other.way other.peer)
 
-  turned : (b : Bool) (i j : ℕ) → ◌≡◌ {A = ℕ} (if not b then number_of more nue i j else number_of more nue j i) (if b then number_of more nue j i else number_of more nue i j)
+  turned : (b : Bool) (i j : ℕ) → ◌≡◌ {A = ℕ} (if not b then message_number more nue i j else message_number more nue j i) (if b then message_number more nue j i else message_number more nue i j)
   turned true i j = refl
   turned false i j = refl
 
   other_side : (rank : ℕ) (one other : PieceCall) → IsOtherSide rank one other → number_at more nue one.peer other ≡ number_at more nue rank one
   other_side rank one other is =
       by_way one.peer other.way other.peer
-      ∙ (λ i. if is.way i then number_of more nue (is.peer i) one.peer else number_of more nue one.peer (is.peer i))
+      ∙ (λ i. if is.way i then message_number more nue (is.peer i) one.peer else message_number more nue one.peer (is.peer i))
       ∙ turned (is_taking one.way) rank one.peer
       ∙ sym (by_way rank one.way one.peer)
 

@@ -14,13 +14,13 @@ delay more nue = 0
 
 -- The number of the message from one rank to another: pairs of ranks go by the sum of the two, and of the two messages of a
 -- pair that of the lower rank goes first.
-abbrev pub number_of : More → (nue from to : ℕ) → ℕ
-number_of more nue from to = 2 * (from + to) + (if nat_lt from to then delay more nue else 1)
+abbrev pub message_number : More → (nue from to : ℕ) → ℕ
+message_number more nue from to = 2 * (from + to) + (if nat_lt from to then delay more nue else 1)
 
 -- the number of a message with a peer, by which of the two ranks sends it
 abbrev pub number_by : More → (nue rank : ℕ) → Way → (peer : ℕ) → ℕ
-number_by more nue rank Takes peer = number_of more nue peer rank
-number_by more nue rank way peer = number_of more nue rank peer
+number_by more nue rank Takes peer = message_number more nue peer rank
+number_by more nue rank way peer = message_number more nue rank peer
 
 -- the number of a message of a rank's table
 abbrev pub number_at : More → (nue rank : ℕ) → PieceCall → ℕ

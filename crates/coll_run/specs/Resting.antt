@@ -31,7 +31,8 @@ pub data Rests (s : SetupView) (memory : Memory) (rec : Record) (rank : ℕ) (op
   Met : (sent : MessageHead) → MetOther rec sent op.stage → Rests s memory rec rank op
 
 -- every rank of a run rests, where its events stand
-pub record HaveRested (more : More) (len : ℕ) (s : SetupView) (memory : Memory) (lists : ℕ → List Event) (members : ℕ → MemberView) : Type 0 where
+pub record HaveRested (more : More) (len : ℕ) (s : SetupView) (memory : Memory) (lists : ℕ → List Event)
+    (members : ℕ → MemberView) : Type 0 where
   pub agrees : Agrees s memory (records_by s lists)
   pub stands : (k : ℕ) → k < s.nue → MemberStands more len (members k) s k (lists k)
   pub rests : (k : ℕ) → k < s.nue → Rests s memory (records_by s lists k) k (members k).op

@@ -72,12 +72,15 @@ pub record IsFreshTeam (more : More) (len : ℕ) (chip : ChipView) (team : List 
 
 -- A run is over: it is the same chip, all its ranks are at home, and each has got its pieces of what the ranks handed in. Its
 -- finished calls are exactly those of its table, in order and with their bytes; no call is open, and no message is in draft.
-pub record HaveEnded (more : More) (len : ℕ) (chip : ChipView) (team : List MemberView) (now : ChipView) (later : List MemberView) : Type 0 where
+pub record TeamHasEnded (more : More) (len : ℕ) (chip : ChipView) (team : List MemberView) (now : ChipView)
+    (later : List MemberView) : Type 0 where
   pub about : about_in now ≡ about_in chip
   pub whole : IsWhole now
   pub count : length later ≡ length team
-  pub pieces : (k : ℕ) (d : MemberView) → k < length team → (slice_index_or later k d).dst ≡ pieces_for more (about_in chip).nue len (srcs_of team d) k
+  pub pieces : (k : ℕ) (d : MemberView) → k < length team
+      → (slice_index_or later k d).dst ≡ pieces_for more (about_in chip).nue len (srcs_of team d) k
   pub calls : (k : ℕ) (d : MemberView) → k < length team
-      → (records_in now k).calls ≡ data_calls more k (about_in chip).nue len (srcs_of team d k) (pieces_for more (about_in chip).nue len (srcs_of team d) k)
+      → (records_in now k).calls
+      ≡ data_calls more k (about_in chip).nue len (srcs_of team d k) (pieces_for more (about_in chip).nue len (srcs_of team d) k)
   pub none_open : (k : ℕ) → k < length team → open_call (about_in now) (records_in now k) ≡ None
   pub idle : (k : ℕ) → k < length team → (records_in now k).stage ≡ Idle

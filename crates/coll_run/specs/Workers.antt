@@ -47,9 +47,11 @@ pub record Stays (old new : MemberView) : Type 0 where
   pub src : new.src ≡ old.src
 
 -- a turn of the call of a rank through its port
-pub record HasGoneOn (stepped : Seat → List Event → Event → Type 0) (old : MemberView) (s : Sight) (new : MemberView) (t : Sight) (answer : RecvTurn) : Type 0 where
+pub record HasGoneOn (stepped : Seat → List Event → Event → Type 0) (old : MemberView) (s : Sight) (new : MemberView) (t : Sight)
+    (answer : RecvTurn) : Type 0 where
   pub stands : MoreStands [] (taking_part t new.core new.op new.slot new.src new.dst)
-  pub turned : MoreTurned (taking_part s old.core old.op old.slot old.src old.dst) (taking_part t new.core new.op new.slot old.src new.dst) answer
+  pub turned : MoreTurned (taking_part s old.core old.op old.slot old.src old.dst)
+      (taking_part t new.core new.op new.slot old.src new.dst) answer
   pub steps : (spot : Spot) → recv_waits answer ≡ Some spot → MadeSteps stepped s t
   pub src : new.src ≡ old.src
   pub met : new.met ≡ old.met

@@ -19,7 +19,8 @@ pub fn order_law()
         → slice_get (calls_of more rank nue len) i ≡ Some one → slice_get (calls_of more rank nue len) j ≡ Some other
         → number_at more nue rank one < number_at more nue rank other }
     // Each message stands in the table of its other rank too, as a message of the same length the other way.
-    ensures mirrored { (more : More) (nue len rank i : ℕ) (one : PieceCall) → rank < nue → slice_get (calls_of more rank nue len) i ≡ Some one
+    ensures mirrored { (more : More) (nue len rank i : ℕ) (one : PieceCall) → rank < nue
+        → slice_get (calls_of more rank nue len) i ≡ Some one
         → (j : ℕ) × (other : PieceCall) × (slice_get (calls_of more one.peer nue len) j ≡ Some other) × IsOtherSide rank one other }
 {}
 

@@ -2,7 +2,7 @@
 
 ghost use Rattle.std.specs.Prelude.{◌≡◌, ℕ};
 ghost use Rattle.coll_more.specs.declared.kinds.More.{More};
-ghost use Rattle.coll_run.specs.Teams.{HaveEnded, IsFreshTeam};
+ghost use Rattle.coll_run.specs.Teams.{TeamHasEnded, IsFreshTeam};
 
 use crate::members::Member;
 use chip_run::run_by_sweeps;
@@ -14,7 +14,8 @@ use scc_mesh::Chip;
 pub fn run<V: Evict + Drop>(chip: &mut Chip, team: &mut [Member<V>])
     requires fresh { (more : More) × (len : ℕ) × IsFreshTeam more len chip.old team.old }
     // Each rank has made exactly the calls of its table, with their bytes, is in no call, and has got its pieces.
-    ensures ended { (more : More) (len : ℕ) → IsFreshTeam more len chip.old team.old → HaveEnded more len chip.old team.old chip.new team.new }
+    ensures ended { (more : More) (len : ℕ) → IsFreshTeam more len chip.old team.old
+        → TeamHasEnded more len chip.old team.old chip.new team.new }
 {
     run_by_sweeps(chip, team);
     chip.agrees();

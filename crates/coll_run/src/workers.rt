@@ -32,7 +32,8 @@ impl<V: Evict + Drop> Member<V> {
     fn turn_on<P: Port>(&mut self, port: &mut P) -> Turn
         requires ties { IsTied self.old (P.sight port.old).seat.setup (P.sight port.old).seat.rank (P.sight port.old).events }
         ensures ties { IsTied self.new (P.sight port.new).seat.setup (P.sight port.new).seat.rank (P.sight port.new).events }
-        ensures turned { Turned member_conduct (P.stepped (P.sight port.old).seat) self.old (P.sight port.old) self.new (P.sight port.new) result }
+        ensures turned { Turned member_conduct (P.stepped (P.sight port.old).seat) self.old (P.sight port.old) self.new
+            (P.sight port.new) result }
     {
         if self.met {
             return Turn::Done;

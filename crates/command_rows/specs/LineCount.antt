@@ -14,18 +14,18 @@ abbrev pub count_ran : ℕ → Ran
 count_ran lines = record { finished = true; out = decimal lines ++ (codes "\n" ++ []); err = [] }
 
 -- the plan for a file's bytes: their lines are counted
-abbrev pub bytes_plan : List ℕ → Plan
-bytes_plan bytes = Runs (count_ran (lines_in bytes))
+abbrev pub count_bytes_plan : List ℕ → Plan
+count_bytes_plan bytes = Runs (count_ran (lines_in bytes))
 
 -- a file of at most 5,000 bytes
-abbrev pub file_plan : List ℕ → Plan
-file_plan file = Reads file 5000 bytes_plan
+abbrev pub count_file_plan : List ℕ → Plan
+count_file_plan file = Reads file 5000 count_bytes_plan
 
 -- the words are one file's name
-abbrev pub words_plan : List (List ℕ) → Result Plan (List ℕ)
-words_plan (file ∷ []) = if is_option file then Err (codes "words refused") else Ok (file_plan file)
-words_plan _ = Err (codes "words refused")
+abbrev pub count_words_plan : List (List ℕ) → Result Plan (List ℕ)
+count_words_plan (file ∷ []) = if is_option file then Err (codes "words refused") else Ok (count_file_plan file)
+count_words_plan _ = Err (codes "words refused")
 
 -- the program `lines`, which counts the lines of a file
 abbrev pub lines : Program
-lines = record { name = codes "lines"; plan = words_plan }
+lines = record { name = codes "lines"; plan = count_words_plan }

@@ -5,7 +5,7 @@ ghost use Rattle.outcomes.specs.Coming.{Comes, IsMeant};
 ghost use Rattle.outcomes.specs.Complaints.{outcome_of};
 ghost use Rattle.outcomes.specs.Delivery.{sinks};
 ghost use Rattle.outcomes.specs.Promises.{Promises};
-ghost use Rattle.command_rows.specs.LineCount.{count_ran, file_plan, lines, lines_in, words_plan};
+ghost use Rattle.command_rows.specs.LineCount.{count_ran, count_file_plan, lines, lines_in, count_words_plan};
 
 use outcomes::{Complaint, Report, Status, deliver, is_option, read_file};
 use rcce_io::Piece::{Number, Text};
@@ -66,7 +66,7 @@ fn count_words<'a, F: Files>(
     words: &'a [String],
     files: &mut F,
 ) -> Result<Count, Complaint<'a>>
-    ensures { IsMeant (codes "lines") (words_plan (map string_bytes words.now)) (F.seen files.old) (F.seen files.new)
+    ensures { IsMeant (codes "lines") (count_words_plan (map string_bytes words.now)) (F.seen files.old) (F.seen files.new)
         (outcome_of (codes "lines") count_ran result) }
 {
     match words {
@@ -80,7 +80,7 @@ fn count_file<'a, F: Files>(
     files: &mut F,
     file: &'a str,
 ) -> Result<Count, Complaint<'a>>
-    ensures { Comes (codes "lines") (file_plan file.now) (F.seen files.old) (F.seen files.new)
+    ensures { Comes (codes "lines") (count_file_plan file.now) (F.seen files.old) (F.seen files.new)
         (outcome_of (codes "lines") count_ran result) }
 {
     match read_file(alloc, files, file, FILE_BYTES) {

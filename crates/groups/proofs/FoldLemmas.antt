@@ -3,7 +3,7 @@ use Rattle.std.proofs.Common.{◌≡◌, refl, sym, ◌∙◌, ap, ℕ, zero, su
 use Rattle.std.specs.List.{flat_map, range_with_len}
 use Rattle.std.proofs.lemmas.List.{take_at, drop_at, append-nil, at_drop_all, drop-drop}
 use Rattle.std.proofs.Math.Nat.{div-mul-le_self, mod-eq-sub-div-mul}
-use Rattle.groups.specs.Folds.{bytes_in, bytes_of, combine, Fits, fold_first, fold_of, fold_values, value_at, value_of}
+use Rattle.groups.specs.Folds.{bytes_in, bytes_of, combine, Fits, fold_first, fold_of, fold_values, typed_value_at, value_of}
 use Rattle.groups.specs.declared.operations.Op.{Op}
 use Rattle.groups.specs.declared.operations.Ty.{Ty}
 use Rattle.groups.specs.declared.operations.Ty.TheVariants.{Int, Long}
@@ -22,7 +22,7 @@ bytes_length Long v = refl
 
 -- the bytes of the first values, and of one more
 abbrev one : Op → Ty → List ℕ → List ℕ → ℕ → List ℕ
-one op ty acc more i = bytes_of ty (combine op ty (value_at ty acc i) (value_at ty more i))
+one op ty acc more i = bytes_of ty (combine op ty (typed_value_at ty acc i) (typed_value_at ty more i))
 
 pub first_more : (op : Op) (ty : Ty) (n : ℕ) (acc more : List ℕ) → fold_first op ty (suc n) acc more ≡ fold_first op ty n acc more ++ one op ty acc more n
 first_more op ty n acc more = flat_more (one op ty acc more) 0 n n (sym (zero-add n))
@@ -32,7 +32,7 @@ first_length op ty zero acc more = omega arith
 first_length op ty (suc n) acc more =
     let rest : length (fold_first op ty n acc more) ≡ n * bytes_in ty = first_length op ty n acc more in
     let both = length-append (fold_first op ty n acc more) (one op ty acc more n) in
-    let last = bytes_length ty (combine op ty (value_at ty acc n) (value_at ty more n)) in
+    let last = bytes_length ty (combine op ty (typed_value_at ty acc n) (typed_value_at ty more n)) in
     rw (first_more op ty n acc more) (omega (arith, rest, both, last))
 
 -- one more value is put in its place, and what stands behind it stays

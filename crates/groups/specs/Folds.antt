@@ -34,12 +34,13 @@ combine Max ty a b = int_max a b
 combine Prod ty a b = int_wrap (width_of ty) (a *ℤ b)
 
 -- the i-th value of a list of bytes
-abbrev pub value_at : Ty → List ℕ → ℕ → ℤ
-value_at ty bytes i = value_of ty (take (bytes_in ty) (drop (i * bytes_in ty) bytes))
+abbrev pub typed_value_at : Ty → List ℕ → ℕ → ℤ
+typed_value_at ty bytes i = value_of ty (take (bytes_in ty) (drop (i * bytes_in ty) bytes))
 
 -- the bytes of the first n values of two lists, combined one by one
 abbrev pub fold_first : Op → Ty → ℕ → List ℕ → List ℕ → List ℕ
-fold_first op ty n acc more = flat_map (λ i. bytes_of ty (combine op ty (value_at ty acc i) (value_at ty more i))) (range_with_len 0 n)
+fold_first op ty n acc more =
+    flat_map (λ i. bytes_of ty (combine op ty (typed_value_at ty acc i) (typed_value_at ty more i))) (range_with_len 0 n)
 
 -- acc op more, value by value
 abbrev pub fold_values : Op → Ty → List ℕ → List ℕ → List ℕ

@@ -25,7 +25,7 @@ use Rattle.scc_proto.proofs.Agreement.SoundLaw.{sound_law}
 use Rattle.scc_proto.proofs.Agreement.HonestLaw.{told_law}
 use Rattle.scc_proto.proofs.Words.MemoryLemmas.{words_at_start, word_is, register_is, same_words, word_stored, register_freed, register_taken}
 use Rattle.lab_chip.specs.declared.chip.Made.{Made}
-use Rattle.lab_chip.specs.Chips.{LabChipView, of_rank, of_rank_all, all_events, with_turn, run_of, before_of, chip_view, IsChip, run_coded, lab_sight, WasStepHere}
+use Rattle.lab_chip.specs.Chips.{LabChipView, of_rank, of_rank_all, all_events, with_turn, events_made, before_of, chip_view, IsChip, run_coded, lab_sight, WasStepHere}
 
 -- ---- lists of events of all ranks
 
@@ -229,37 +229,37 @@ module _ (s : SetupView) (r : ℕ) (words : List ℕ) (all : List RankEvent) (ow
 abbrev IsBit : ℕ → Type 0
 IsBit n = (n ≡ 0) ⊎ (n ≡ 1)
 
-run_pushed : (all : List Made) (r : ℕ) (x : Event) (made : List Made) → made ≡ all ++ (record { rank = r; event = x }) ∷ [] → run_of made ≡ run_of all ++ of_rank r x ∷ []
-run_pushed all r x made is = ap run_of is ∙ map-append (λ (m : Made). of_rank m.rank m.event) all ((record { rank = r; event = x }) ∷ [])
+run_pushed : (all : List Made) (r : ℕ) (x : Event) (made : List Made) → made ≡ all ++ (record { rank = r; event = x }) ∷ [] → events_made made ≡ events_made all ++ of_rank r x ∷ []
+run_pushed all r x made is = ap events_made is ∙ map-append (λ (m : Made). of_rank m.rank m.event) all ((record { rank = r; event = x }) ∷ [])
 
-module _ (s : SetupView) (r : ℕ) (words : List ℕ) (held : List Made) (own : List Event) (chip : IsChip s r words (run_of held) own) (x : Event)
+module _ (s : SetupView) (r : ℕ) (words : List ℕ) (held : List Made) (own : List Event) (chip : IsChip s r words (events_made held) own) (x : Event)
     (made : List Made) (all_push : made ≡ held ++ (record { rank = r; event = x }) ∷ []) (later : List Event) (push : later ≡ own ++ x ∷ []) (n : ℕ) where
   read_at : (value : ℕ) → value ≡ get_or words n value → n < length words → value ≡ slice_index words n
   read_at value read within = get_or_read_under words n (length words) value 0 read within refl
 
   pub went_load : (place : WordAt) → IsPlace place → n ≡ word_number place.core place.line place.word → (value : ℕ) → value ≡ get_or words n value → value < 2 ^ 64 → x ≡ load_of place value
-      → WentOn s r (run_of held) own (load_of place value) words (run_of made) later
+      → WentOn s r (events_made held) own (load_of place value) words (events_made made) later
   unfolding record_in
   went_load place is number value read fits loaded =
-      went_on s r words (run_of held) own chip (load_of place value) words chip.count (is, fits) (word_is words place is ∙ sym (read_at value read within ∙ ap (slice_index words) number)) refl
-      (same_words (memory_of words) (memory_of words) refl) (run_of made) x later loaded (run_pushed held r x made all_push) push
+      went_on s r words (events_made held) own chip (load_of place value) words chip.count (is, fits) (word_is words place is ∙ sym (read_at value read within ∙ ap (slice_index words) number)) refl
+      (same_words (memory_of words) (memory_of words) refl) (events_made made) x later loaded (run_pushed held r x made all_push) push
     where
       within : n < length words
       within = omega (arith, chip.count, number, is.core_below, is.line_below, is.word_below)
 
   pub went_store : (place : WordAt) → IsPlace place → n ≡ word_number place.core place.line place.word → (value : ℕ) → value < 2 ^ 64
-      → MayMake (lab_sight (chip_view s r (run_of held) own)).seat (record_in (lab_sight (chip_view s r (run_of held) own))) (store_of place value) → x ≡ store_of place value
-      → WentOn s r (run_of held) own (store_of place value) (slice_set words n value) (run_of made) later
+      → MayMake (lab_sight (chip_view s r (events_made held) own)).seat (record_in (lab_sight (chip_view s r (events_made held) own))) (store_of place value) → x ≡ store_of place value
+      → WentOn s r (events_made held) own (store_of place value) (slice_set words n value) (events_made made) later
   went_store place is number value fits may stored =
-      went_on s r words (run_of held) own chip (store_of place value) (slice_set words n value) (length-set words n value ∙ chip.count) (is, fits) tt may
+      went_on s r words (events_made held) own chip (store_of place value) (slice_set words n value) (length-set words n value ∙ chip.count) (is, fits) tt may
       (subst (λ k. SameWords (memory_after (memory_of words) (store_of place value)) (memory_of (slice_set words k value))) (sym number) (word_stored words place value is chip.count))
-      (run_of made) x later stored (run_pushed held r x made all_push) push
+      (events_made made) x later stored (run_pushed held r x made all_push) push
 
   module _ (core : ℕ) (below : core < 48) (number : n ≡ register_number core) where
     at_register : slice_index words (register_number core) ≡ slice_index words n
     at_register = ap (slice_index words) (sym number)
 
-    found : Holder s.nue ((memory_from zeros (run_of held)).register core) core (records_of s (run_of held)) → (slice_index words n ≡ 0) ⊎ (slice_index words n ≡ 1)
+    found : Holder s.nue ((memory_from zeros (events_made held)).register core) core (records_of s (events_made held)) → (slice_index words n ≡ 0) ⊎ (slice_index words n ≡ 1)
     found (Nobody zero none) = inl (sym at_register ∙ sym (register_is words core below) ∙ sym (chip.holds.registers core) ∙ zero)
     found (HeldBy holder lt one holds others) = inr (sym at_register ∙ sym (register_is words core below) ∙ sym (chip.holds.registers core) ∙ one)
 
@@ -268,23 +268,23 @@ module _ (s : SetupView) (r : ℕ) (words : List ℕ) (held : List Made) (own : 
     bit false = inl refl
 
     pub went_take : (value : ℕ) → value ≡ get_or words n value → (taken : Bool) → taken ≡ (value == 0)
-        → MayMake (lab_sight (chip_view s r (run_of held) own)).seat (record_in (lab_sight (chip_view s r (run_of held) own))) (take_of core false) → x ≡ take_of core taken
-        → WentOn s r (run_of held) own (take_of core taken) (slice_set words n 1) (run_of made) later
+        → MayMake (lab_sight (chip_view s r (events_made held) own)).seat (record_in (lab_sight (chip_view s r (events_made held) own))) (take_of core false) → x ≡ take_of core taken
+        → WentOn s r (events_made held) own (take_of core taken) (slice_set words n 1) (events_made made) later
     went_take value read taken tells may is_made =
         let is : taken ≡ (slice_index words n == 0) = tells ∙ ap (λ k. k == 0) (read_at value read (omega (arith, chip.count, number, below))) in
         let t = register_taken words core below chip.count (slice_index words n) at_register (found (chip.agree.registers core).holder) in
-        went_on s r words (run_of held) own chip (take_of core taken) (slice_set words n 1) (length-set words n 1 ∙ chip.count) (below, refl, bit taken)
+        went_on s r words (events_made held) own chip (take_of core taken) (slice_set words n 1) (length-set words n 1 ∙ chip.count) (below, refl, bit taken)
         (subst (λ b. IsStep (memory_of words) (take_of core b)) (sym is) t.step) may
         (subst (λ k. SameWords (memory_after (memory_of words) (take_of core taken)) (memory_of (slice_set words k 1))) (sym number)
         (subst (λ b. SameWords (memory_after (memory_of words) (take_of core b)) (memory_of (slice_set words (register_number core) 1))) (sym is) t.same))
-        (run_of made) x later is_made (run_pushed held r x made all_push) push
+        (events_made made) x later is_made (run_pushed held r x made all_push) push
 
-    pub went_free : MayMake (lab_sight (chip_view s r (run_of held) own)).seat (record_in (lab_sight (chip_view s r (run_of held) own))) (free_of core) → x ≡ free_of core
-        → WentOn s r (run_of held) own (free_of core) (slice_set words n 0) (run_of made) later
+    pub went_free : MayMake (lab_sight (chip_view s r (events_made held) own)).seat (record_in (lab_sight (chip_view s r (events_made held) own))) (free_of core) → x ≡ free_of core
+        → WentOn s r (events_made held) own (free_of core) (slice_set words n 0) (events_made made) later
     went_free may is_made =
-        went_on s r words (run_of held) own chip (free_of core) (slice_set words n 0) (length-set words n 0 ∙ chip.count) (below, refl, refl) tt may
+        went_on s r words (events_made held) own chip (free_of core) (slice_set words n 0) (length-set words n 0 ∙ chip.count) (below, refl, refl) tt may
         (subst (λ k. SameWords (memory_after (memory_of words) (free_of core)) (memory_of (slice_set words k 0))) (sym number) (register_freed words core below chip.count))
-        (run_of made) x later is_made (run_pushed held r x made all_push) push
+        (events_made made) x later is_made (run_pushed held r x made all_push) push
 
 -- ---- a port that has made its events
 

@@ -42,8 +42,8 @@ abbrev pub with_turn : LabChipView → ℕ → LabChipView
 with_turn chip r = record { setup = chip.setup; rank = r; before = all_events chip; own = [] }
 
 -- events as they are held
-abbrev pub run_of : List Made → List RankEvent
-run_of made = map (λ (m : Made). of_rank m.rank m.event) made
+abbrev pub events_made : List Made → List RankEvent
+events_made made = map (λ (m : Made). of_rank m.rank m.event) made
 
 -- what stands before the events of the present turn
 abbrev pub before_of : List RankEvent → List Event → List RankEvent

@@ -37,13 +37,13 @@ pub struct LabChip {
 }
 
 impl Model for LabChip {
-    ghost use Rattle.lab_chip.specs.Chips.{LabChipView, IsChip, chip_view, run_of};
+    ghost use Rattle.lab_chip.specs.Chips.{LabChipView, IsChip, chip_view, events_made};
 
     ghost Value = { LabChipView };
 
-    ghost view = { λ c. chip_view c.setup c.rank (run_of c.all.items) c.own.items };
+    ghost view = { λ c. chip_view c.setup c.rank (events_made c.all.items) c.own.items };
 
-    ghost invariant = { λ c. IsChip c.setup c.rank c.words.items (run_of c.all.items) c.own.items };
+    ghost invariant = { λ c. IsChip c.setup c.rank c.words.items (events_made c.all.items) c.own.items };
 }
 
 impl LabChip {

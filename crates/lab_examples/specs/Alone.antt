@@ -87,5 +87,7 @@ blank_scene memory = record { memory = memory; lines = []; out = None; said = []
 
 -- A core by itself answers what the shared words are, and leaves what they would be, whatever it caches and whatever leaves its cache.
 pub record LoneLaw : Type 0 where
-  pub answers : (me : ℕ) (calls : List LoneCall) (memory : Memory) → AreCallsOfWords calls → call_answers me calls (blank_scene memory) ≡ words_answers calls memory
-  pub words : (me : ℕ) (calls : List LoneCall) (memory : Memory) → AreCallsOfWords calls → (scene_after_calls me calls (blank_scene memory)).memory ≡ words_after_calls calls memory
+  pub answers : (me : ℕ) (calls : List LoneCall) (memory : Memory) → AreCallsOfWords calls
+      → call_answers me calls (blank_scene memory) ≡ words_answers calls memory
+  pub words : (me : ℕ) (calls : List LoneCall) (memory : Memory) → AreCallsOfWords calls
+      → (scene_after_calls me calls (blank_scene memory)).memory ≡ words_after_calls calls memory

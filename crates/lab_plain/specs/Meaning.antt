@@ -45,7 +45,8 @@ scene_at me t = record { memory = t.memory; lines = (core_at t.cores me).lines; 
 
 -- the stand that a core at work leaves
 abbrev pub with_scene : ℕ → Stand → CoreScene → Stand
-with_scene me t s = record { memory = s.memory; cores = slice_set t.cores me (record { lines = s.lines; out = s.out }); holders = t.holders; said = s.said }
+with_scene me t s =
+    record { memory = s.memory; cores = slice_set t.cores me (record { lines = s.lines; out = s.out }); holders = t.holders; said = s.said }
 
 -- what a core's action leaves, but for those on registers
 abbrev pub after_action : ℕ → Action → CoreScene → CoreScene
@@ -145,7 +146,8 @@ free_made line me register t holder =
 
 -- what an action of a core's own comes to: the stand that it leaves, and whether the lab stops there
 abbrev pub core_done : ℕ → ℕ → Action → Stand → Done
-core_done line me act t = record { stand = with_scene me t (after_action me act (scene_at me t)); stop = act_stop line me act (scene_at me t) }
+core_done line me act t =
+    record { stand = with_scene me t (after_action me act (scene_at me t)); stop = act_stop line me act (scene_at me t) }
 
 -- what any action comes to: a take or a free by who holds the register, and any other by its core
 abbrev pub action_done : ℕ → ℕ → Action → Stand → Done

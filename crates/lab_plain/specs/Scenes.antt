@@ -81,7 +81,8 @@ line_put me line words s = line_stored me line words (after_flushing me s)
 -- the word that waits in the write-combining buffer, if it was written there
 abbrev pub waiting_word : Option Out → WordAt → Option ℕ
 waiting_word None p = None
-waiting_word (Some o) p = if same_line o.line (line_of_word p) && slice_index_or o.mask p.word false then Some (slice_index o.words p.word) else None
+waiting_word (Some o) p =
+    if same_line o.line (line_of_word p) && slice_index_or o.mask p.word false then Some (slice_index o.words p.word) else None
 
 -- a read was answered
 abbrev pub after_answer : WordAt → ℕ → Source → CoreScene → CoreScene
@@ -139,7 +140,8 @@ word_read me p evict s = word_read_by me p evict s (waiting_word s.out p)
 
 -- what it answers: the word in the buffer, or else in the cache, or else the shared word
 abbrev pub answer : WordAt → CoreScene → ℕ
-answer p s = unwrap_or (waiting_word s.out p) (slice_index (unwrap_or (held s.lines (line_of_word p)) (line_in s.memory (line_of_word p))) p.word)
+answer p s =
+    unwrap_or (waiting_word s.out p) (slice_index (unwrap_or (held s.lines (line_of_word p)) (line_in s.memory (line_of_word p))) p.word)
 
 -- a read of a line is one of its words, one after the other: the scene before the read of word n
 abbrev pub before_word : ℕ → LineAt → Option LineAt → CoreScene → ℕ → CoreScene
@@ -159,8 +161,10 @@ line_answer me line evict s =
 -- what a get prints of a line with these words
 abbrev pub say_got : ℕ → LineAt → List ℕ → List Said
 say_got me line words =
-    said.Loads me line words ∷ said.Answers (word_of_line line 0) (slice_index words 0) source.Words ∷ said.Answers (word_of_line line 1) (slice_index words 1) source.Words
-    ∷ said.Answers (word_of_line line 2) (slice_index words 2) source.Words ∷ said.Answers (word_of_line line 3) (slice_index words 3) source.Words ∷ []
+    said.Loads me line words ∷ said.Answers (word_of_line line 0) (slice_index words 0) source.Words
+    ∷ said.Answers (word_of_line line 1) (slice_index words 1) source.Words
+    ∷ said.Answers (word_of_line line 2) (slice_index words 2) source.Words
+    ∷ said.Answers (word_of_line line 3) (slice_index words 3) source.Words ∷ []
 
 -- a line is loaded into an empty cache
 abbrev pub line_loaded : ℕ → LineAt → CoreScene → CoreScene

@@ -37,7 +37,8 @@ part_text (part.Line line) = line_name line
 -- the line of a load or a store of a word
 abbrev pub access_text : ℕ → List ℕ → WordAt → ℕ → List ℕ
 access_text core access at value =
-    joined (decimal core ∷ access ∷ decimal at.core ∷ codes "." ∷ decimal at.line ∷ codes "." ∷ decimal at.word ∷ codes " " ∷ hex_value_text value ∷ codes " # heap\n" ∷ [])
+    joined (decimal core ∷ access ∷ decimal at.core ∷ codes "." ∷ decimal at.line ∷ codes "." ∷ decimal at.word ∷ codes " "
+    ∷ hex_value_text value ∷ codes " # heap\n" ∷ [])
 
 -- the line of the access to one word of a line, where it is made
 abbrev pub word_access_text : ℕ → List ℕ → LineAt → List ℕ → List Bool → ℕ → List ℕ
@@ -67,17 +68,21 @@ take_answer_name took = if took then codes "took" else codes "taken"
 -- the line of a take, with 1 where it took the register, and the line of what it answers
 abbrev pub takes_text : ℕ → ℕ → Bool → List ℕ
 takes_text core register took =
-    joined (decimal core ∷ codes " take " ∷ decimal register ∷ codes ".register " ∷ hex_value_text (if took then 1 else 0) ∷ codes " # register\nanswer " ∷ take_answer_name took ∷ codes "\n" ∷ [])
+    joined (decimal core ∷ codes " take " ∷ decimal register ∷ codes ".register " ∷ hex_value_text (if took then 1 else 0)
+    ∷ codes " # register\nanswer " ∷ take_answer_name took ∷ codes "\n" ∷ [])
 
 -- the line of a free
 abbrev pub frees_text : ℕ → ℕ → List ℕ
-frees_text core register = joined (decimal core ∷ codes " free " ∷ decimal register ∷ codes ".register " ∷ hex_value_text 0 ∷ codes " # register\n" ∷ [])
+frees_text core register =
+    joined (decimal core ∷ codes " free " ∷ decimal register ∷ codes ".register " ∷ hex_value_text 0 ∷ codes " # register\n" ∷ [])
 
 -- the line of what a core holds
 abbrev pub core_holds_text : ℕ → List ℕ → LineAt → List ℕ → List Bool → List ℕ
 core_holds_text core holds line words mask =
-    joined (codes "core " ∷ decimal core ∷ holds ∷ line_name line ∷ codes " " ∷ held_word_text (slice_index words 0) (slice_index_or mask 0 false)
-    ∷ codes " " ∷ held_word_text (slice_index words 1) (slice_index_or mask 1 false) ∷ codes " " ∷ held_word_text (slice_index words 2) (slice_index_or mask 2 false)
+    joined (codes "core " ∷ decimal core ∷ holds ∷ line_name line ∷ codes " "
+    ∷ held_word_text (slice_index words 0) (slice_index_or mask 0 false)
+    ∷ codes " " ∷ held_word_text (slice_index words 1) (slice_index_or mask 1 false) ∷ codes " "
+    ∷ held_word_text (slice_index words 2) (slice_index_or mask 2 false)
     ∷ codes " " ∷ held_word_text (slice_index words 3) (slice_index_or mask 3 false) ∷ codes "\n" ∷ [])
 
 -- the line of a core that holds nothing
@@ -93,7 +98,8 @@ source_name source.Words = codes "words"
 -- the line of an answer
 abbrev pub answer_text : WordAt → ℕ → Source → List ℕ
 answer_text at value from =
-    joined (codes "answer " ∷ line_name (line_of_word at) ∷ codes "." ∷ decimal at.word ∷ codes " " ∷ hex_value_text value ∷ codes " from " ∷ source_name from ∷ codes "\n" ∷ [])
+    joined (codes "answer " ∷ line_name (line_of_word at) ∷ codes "." ∷ decimal at.word ∷ codes " " ∷ hex_value_text value
+    ∷ codes " from " ∷ source_name from ∷ codes "\n" ∷ [])
 
 -- what is printed
 abbrev pub said_text : Said → List ℕ
@@ -117,13 +123,15 @@ register_stop_text line core holds register =
 -- the line of another value than was expected
 abbrev pub value_stop_text : ℕ → WordAt → ℕ → ℕ → List ℕ
 value_stop_text line at came expected =
-    joined (codes "line " ∷ decimal line ∷ codes ": " ∷ line_name (line_of_word at) ∷ codes "." ∷ decimal at.word ∷ codes " is " ∷ hex_value_text came
+    joined (codes "line " ∷ decimal line ∷ codes ": " ∷ line_name (line_of_word at) ∷ codes "." ∷ decimal at.word ∷ codes " is "
+    ∷ hex_value_text came
     ∷ codes ", expected " ∷ hex_value_text expected ∷ codes "\n" ∷ [])
 
 -- why a lab stopped
 abbrev pub stopped_text : Stopped → List ℕ
 stopped_text (stopped.Value line at came expected) = value_stop_text line at came expected
 stopped_text (stopped.Take line took) =
-    joined (codes "line " ∷ decimal line ∷ codes ": answer " ∷ take_answer_name took ∷ codes ", expected " ∷ take_answer_name (not took) ∷ codes "\n" ∷ [])
+    joined (codes "line " ∷ decimal line ∷ codes ": answer " ∷ take_answer_name took ∷ codes ", expected " ∷ take_answer_name (not took)
+    ∷ codes "\n" ∷ [])
 stopped_text (stopped.Holds line core register) = register_stop_text line core (codes " holds register ") register
 stopped_text (stopped.HoldsNot line core register) = register_stop_text line core (codes " does not hold register ") register

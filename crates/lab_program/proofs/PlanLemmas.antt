@@ -15,7 +15,7 @@ use Rattle.lab_run.specs.declared.run.LabLeft.{LabLeft}
 use Rattle.lab_run.specs.declared.run.LabRun.{LabRun}
 use Rattle.lab_run.specs.Stands.{HasDoneLab}
 use Rattle.lab_program.specs.History.{LabTells, WasMadeBy}
-use Rattle.lab_program.specs.Program.{ran_of, steps_plan}
+use Rattle.lab_program.specs.Program.{lab_ran_of, steps_plan}
 
 -- a lab that is refused
 pub comes_refused : (program file : List ℕ) (said : Result (List Step) LabFault) (fault : LabFault) (kind : List ℕ) (files : FilesView) → said ≡ Err fault → kind ≡ lab_kind_name fault.kind
@@ -26,23 +26,23 @@ comes_refused program file said fault kind files same named =
 
 -- a lab that was run
 pub comes_done : (program file : List ℕ) (read : Result (List Step) LabFault) (steps : List Step) (run : LabRun) (files : FilesView) → read ≡ Ok steps
-    → HasDoneLab (lab_done steps) run → Comes program (steps_plan file read) files files (run_outcome (ran_of run.said.items run.stopped))
+    → HasDoneLab (lab_done steps) run → Comes program (steps_plan file read) files files (run_outcome (lab_ran_of run.said.items run.stopped))
 comes_done program file read steps run files same done =
-    subst (λ (s : Result (List Step) LabFault). Comes program (steps_plan file s) files files (run_outcome (ran_of run.said.items run.stopped))) (sym same)
-    (refl, inl (λ i. run_outcome (ran_of (done.printed i) (done.why i))))
+    subst (λ (s : Result (List Step) LabFault). Comes program (steps_plan file s) files files (run_outcome (lab_ran_of run.said.items run.stopped))) (sym same)
+    (refl, inl (λ i. run_outcome (lab_ran_of (done.printed i) (done.why i))))
 
 -- ---- what is left
 
 -- by a lab that was run
 pub tells_done : (told : Option (List NamedFile)) (file bytes : List ℕ) (steps : List Step) (run : LabRun) (left : Option LabLeft) → lab_of bytes ≡ Ok steps → length bytes ≤ most_lab_bytes → Holds told file bytes
-    → HasDoneLab (lab_done steps) run → left ≡ Some run.left → LabTells told (Some file) left (run_outcome (ran_of run.said.items run.stopped))
+    → HasDoneLab (lab_done steps) run → left ≡ Some run.left → LabTells told (Some file) left (run_outcome (lab_ran_of run.said.items run.stopped))
 tells_done told file bytes steps run left same few holds done is =
-    let o : Outcome = run_outcome (ran_of run.said.items run.stopped) in
-    subst (λ (b : Bool). ByTest b (left ≡ None) (WasMadeBy told file left o)) (sym (run_loud (ran_of run.said.items run.stopped)))
+    let o : Outcome = run_outcome (lab_ran_of run.said.items run.stopped) in
+    subst (λ (b : Bool). ByTest b (left ≡ None) (WasMadeBy told file left o)) (sym (run_loud (lab_ran_of run.said.items run.stopped)))
     (record {
       steps = steps;
       stand = (bytes, few, holds, same);
-      comes = λ i. run_outcome (ran_of (done.printed i) (done.why i));
+      comes = λ i. run_outcome (lab_ran_of (done.printed i) (done.why i));
       by = run.left;
       is = is;
       made = done.left;

@@ -22,16 +22,16 @@ stop_text None = []
 stop_text (Some stopped) = stopped_text stopped
 
 -- whether a lab was done to its end, and what it printed
-abbrev pub ran_of : List Said → Option Stopped → Ran
-ran_of said stopped = record { finished = is_none stopped; out = joined (map said_text said); err = stop_text stopped }
+abbrev pub lab_ran_of : List Said → Option Stopped → Ran
+lab_ran_of said stopped = record { finished = is_none stopped; out = joined (map said_text said); err = stop_text stopped }
 
 -- what a run came to
 abbrev pub lab_ran : Lab → Ran
-lab_ran lab = ran_of lab.said.items lab.stopped
+lab_ran lab = lab_ran_of lab.said.items lab.stopped
 
 -- what the steps of a lab come to: their plain meaning
 abbrev pub steps_ran : List Step → Ran
-steps_ran steps = ran_of (lab_done steps).stand.said (lab_done steps).stop
+steps_ran steps = lab_ran_of (lab_done steps).stand.said (lab_done steps).stop
 
 -- the steps of a lab are done, and the first fault of its text refuses its file
 abbrev pub steps_plan : List ℕ → Result (List Step) LabFault → Plan
@@ -39,12 +39,12 @@ steps_plan file (Ok steps) = Runs (steps_ran steps)
 steps_plan file (Err fault) = Refuses file fault.line (lab_kind_name fault.kind)
 
 -- the bytes of a lab's file
-abbrev pub bytes_plan : List ℕ → List ℕ → Plan
-bytes_plan file bytes = steps_plan file (lab_of bytes)
+abbrev pub lab_bytes_plan : List ℕ → List ℕ → Plan
+lab_bytes_plan file bytes = steps_plan file (lab_of bytes)
 
 -- the lab's file has at most 1 MiB
-abbrev pub file_plan : List ℕ → Plan
-file_plan file = Reads file most_lab_bytes (bytes_plan file)
+abbrev pub lab_file_plan : List ℕ → Plan
+lab_file_plan file = Reads file most_lab_bytes (lab_bytes_plan file)
 
 -- the words are one file's name
 abbrev pub lab_file_named : List (List ℕ) → Option (List ℕ)
@@ -53,4 +53,4 @@ lab_file_named _ = None
 
 -- the program, by its name and what it does on its words: `LAB`, and no others
 abbrev pub rccelab : Program
-rccelab = record { name = codes "rccelab"; plan = λ words. plan_of file_plan (lab_file_named words) }
+rccelab = record { name = codes "rccelab"; plan = λ words. plan_of lab_file_plan (lab_file_named words) }

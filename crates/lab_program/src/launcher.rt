@@ -12,7 +12,7 @@ ghost use Rattle.outcomes.specs.Promises.{EndsWith, Promises};
 ghost use Rattle.rcce_words.specs.ScriptWords.{plan_of};
 ghost use Rattle.lab_reader.specs.Reading.{most_lab_bytes};
 ghost use Rattle.lab_program.specs.History.{LabTells};
-ghost use Rattle.lab_program.specs.Program.{bytes_plan, lab_file_named, file_plan, lab_ran, rccelab};
+ghost use Rattle.lab_program.specs.Program.{lab_bytes_plan, lab_file_named, lab_file_plan, lab_ran, rccelab};
 
 use crate::report::Lab;
 use lab_reader::{LabStop, MOST_LAB_BYTES, read_lab};
@@ -68,7 +68,7 @@ fn run_words<'a, F: Files>(
     left: &mut Option<LabLeft>,
 ) -> Result<Lab, Complaint<'a>>
     requires blank { left.old ≡ None }
-    ensures meant { IsMeant (codes "rccelab") (plan_of file_plan (lab_file_named (map string_bytes words.now)))
+    ensures meant { IsMeant (codes "rccelab") (plan_of lab_file_plan (lab_file_named (map string_bytes words.now)))
         (F.seen files.old) (F.seen files.new) (outcome_of (codes "rccelab") lab_ran result) }
     ensures tells { LabTells (F.seen files.old).told (lab_file_named (map string_bytes words.now)) left.new
         (outcome_of (codes "rccelab") lab_ran result) }
@@ -86,7 +86,7 @@ fn run_file<'a, F: Files>(
     left: &mut Option<LabLeft>,
 ) -> Result<Lab, Complaint<'a>>
     requires blank { left.old ≡ None }
-    ensures comes { Comes (codes "rccelab") (file_plan file.now) (F.seen files.old) (F.seen files.new)
+    ensures comes { Comes (codes "rccelab") (lab_file_plan file.now) (F.seen files.old) (F.seen files.new)
         (outcome_of (codes "rccelab") lab_ran result) }
     ensures tells { LabTells (F.seen files.old).told (Some file.now) left.new (outcome_of (codes "rccelab") lab_ran result) }
 {
@@ -104,7 +104,7 @@ fn run_bytes<'a>(
 ) -> Result<Lab, Complaint<'a>>
     requires blank { left.old ≡ None }
     requires few { length bytes.now ≤ most_lab_bytes }
-    ensures comes { (files : FilesView) → Comes (codes "rccelab") (bytes_plan file.now bytes.now) files files
+    ensures comes { (files : FilesView) → Comes (codes "rccelab") (lab_bytes_plan file.now bytes.now) files files
         (outcome_of (codes "rccelab") lab_ran result) }
     ensures tells { (told : Option (List NamedFile)) → Holds told file.now bytes.now
         → LabTells told (Some file.now) left.new (outcome_of (codes "rccelab") lab_ran result) }

@@ -27,7 +27,8 @@ Err fault >=> next = Err fault
 
 -- the words `rcce lab 1`
 abbrev pub says_version : List (List ℕ) → Bool
-says_version (first ∷ second ∷ version ∷ []) = bytes_eq first (codes "rcce") && (bytes_eq second (codes "lab") && is_number (number_of version) 1)
+says_version (first ∷ second ∷ version ∷ []) =
+    bytes_eq first (codes "rcce") && (bytes_eq second (codes "lab") && is_number (number_of version) 1)
 says_version words = false
 
 -- the reading with one step more
@@ -47,7 +48,8 @@ core_by number line reading words (Some core) = lab_step_by number line reading 
 -- the words `core C`, and what stands behind them
 abbrev pub step_said : ℕ → List ℕ → LabReading → List (List ℕ) → Result LabReading LabFault
 step_said number line reading (word ∷ core ∷ words) =
-    if bytes_eq word (codes "core") then core_by number line reading words (core_said core) else Err (record { line = number; kind = kind.BadCore })
+    if bytes_eq word (codes "core") then core_by number line reading words (core_said core)
+    else Err (record { line = number; kind = kind.BadCore })
 step_said number line reading words = Err (record { line = number; kind = kind.BadCore })
 
 -- the reading after a line with these words: the first line that has words may say the version

@@ -82,7 +82,8 @@ expected_take words = None
 -- the read of a word, or else of a line, by what stands behind
 abbrev pub read_by : ℕ → List ℕ → Option LineAt → List (List ℕ) → Option WordAt → Option Action
 read_by own at evict words (Some p) = expected_word words >>= λ expect. Some (action.ReadWord p evict expect)
-read_by own at evict words None = heap_line_said own at >>= λ line. expected_line words >>= λ expect. Some (action.ReadLine line evict expect)
+read_by own at evict words None =
+    heap_line_said own at >>= λ line. expected_line words >>= λ expect. Some (action.ReadLine line evict expect)
 
 -- a read with this eviction, or with none
 abbrev pub read_behind : ℕ → List ℕ → Option LineAt → List (List ℕ) → Option Action

@@ -52,8 +52,10 @@ pub record IsTold (s : LabChipView) (said : List Said) (t : LabChipView) (told :
   pub makes : all_events t ≡ all_events s ++ accesses_of more
 
 -- A turn of a core: it changed the shared words, what it holds and what was printed as a function says, and may go on. The
--- accesses that were printed are the chip's.
-pub record CoreTurned (op : CoreScene → CoreScene) (c : Private) (s : LabChipView) (said : List Said) (d : Private) (t : LabChipView) (told : List Said) : Type 0 where
+-- accesses that were printed are the chip's. Seven parameters: the function, and what a scene is made of (the core, the
+-- chip, the accesses printed), before and after.
+pub record CoreTurned (op : CoreScene → CoreScene) (c : Private) (s : LabChipView) (said : List Said) (d : Private) (t : LabChipView)
+    (told : List Said) : Type 0 where
   pub scene : scene_of d t told ≡ op (scene_of c s said)
   pub ready : IsReady d t
   pub kept : IsKept s t

@@ -18,7 +18,7 @@ use Rattle.rcce_run.specs.UeRuns.{IsSameChip, WaitsOpen}
 use Rattle.chip_run.proofs.CrewGrowth.{each_more}
 use Rattle.rcce_ue.proofs.WorkerTurns.{ue_stands}
 use Rattle.call_tap.specs.declared.taps.Tap.{Tap}
-use Rattle.call_tap.specs.Kept.{AreKept, HasRoom}
+use Rattle.call_tap.specs.Kept.{AreKept, HasTapRoom}
 use Rattle.call_tap.specs.Planned.{has_room_for}
 use Rattle.log_run.specs.declared.loggers.Logger.{Logger}
 use Rattle.log_run.specs.Loggers.{IsTapped}
@@ -92,7 +92,7 @@ pub over : (script : Script) (s : SetupView) (chip now : ChipView) (crew later :
     → ((k : ℕ) (call : DataCall) → k < script.nue → open_call (about_in now) (records_in now k) ≡ Some call → WaitsOpen script k call) → NoneDrafts (about_in now) (records_in now)
     → ((k : ℕ) (d : Logger UeView) → k < script.nue → has_room_for (calls_of script k) ≡ true → KeepsCalls (slice_index_or later k d).tap (records_in now k).calls)
     → ((k : ℕ) → k < script.nue → All HasItsBytes (records_in now k).calls) → ((k : ℕ) → k < script.nue → All (IsOwnCall script k) (records_in now k).calls)
-    → ((k : ℕ) → k < script.nue → has_room_for (calls_of script k) ≡ true → HasRoom (records_in now k).calls) → IsOver script s now later end
+    → ((k : ℕ) → k < script.nue → has_room_for (calls_of script k) ≡ true → HasTapRoom (records_in now k).calls) → IsOver script s now later end
 over script s chip now crew later end ranks room new each stands count answer calls legal opened no_draft kept long own few = record {
   kept = record {
     count = count ∙ each ∙ ranks;
@@ -106,7 +106,7 @@ over script s chip now crew later end ranks room new each stands count answer ca
     finished = calls;
     own = λ k low. record {
       own = subst (λ (done : List DataCall). All (IsOwnCall script k) done) (calls k) (own k low);
-      room = subst (λ (done : List DataCall). HasRoom done) (calls k) (few k low (each_room script room k low));
+      room = subst (λ (done : List DataCall). HasTapRoom done) (calls k) (few k low (each_room script room k low));
     };
     legal = legal;
     opened = opened;

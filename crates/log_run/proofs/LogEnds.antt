@@ -23,13 +23,13 @@ use Rattle.script_plain.specs.Meaning.{State, next_of, plain_end, recorded}
 use Rattle.script_plain.specs.Next.{Next, call_of}
 use Rattle.script_plain.specs.Next.Next.{Ends, Goes, Posts, Sends, Recvs, Bars}
 use Rattle.call_tap.specs.declared.taps.Tap.{Tap}
-use Rattle.call_tap.specs.Kept.{HasRoom}
+use Rattle.call_tap.specs.Kept.{HasTapRoom}
 use Rattle.call_tap.specs.Planned.{has_room_for}
 use Rattle.call_tap.proofs.PlannedLaws.{planned_room}
 use Rattle.call_tap.proofs.TapLaws.{kept_calls}
 use Rattle.rcce_ue.specs.Ues.{UeView}
 use Rattle.chip_run.specs.Crews.{AllRest, IsCrew}
-use Rattle.rcce_run.specs.Crews.{AllRun, IsAtEnd, locals_of}
+use Rattle.rcce_run.specs.Crews.{AllRun, IsAtEnd, crew_locals}
 use Rattle.rcce_run.specs.UeRuns.{WaitsOpen}
 use Rattle.rcce_run.specs.Sweep.{Stood, slots_by}
 use Rattle.rcce_run.specs.Ues.{Fits, state_of}
@@ -60,7 +60,7 @@ loggers_run = record {
 }
 
 -- a tap in its place keeps what it has read, where it has room
-tap_keeps : (tap : Option Tap) (s : SetupView) (rank : ℕ) (events : List Event) → IsTapped tap s rank events → HasRoom (record_of s rank events).calls → KeepsCalls tap (record_of s rank events).calls
+tap_keeps : (tap : Option Tap) (s : SetupView) (rank : ℕ) (events : List Event) → IsTapped tap s rank events → HasTapRoom (record_of s rank events).calls → KeepsCalls tap (record_of s rank events).calls
 tap_keeps None s rank events tapped room = tapped
 tap_keeps (Some tap) s rank events tapped room = kept_calls tap s rank events tapped room
 
@@ -73,7 +73,7 @@ module _ (script : Script) (chip : ChipView) (crew : List (Logger UeView)) (memo
   records = records_in chip
 
   abbrev locals : ℕ → Local
-  locals = locals_of ue_of crew d
+  locals = crew_locals ue_of crew d
 
   within : (k : ℕ) → k < s.nue → k < length crew
   within k low = subst (λ (n : ℕ). k < n) (sym is_crew.each) low
@@ -91,7 +91,7 @@ module _ (script : Script) (chip : ChipView) (crew : List (Logger UeView)) (memo
         (subst (λ (x : Script). Stood next_of s k (started x k) (records k) (state_of (locals k) (records k)) fits.last) (all_run k d (within k below)) fits.stood)
 
     -- there is room for them, where there is for the program's
-    pub room_at : (k : ℕ) → k < script.nue → has_room_for (calls_of script k) ≡ true → HasRoom (records k).calls
+    pub room_at : (k : ℕ) → k < script.nue → has_room_for (calls_of script k) ≡ true → HasTapRoom (records k).calls
     room_at k low planned =
         let first = first_at k low in
         planned_room (calls_of script k) first.rest (records k).calls planned first.planned first.long

@@ -18,7 +18,7 @@ use Rattle.script_plain.specs.Lengths.{Lengths, lengths_after}
 use Rattle.script_plain.specs.Program.{Prim, program_of}
 use Rattle.script_plain.specs.Rooms.{nothing_held}
 use Rattle.script_plain.proofs.ProgramLengths.RoomLaws.{start_held}
-use Rattle.log_run.specs.Sizes.{bytes_by, calls_by, has_room_for_all}
+use Rattle.log_run.specs.Sizes.{bytes_moved_by, calls_by, has_room_for_all}
 
 -- ---- one primitive more
 
@@ -33,7 +33,7 @@ nothing_left l [] none = refl
 nothing_left l (x ∷ prims) none = absurd (cc (none))
 
 -- the calls of a primitive are none, or one that moves the bytes it tells
-asked_of : (calls : List Call) (moved : Option ℕ) → option_to_list moved ≡ map bytes_asked calls → (length calls ≡ calls_by moved) × (bytes_planned calls ≡ bytes_by moved)
+asked_of : (calls : List Call) (moved : Option ℕ) → option_to_list moved ≡ map bytes_asked calls → (length calls ≡ calls_by moved) × (bytes_planned calls ≡ bytes_moved_by moved)
 asked_of [] None is = (refl, refl)
 asked_of [] (Some n) is = absurd (cc (is))
 asked_of (call ∷ []) None is = absurd (cc (is))
@@ -48,7 +48,7 @@ pub record AreCounted (planned : List Call) (calls bytes : ℕ) (left : List Cal
 
 pub counted_on : (planned : List Call) (calls bytes : ℕ) (l m : Lengths) (left : List Prim) (prim : Prim) (moved : Option ℕ) (more_calls more_bytes : ℕ) (rest : List Prim)
     → AreCounted planned calls bytes (calls_from l left) → slice_get left 0 ≡ Some prim → option_to_list moved ≡ map bytes_asked (called l prim.act) → m ≡ lengths_after l prim.act
-    → more_calls ≡ calls + calls_by moved → more_bytes ≡ bytes + bytes_by moved → rest ≡ drop 1 left → AreCounted planned more_calls more_bytes (calls_from m rest)
+    → more_calls ≡ calls + calls_by moved → more_bytes ≡ bytes + bytes_moved_by moved → rest ≡ drop 1 left → AreCounted planned more_calls more_bytes (calls_from m rest)
 counted_on planned calls bytes l m left prim moved more_calls more_bytes rest counted here asks same is_calls is_bytes behind =
     let parts : calls_from l left ≡ called l prim.act ++ calls_from m rest =
     calls_front l left prim here ∙ ap (λ (c : List Call). called l prim.act ++ c) (λ i. calls_from (sym same i) (sym behind i)) in

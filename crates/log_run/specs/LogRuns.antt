@@ -10,7 +10,7 @@ use Rattle.scc_proto.specs.Legality.{IsLegal}
 use Rattle.scc_proto.specs.Passed.{open_call, slot_of}
 use Rattle.scc_mesh.specs.Scenes.{ChipView, IsWhole, about_in, events_in, records_in}
 use Rattle.call_tap.specs.declared.taps.Tap.{Tap}
-use Rattle.call_tap.specs.Kept.{AreKept, HasRoom}
+use Rattle.call_tap.specs.Kept.{AreKept, HasTapRoom}
 use Rattle.script_reader.specs.Script.{Script, rules_of}
 use Rattle.script_reader.specs.Settled as settled
 use Rattle.script_plain.specs.Meaning.{State, plain_end}
@@ -68,7 +68,7 @@ IsOwnCall script rank (Bar comm) = (comm < 16) × (rule_of (rules_of script.item
 -- calls that a rank of a script can make, for which a tap has room
 pub record AreOwnCalls (script : Script) (rank : ℕ) (calls : List DataCall) : Type 0 where
   pub own : All (IsOwnCall script rank) calls
-  pub room : HasRoom calls
+  pub room : HasTapRoom calls
 
 -- What a run of a script leaves on a chip of this setup: the finished calls of each rank are those that the plain meaning
 -- did for it, with their bytes and in order, and they are legal. A call is open in a record only where the plain meaning
@@ -79,7 +79,8 @@ pub record HasRun (script : Script) (s : SetupView) (chip : ChipView) : Type 0 w
   pub finished : (rank : ℕ) → (records_in chip rank).calls ≡ plain_calls script rank
   pub own : (rank : ℕ) → rank < script.nue → AreOwnCalls script rank (plain_calls script rank)
   pub legal : AreLegalCalls chip
-  pub opened : (rank : ℕ) (call : DataCall) → rank < script.nue → open_call (about_in chip) (records_in chip rank) ≡ Some call → WaitsOpen script rank call
+  pub opened : (rank : ℕ) (call : DataCall) → rank < script.nue → open_call (about_in chip) (records_in chip rank) ≡ Some call
+      → WaitsOpen script rank call
   pub no_draft : NoneDrafts (about_in chip) (records_in chip)
 
 -- before the run: one logger for each rank

@@ -13,7 +13,8 @@ IsTapped None s rank events = ⊥
 IsTapped (Some tap) s rank events = HasRead tap s rank events
 
 -- a worker stands where these events of its rank stand, and its tap has read them
-pub record IsLogging (tied : SetupView → ℕ → List Event → Type 0) (tap : Option Tap) (s : SetupView) (rank : ℕ) (events : List Event) : Type 0 where
+pub record IsLogging (tied : SetupView → ℕ → List Event → Type 0) (tap : Option Tap) (s : SetupView) (rank : ℕ)
+    (events : List Event) : Type 0 where
   pub ties : tied s rank events
   pub tapped : IsTapped tap s rank events
 

@@ -15,6 +15,6 @@ calls_by None = 0
 calls_by (Some bytes) = 1
 
 -- the bytes that a primitive's calls move: 0, or the `bytes` bytes of its one call
-abbrev pub bytes_by : Option ℕ → ℕ
-bytes_by None = 0
-bytes_by (Some bytes) = bytes
+abbrev pub bytes_moved_by : Option ℕ → ℕ
+bytes_moved_by None = 0
+bytes_moved_by (Some bytes) = bytes

@@ -26,14 +26,14 @@ struct Tally {
 
 impl Tally {
     ghost use Rattle.std.specs.Prelude.{◌≡◌, ◌+◌, ◌≤◌, nat_le, ◌&&◌};
-    ghost use Rattle.log_run.specs.Sizes.{bytes_by, calls_by};
+    ghost use Rattle.log_run.specs.Sizes.{bytes_moved_by, calls_by};
 
     /// Counts the next primitive's call, which moves `moved` bytes, or none where it makes no call. Tells whether there is still room.
     fn add(&mut self, moved: Option<u32>) -> bool
         requires few { self.old.calls ≤ 10000 }
         requires small { self.old.bytes ≤ 262144 }
         ensures calls { self.new.calls ≡ self.old.calls + calls_by moved }
-        ensures bytes { self.new.bytes ≡ self.old.bytes + bytes_by moved }
+        ensures bytes { self.new.bytes ≡ self.old.bytes + bytes_moved_by moved }
         ensures within { result ≡ (nat_le self.new.calls 10000 && nat_le self.new.bytes 262144) }
     {
         if let Some(bytes) = moved {

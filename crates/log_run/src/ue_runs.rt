@@ -1,7 +1,7 @@
 //! A run of UEs whose calls are kept.
 
 ghost use Rattle.std.specs.Prelude.{◌≡◌, ◌<◌, All, length, ℕ, slice_index_or, Some, true};
-ghost use Rattle.call_tap.specs.Kept.{HasRoom};
+ghost use Rattle.call_tap.specs.Kept.{HasTapRoom};
 ghost use Rattle.call_tap.specs.Planned.{has_room_for};
 ghost use Rattle.rcce_run.specs.Crews.{EndsAs};
 ghost use Rattle.chip_run.specs.Waiting.{NoneDrafts};
@@ -31,7 +31,8 @@ pub fn log_run<V: Evict + Drop>(chip: &mut Chip, crew: &mut [Logger<Ue<'_, V>>])
     // It answers Finished where every rank finishes in the plain meaning of the script, and Stuck where one does not.
     ensures answer { (script : Script) → IsFreshCrew script chip.old crew.old → EndsAs result script }
     // The finished calls of each rank are those that the plain meaning has done for it, with their bytes and in order.
-    ensures calls { (script : Script) → IsFreshCrew script chip.old crew.old → (k : ℕ) → (records_in chip.new k).calls ≡ plain_calls script k }
+    ensures calls { (script : Script) → IsFreshCrew script chip.old crew.old → (k : ℕ)
+        → (records_in chip.new k).calls ≡ plain_calls script k }
     // They are legal: all of them can be used up.
     ensures legal { AreLegalCalls chip.new }
     // A call that a rank has open is the one at which the plain meaning leaves it waiting. None is open where the rank waits
@@ -45,11 +46,14 @@ pub fn log_run<V: Evict + Drop>(chip: &mut Chip, crew: &mut [Logger<Ue<'_, V>>])
         → (k : ℕ) (d : Logger UeView) → k < script.nue → has_room_for (calls_of script k) ≡ true
         → KeepsCalls (slice_index_or crew.new k d).tap (records_in chip.new k).calls }
     // Each of them has the bytes that its head says.
-    ensures long { (script : Script) → IsFreshCrew script chip.old crew.old → (k : ℕ) → k < script.nue → All HasItsBytes (records_in chip.new k).calls }
+    ensures long { (script : Script) → IsFreshCrew script chip.old crew.old → (k : ℕ) → k < script.nue
+        → All HasItsBytes (records_in chip.new k).calls }
     // Each of them is one that the rank can make, and a tap has room for them where it has room for all calls of the program.
-    ensures own { (script : Script) → IsFreshCrew script chip.old crew.old → (k : ℕ) → k < script.nue → All (IsOwnCall script k) (records_in chip.new k).calls }
-    ensures room { (script : Script) → IsFreshCrew script chip.old crew.old → (k : ℕ) → k < script.nue → has_room_for (calls_of script k) ≡ true
-        → HasRoom (records_in chip.new k).calls }
+    ensures own { (script : Script) → IsFreshCrew script chip.old crew.old → (k : ℕ) → k < script.nue
+        → All (IsOwnCall script k) (records_in chip.new k).calls }
+    ensures room { (script : Script) → IsFreshCrew script chip.old crew.old → (k : ℕ) → k < script.nue
+        → has_room_for (calls_of script k) ≡ true
+        → HasTapRoom (records_in chip.new k).calls }
 {
     let _ = chip.setup().nue();
     let end = run_by_sweeps(chip, crew);

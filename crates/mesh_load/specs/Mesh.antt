@@ -60,27 +60,28 @@ abbrev pub holds : Link → List Link → Bool
 holds link links = list_any (same_link link) links
 
 -- the lines that a message of n bytes moves: its header, and the lines of its bytes. (Flags are not counted.)
-abbrev pub lines_of : ℕ → ℕ
-lines_of bytes = 1 + (bytes + 31) / 32
+abbrev pub lines_moved : ℕ → ℕ
+lines_moved bytes = 1 + (bytes + 31) / 32
 
 -- the core of a rank
-abbrev pub core_of : List ℕ → ℕ → ℕ
-core_of at rank = slice_index_or at rank 0
+abbrev pub mesh_core_of : List ℕ → ℕ → ℕ
+mesh_core_of at rank = slice_index_or at rank 0
 
 -- the route of a message, where each rank is on its core
 abbrev pub route_of : List ℕ → Match → List Link
-route_of at one = route (tile_of (core_of at one.from)) (tile_of (core_of at one.to))
+route_of at one = route (tile_of (mesh_core_of at one.from)) (tile_of (mesh_core_of at one.to))
 
 -- the lines that go over a link: the sum over the messages whose route holds it
 abbrev pub carried : List ℕ → List Match → Link → ℕ
-carried at matches link = sum_by (λ one. if holds link (route_of at one) then lines_of one.head.len else 0) matches
+carried at matches link = sum_by (λ one. if holds link (route_of at one) then lines_moved one.head.len else 0) matches
 
 -- the links from a tile, and those of the mesh: by tile number, and then east, west, north and south. (A link over the edge
 -- is on no route.)
 abbrev pub links_at : ℕ → List Link
 links_at number =
     let tile : Tile = record { x = number % 6; y = number / 6 } in
-    record { tile = tile; dir = East } ∷ record { tile = tile; dir = West } ∷ record { tile = tile; dir = North } ∷ record { tile = tile; dir = South } ∷ []
+    record { tile = tile; dir = East } ∷ record { tile = tile; dir = West } ∷ record { tile = tile; dir = North }
+    ∷ record { tile = tile; dir = South } ∷ []
 
 -- the links of all tiles, those over the edge of the mesh too
 abbrev pub all_links : List Link
@@ -92,4 +93,4 @@ distance a b = (b.x - a.x) + (a.x - b.x) + ((b.y - a.y) + (a.y - b.y))
 
 -- how many links lie on the way of a message
 abbrev pub distance_of : List ℕ → Match → ℕ
-distance_of at one = distance (tile_of (core_of at one.from)) (tile_of (core_of at one.to))
+distance_of at one = distance (tile_of (mesh_core_of at one.from)) (tile_of (mesh_core_of at one.to))

@@ -2,7 +2,7 @@
 use Rattle.std.specs.Prelude.{ℕ, suc, ◌+◌, ◌*◌, ◌/◌, ◌%◌, ◌==◌, ◌<◌, Bool, true, false, ◌&&◌, if◌then◌else◌, nat_le, nat_lt, List, [], ◌∷◌}
 use Rattle.mesh_load.specs.declared.links.Dir.{Dir}
 use Rattle.mesh_load.specs.declared.links.Dir.TheVariants.{East, West, North, South}
-use Rattle.mesh_load.specs.Mesh.{Link, core_of}
+use Rattle.mesh_load.specs.Mesh.{Link, mesh_core_of}
 use Rattle.script_plain.specs.declared.matches.Match.{Match}
 
 -- the sum of the values whose places pass a test
@@ -15,8 +15,8 @@ abbrev pub total : List ℕ → ℕ
 total values = chosen (λ place. true) values
 
 -- the place of a message in the table of pairs: the tile of its sender, and then that of its receiver
-abbrev pub pair_of : List ℕ → Match → ℕ
-pair_of at one = core_of at one.from / 2 * 24 + core_of at one.to / 2
+abbrev pub pair_place : List ℕ → Match → ℕ
+pair_place at one = mesh_core_of at one.from / 2 * 24 + mesh_core_of at one.to / 2
 
 -- its place in the table of rows: the tile of its sender, and then the column to which it goes
 abbrev pub row_cell : ℕ → ℕ
@@ -50,8 +50,8 @@ in_column link cell = passes_column link (cell / 4 % 6) (cell % 4) (cell / 4 / 6
 
 -- both ranks of a message are on cores of the chip
 pub record IsPlaced (at : List ℕ) (one : Match) : Type 0 where
-  pub from : core_of at one.from < 48
-  pub to : core_of at one.to < 48
+  pub from : mesh_core_of at one.from < 48
+  pub to : mesh_core_of at one.to < 48
 
 -- what the links carry, as it is kept: the lines from each tile to each column of its row, and those to each tile from each
 -- row of its column

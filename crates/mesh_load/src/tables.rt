@@ -2,8 +2,8 @@
 
 ghost use Rattle.std.specs.Prelude.{◌≡◌, ◌*◌, ◌/◌, ◌<◌, ◌≤◌, ◌^◌, ℕ, Bool, if◌then◌else◌, sum_by};
 ghost use Rattle.std.specs.List.{All};
-ghost use Rattle.mesh_load.specs.Mesh.{core_of, lines_of, link_at};
-ghost use Rattle.mesh_load.specs.Tables.{IsPlaced, chosen, column_cell, in_column, in_row, pair_of, row_cell, total};
+ghost use Rattle.mesh_load.specs.Mesh.{mesh_core_of, lines_moved, link_at};
+ghost use Rattle.mesh_load.specs.Tables.{IsPlaced, chosen, column_cell, in_column, in_row, pair_place, row_cell, total};
 
 use crate::links::Dir;
 use scc_base::{CoreId, Head, Rank};
@@ -11,15 +11,15 @@ use script_plain::Matches;
 
 /// The number of the tile of a rank.
 fn tile(at: &[CoreId; 48], rank: Rank) -> usize
-    ensures same { result ≡ core_of at.now rank / 2 }
-    ensures placed { core_of at.now rank < 48 }
+    ensures same { result ≡ mesh_core_of at.now rank / 2 }
+    ensures placed { mesh_core_of at.now rank < 48 }
 {
     (at[rank.number() as usize].number() / 2) as usize
 }
 
 /// How many lines a message moves.
 fn lines(head: Head) -> u64
-    ensures same { result ≡ lines_of head.len }
+    ensures same { result ≡ lines_moved head.len }
     ensures few { result ≤ 2049 }
 {
     1 + (head.len() as u64 + 31) / 32
@@ -27,7 +27,8 @@ fn lines(head: Head) -> u64
 
 /// The lines that go from tile to tile, for each pair of tiles.
 pub fn add_pairs(matches: &Matches, at: &[CoreId; 48]) -> [u64; 576]
-    ensures sums { (test : ℕ → Bool) → chosen test result ≡ sum_by (λ one. if test (pair_of at.now one) then lines_of one.head.len else 0) matches.now }
+    ensures sums { (test : ℕ → Bool)
+        → chosen test result ≡ sum_by (λ one. if test (pair_place at.now one) then lines_moved one.head.len else 0) matches.now }
     ensures placed { All (IsPlaced at.now) matches.now }
     ensures few { total result ≤ 2 ^ 52 }
 {

@@ -12,31 +12,31 @@ use Rattle.std.proofs.lemmas.Bool.Decides.{nat_tests}
 use Rattle.std.proofs.lemmas.List.Folds.{list_any-append}
 use Rattle.std.proofs.lemmas.List.Sums.{fails_before_first}
 use Rattle.std.proofs.lemmas.List.Splits.{length-slice_split, slice_split_at, slice_split_none}
-use Rattle.mesh_load.specs.Mesh.{core_of}
-use Rattle.mesh_program.specs.Cores.{are_different, by_rank, core_number, core_value, cores_in, is_comma, is_core, listed_cores, parts_behind, parts_of, rank_numbers}
+use Rattle.mesh_load.specs.Mesh.{mesh_core_of}
+use Rattle.mesh_program.specs.Cores.{are_different, cores_by_rank, core_number, core_value, cores_in, is_comma, is_core, listed_cores, parts_behind, between_commas, rank_numbers}
 
 -- a word with a comma at a place
-pub cut_at : (word : List ℕ) (i : ℕ) → position is_comma word ≡ Some i → parts_of word ≡ take i word ∷ parts_of (drop (i + 1) word)
+pub cut_at : (word : List ℕ) (i : ℕ) → position is_comma word ≡ Some i → between_commas word ≡ take i word ∷ between_commas (drop (i + 1) word)
 cut_at word i is =
     let first = position-Some is_comma word i 0 is in
     let whole : word ≡ take i word ++ get_or word i 0 ∷ drop (suc i) word = sym (take-append-drop i word) ∙ ap (λ (l : List ℕ). take i word ++ l) (drop-cons word i 0 first.0) in
     let front : All (λ x. is_comma x ≡ false) (take i word) = λ k d below.
     let low : k < i = omega (arith, below, length-take i word) in
     ap is_comma (get_or-take i word k d low) ∙ (position-Some is_comma word i d is).2 k low in
-    ap parts_of whole
+    ap between_commas whole
     ∙ slice_split_at is_comma (take i word) (get_or word i 0) (drop (suc i) word) front first.1
-    ∙ ap (λ (n : ℕ). take i word ∷ parts_of (drop n word)) (sym (add-one i))
+    ∙ ap (λ (n : ℕ). take i word ∷ between_commas (drop n word)) (sym (add-one i))
 
 -- the same, as the code cuts it
-pub cut_slices : (word : List ℕ) (i : ℕ) → Some i ≡ position is_comma word → parts_of word ≡ take i word ∷ parts_of (take (length word - (i + 1)) (drop (i + 1) word))
-cut_slices word i is = cut_at word i (sym is) ∙ ap (λ (l : List ℕ). take i word ∷ parts_of l) (sym (take_rest word (i + 1)))
+pub cut_slices : (word : List ℕ) (i : ℕ) → Some i ≡ position is_comma word → between_commas word ≡ take i word ∷ between_commas (take (length word - (i + 1)) (drop (i + 1) word))
+cut_slices word i is = cut_at word i (sym is) ∙ ap (λ (l : List ℕ). take i word ∷ between_commas l) (sym (take_rest word (i + 1)))
 
 none_by : (b : Bool) (n : ℕ) → cond b (Some n) None ≡ None → b ≡ false
 none_by true n is = absurd (cc)
 none_by false n is = refl
 
 -- and one without
-pub cut_none : (word : List ℕ) → position is_comma word ≡ None → parts_of word ≡ word ∷ []
+pub cut_none : (word : List ℕ) → position is_comma word ≡ None → between_commas word ≡ word ∷ []
 cut_none word is =
     let past : nat_lt (position_or_len is_comma word) (length word) ≡ false = none_by _ (position_or_len is_comma word) is in
     slice_split_none is_comma word (λ k d below. fails_before_first is_comma word k d (omega (arith, below, ltb-false (position_or_len is_comma word) (length word) past)))
@@ -91,7 +91,7 @@ numbered (part ∷ parts) (core ∷ cores) same =
 -- what was read of a list: the parts so far, their cores by rank, and what is left
 pub record SoFar (word : List ℕ) (i : ℕ) (at : List ℕ) (rest : Option (List ℕ)) : Type 0 where
   pub front : List (List ℕ)
-  pub whole : parts_of word ≡ front ++ parts_behind rest
+  pub whole : between_commas word ≡ front ++ parts_behind rest
   pub count : length front ≡ i
   pub cores : map core_number front ≡ map Some (take i at)
   pub room : length at ≡ 48
@@ -121,7 +121,7 @@ taken_next at i core within =
     ∙ ap (λ (l : List ℕ). l ++ get_or (set at i core) i 0 ∷ []) (take-set at i core)
     ∙ ap (λ (n : ℕ). take i at ++ n ∷ []) (get_or-set_same at i core 0 within)
 
-pub stepped : (word : List ℕ) (i : ℕ) (at w first : List ℕ) (more : Option (List ℕ)) (core : ℕ) → SoFar word i at (Some w) → parts_of w ≡ first ∷ parts_behind more → core_number first ≡ Some core
+pub stepped : (word : List ℕ) (i : ℕ) (at w first : List ℕ) (more : Option (List ℕ)) (core : ℕ) → SoFar word i at (Some w) → between_commas w ≡ first ∷ parts_behind more → core_number first ≡ Some core
     → list_any (λ other. other == core) (take i at) ≡ false → i < 48 → SoFar word (i + 1) (set at i core) more
 stepped word i at w first more core so_far cuts is free low =
     let within : i < length at = omega (arith, low, so_far.room) in
@@ -141,16 +141,16 @@ numbers : rank_numbers ≡ range_with_len 0 48
 unfolding rank_numbers
 numbers = refl
 
-refuse_count : (nue : ℕ) (word : List ℕ) → (length (parts_of word) == nue) ≡ false → listed_cores nue word ≡ None
+refuse_count : (nue : ℕ) (word : List ℕ) → (length (between_commas word) == nue) ≡ false → listed_cores nue word ≡ None
 refuse_count nue word fails =
-    ap (λ (b : Bool). cond (b && list_all is_core (parts_of word) && are_different (cores_in word)) (Some (by_rank (cores_in word))) None) fails
+    ap (λ (b : Bool). cond (b && list_all is_core (between_commas word) && are_different (cores_in word)) (Some (cores_by_rank (cores_in word))) None) fails
 
 refuse_twice : (nue : ℕ) (word : List ℕ) → are_different (cores_in word) ≡ false → listed_cores nue word ≡ None
 refuse_twice nue word fails =
-    ap (λ (b : Bool). cond ((length (parts_of word) == nue) && list_all is_core (parts_of word) && b) (Some (by_rank (cores_in word))) None) fails
-    ∙ by (length (parts_of word) == nue) (list_all is_core (parts_of word))
+    ap (λ (b : Bool). cond ((length (between_commas word) == nue) && list_all is_core (between_commas word) && b) (Some (cores_by_rank (cores_in word))) None) fails
+    ∙ by (length (between_commas word) == nue) (list_all is_core (between_commas word))
   where
-    by : (a b : Bool) → cond (a && b && false) (Some (by_rank (cores_in word))) None ≡ None
+    by : (a b : Bool) → cond (a && b && false) (Some (cores_by_rank (cores_in word))) None ≡ None
     by true true = refl
     by true false = refl
     by false b = refl
@@ -161,19 +161,19 @@ not_same a b odd = grind (arith, nat_tests)
 -- all parts are read
 pub finished : (word : List ℕ) (nue : ℕ) (at : List ℕ) → nue ≤ 48 → SoFar word nue at None → listed_cores nue word ≡ Some at
 finished word nue at most so_far =
-    let parts : parts_of word ≡ so_far.front = so_far.whole ∙ append-nil so_far.front in
+    let parts : between_commas word ≡ so_far.front = so_far.whole ∙ append-nil so_far.front in
     let are = numbered so_far.front (take nue at) so_far.cores in
     let cores : cores_in word ≡ take nue at = ap (map core_value) parts ∙ are.1 in
-    let many : (length (parts_of word) == nue) ≡ true = eq-eqb (length (parts_of word)) nue (ap length parts ∙ so_far.count) in
-    let each : list_all is_core (parts_of word) ≡ true = ap (list_all is_core) parts ∙ are.0 in
+    let many : (length (between_commas word) == nue) ≡ true = eq-eqb (length (between_commas word)) nue (ap length parts ∙ so_far.count) in
+    let each : list_all is_core (between_commas word) ≡ true = ap (list_all is_core) parts ∙ are.0 in
     let odd : are_different (cores_in word) ≡ true = ap are_different cores ∙ so_far.different in
-    let by : at ≡ by_rank (take nue at) = fill_by_all (core_of (take nue at)) at 48 0 so_far.room (λ k low. place k) ∙ ap (map (core_of (take nue at))) (sym numbers) in
-    ap (λ (b : Bool). cond (b && list_all is_core (parts_of word) && are_different (cores_in word)) (Some (by_rank (cores_in word))) None) many
-    ∙ ap (λ (b : Bool). cond (b && are_different (cores_in word)) (Some (by_rank (cores_in word))) None) each
-    ∙ ap (λ (b : Bool). cond b (Some (by_rank (cores_in word))) None) odd
-    ∙ ap (λ (l : List ℕ). Some (by_rank l)) cores ∙ ap Some (sym by)
+    let by : at ≡ cores_by_rank (take nue at) = fill_by_all (mesh_core_of (take nue at)) at 48 0 so_far.room (λ k low. place k) ∙ ap (map (mesh_core_of (take nue at))) (sym numbers) in
+    ap (λ (b : Bool). cond (b && list_all is_core (between_commas word) && are_different (cores_in word)) (Some (cores_by_rank (cores_in word))) None) many
+    ∙ ap (λ (b : Bool). cond (b && are_different (cores_in word)) (Some (cores_by_rank (cores_in word))) None) each
+    ∙ ap (λ (b : Bool). cond b (Some (cores_by_rank (cores_in word))) None) odd
+    ∙ ap (λ (l : List ℕ). Some (cores_by_rank l)) cores ∙ ap Some (sym by)
   where
-    place : (k : ℕ) → get_or at k 0 ≡ core_of (take nue at) k
+    place : (k : ℕ) → get_or at k 0 ≡ mesh_core_of (take nue at) k
     place k =
         ⊎_elim
         (λ (low : k < nue). sym (get_or-take nue at k 0 low))
@@ -183,11 +183,11 @@ finished word nue at most so_far =
 -- there are parts left
 pub too_many : (word : List ℕ) (nue : ℕ) (at w : List ℕ) → SoFar word nue at (Some w) → listed_cores nue word ≡ None
 too_many word nue at w so_far =
-    refuse_count nue word (not_same (length (parts_of word)) nue (λ same.
-    omega (arith, same, ap length so_far.whole, length-append so_far.front (parts_of w), so_far.count, length-slice_split is_comma w)))
+    refuse_count nue word (not_same (length (between_commas word)) nue (λ same.
+    omega (arith, same, ap length so_far.whole, length-append so_far.front (between_commas w), so_far.count, length-slice_split is_comma w)))
 
 -- a core comes twice
-pub twice : (word : List ℕ) (nue i : ℕ) (at w first : List ℕ) (more : Option (List ℕ)) (core : ℕ) → SoFar word i at (Some w) → parts_of w ≡ first ∷ parts_behind more → core_number first ≡ Some core
+pub twice : (word : List ℕ) (nue i : ℕ) (at w first : List ℕ) (more : Option (List ℕ)) (core : ℕ) → SoFar word i at (Some w) → between_commas w ≡ first ∷ parts_behind more → core_number first ≡ Some core
     → list_any (λ other. other == core) (take i at) ≡ true → listed_cores nue word ≡ None
 twice word nue i at w first more core so_far cuts is found =
     let are = numbered so_far.front (take i at) so_far.cores in

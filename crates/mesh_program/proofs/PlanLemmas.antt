@@ -9,16 +9,16 @@ use Rattle.mesh_load.specs.Mesh.{carried}
 use Rattle.mesh_load.specs.Tables.{load_on}
 use Rattle.outcomes.specs.Coming.{Comes}
 use Rattle.outcomes.specs.Outcomes.{run_outcome}
-use Rattle.mesh_program.specs.Program.{ran_by, ran_of, run_plan}
-use Rattle.mesh_program.specs.Reports.{IsReportOf, report_ran}
+use Rattle.mesh_program.specs.Program.{mesh_ran_by, mesh_ran_of, mesh_run_plan}
+use Rattle.mesh_program.specs.Reports.{IsReportOf, mesh_report_ran}
 use Rattle.mesh_program.specs.declared.report.Report.{Report}
 use Rattle.mesh_program.proofs.TextLaws.{mesh_same}
 
 -- a script whose report is that of its plain meaning
 pub comes_run : (program at : List ℕ) (script : Script) (report : Report) (files : FilesView) → IsReportOf at script report →
-    Comes program (run_plan at script) files files (run_outcome (report_ran report))
+    Comes program (mesh_run_plan at script) files files (run_outcome (mesh_report_ran report))
 comes_run program at script report files is = (
   refl,
-  inl (ap (λ (finished : Bool). run_outcome (ran_of finished (load_on report.load))) is.finished
-      ∙ ap (λ (text : List ℕ). run_outcome (ran_by (all_finished (plain_ends script)) text)) (mesh_same (load_on report.load) (carried at (plain_matches script)) is.load)),
+  inl (ap (λ (finished : Bool). run_outcome (mesh_ran_of finished (load_on report.load))) is.finished
+      ∙ ap (λ (text : List ℕ). run_outcome (mesh_ran_by (all_finished (plain_ends script)) text)) (mesh_same (load_on report.load) (carried at (plain_matches script)) is.load)),
 )

@@ -3,7 +3,7 @@ use Rattle.std.specs.Prelude.{ℕ, ◌+◌, ◌-◌, ◌*◌, ◌==◌, ◌&&◌
 use Rattle.std.specs.Char.{is_ascii_digit}
 use Rattle.std.specs.List.{list_all, list_any, range_with_len, slice_split}
 use Rattle.std.specs.Option.{unwrap_or}
-use Rattle.mesh_load.specs.Mesh.{core_of}
+use Rattle.mesh_load.specs.Mesh.{mesh_core_of}
 
 -- a number that the chip has a core for
 abbrev pub chip_core : ℕ → Option ℕ
@@ -21,13 +21,13 @@ abbrev pub is_comma : ℕ → Bool
 is_comma byte = byte == 44
 
 -- what stands between the commas
-abbrev pub parts_of : List ℕ → List (List ℕ)
-parts_of word = slice_split is_comma word
+abbrev pub between_commas : List ℕ → List (List ℕ)
+between_commas word = slice_split is_comma word
 
 -- the parts from a comma on, if there is one
 abbrev pub parts_behind : Option (List ℕ) → List (List ℕ)
 parts_behind None = []
-parts_behind (Some rest) = parts_of rest
+parts_behind (Some rest) = between_commas rest
 
 -- the core of a part
 abbrev pub core_value : List ℕ → ℕ
@@ -35,7 +35,7 @@ core_value text = unwrap_or (core_number text) 0
 
 -- the cores of all parts
 abbrev pub cores_in : List ℕ → List ℕ
-cores_in word = map core_value (parts_of word)
+cores_in word = map core_value (between_commas word)
 
 -- all are different
 abbrev pub are_different : List ℕ → Bool
@@ -48,16 +48,16 @@ is_core text = is_some (core_number text)
 
 -- a word that lists as many different cores
 abbrev pub lists_cores : ℕ → List ℕ → Bool
-lists_cores nue word = (length (parts_of word) == nue) && list_all is_core (parts_of word) && are_different (cores_in word)
+lists_cores nue word = (length (between_commas word) == nue) && list_all is_core (between_commas word) && are_different (cores_in word)
 
 -- the numbers of ranks that there can be
 unfoldable pub rank_numbers : List ℕ
 rank_numbers = range_with_len 0 48
 
 -- the cores by rank. (Core 0 stands for those of ranks that are not there.)
-abbrev pub by_rank : List ℕ → List ℕ
-by_rank cores = map (core_of cores) rank_numbers
+abbrev pub cores_by_rank : List ℕ → List ℕ
+cores_by_rank cores = map (mesh_core_of cores) rank_numbers
 
 -- the cores by rank of a word that lists as many as there are ranks
 abbrev pub listed_cores : ℕ → List ℕ → Option (List ℕ)
-listed_cores nue word = if lists_cores nue word then Some (by_rank (cores_in word)) else None
+listed_cores nue word = if lists_cores nue word then Some (cores_by_rank (cores_in word)) else None

@@ -33,28 +33,28 @@ abbrev pub on_listed : List ℕ → Command → Option Placed
 on_listed cores command = option_map (placed_on command) (listed_cores command.nue cores)
 
 -- the words `-nue N SCRIPT` or `-nue N -at LIST SCRIPT`, and no others
-abbrev pub command_of : List (List ℕ) → Option Placed
-command_of (option ∷ number ∷ script ∷ []) = option_map on_own (script_command (option ∷ number ∷ script ∷ []))
-command_of (option ∷ number ∷ at ∷ cores ∷ script ∷ []) =
+abbrev pub mesh_command_of : List (List ℕ) → Option Placed
+mesh_command_of (option ∷ number ∷ script ∷ []) = option_map on_own (script_command (option ∷ number ∷ script ∷ []))
+mesh_command_of (option ∷ number ∷ at ∷ cores ∷ script ∷ []) =
     if bytes_eq at (codes "-at") then option_and_then (on_listed cores) (script_command (option ∷ number ∷ script ∷ [])) else None
-command_of _ = None
+mesh_command_of _ = None
 
 -- these lines, and a word on err where a rank has not finished
-abbrev pub ran_by : Bool → List ℕ → Ran
-ran_by finished text = record { finished = finished; out = text; err = if finished then [] else codes "rccemesh: not finished\n" }
+abbrev pub mesh_ran_by : Bool → List ℕ → Ran
+mesh_ran_by finished text = record { finished = finished; out = text; err = if finished then [] else codes "rccemesh: not finished\n" }
 
 -- a line for each link that carries any
-abbrev pub ran_of : Bool → (Link → ℕ) → Ran
-ran_of finished on = ran_by finished (mesh_text on)
+abbrev pub mesh_ran_of : Bool → (Link → ℕ) → Ran
+mesh_ran_of finished on = mesh_ran_by finished (mesh_text on)
 
 -- a script is run by its plain meaning
-abbrev pub run_plan : List ℕ → Script → Plan
-run_plan at script = Runs (ran_of (all_finished (plain_ends script)) (carried at (plain_matches script)))
+abbrev pub mesh_run_plan : List ℕ → Script → Plan
+mesh_run_plan at script = Runs (mesh_ran_of (all_finished (plain_ends script)) (carried at (plain_matches script)))
 
 -- the script's file
-abbrev pub command_plan : Placed → Plan
-command_plan placed = script_plan (run_plan placed.at) placed.command.script placed.command.nue
+abbrev pub mesh_command_plan : Placed → Plan
+mesh_command_plan placed = script_plan (mesh_run_plan placed.at) placed.command.script placed.command.nue
 
 -- the program, by its name and what it does on its words
 abbrev pub rccemesh : Program
-rccemesh = record { name = codes "rccemesh"; plan = λ words. plan_of command_plan (command_of words) }
+rccemesh = record { name = codes "rccemesh"; plan = λ words. plan_of mesh_command_plan (mesh_command_of words) }

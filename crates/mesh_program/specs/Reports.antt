@@ -4,15 +4,15 @@ use Rattle.mesh_load.specs.Mesh.{Link, carried}
 use Rattle.mesh_load.specs.Tables.{load_on}
 use Rattle.outcomes.specs.Outcomes.{Ran}
 use Rattle.mesh_program.specs.declared.report.Report.{Report}
-use Rattle.mesh_program.specs.Program.{ran_of}
+use Rattle.mesh_program.specs.Program.{mesh_ran_of}
 use Rattle.script_plain.specs.Ends.{all_finished}
 use Rattle.script_plain.specs.Matches.{plain_matches}
 use Rattle.script_plain.specs.Meaning.{plain_ends}
 use Rattle.script_reader.specs.Script.{Script}
 
 -- whether each rank has finished, and the lines
-abbrev pub report_ran : Report → Ran
-report_ran report = ran_of report.finished (load_on report.load)
+abbrev pub mesh_report_ran : Report → Ran
+mesh_report_ran report = mesh_ran_of report.finished (load_on report.load)
 
 -- the report is that of a script's plain meaning
 pub record IsReportOf (at : List ℕ) (script : Script) (report : Report) : Type 0 where

@@ -8,7 +8,8 @@ use Rattle.mesh_load.specs.Mesh.{Link, Tile, links_at, neighbour}
 abbrev pub link_line : Link → ℕ → List ℕ
 link_line link lines =
     let to : Tile = neighbour link.tile link.dir in
-    joined (decimal link.tile.x ∷ codes "," ∷ decimal link.tile.y ∷ codes " -> " ∷ decimal to.x ∷ codes "," ∷ decimal to.y ∷ codes " " ∷ decimal lines ∷ codes "\n" ∷ [])
+    joined (decimal link.tile.x ∷ codes "," ∷ decimal link.tile.y ∷ codes " -> " ∷ decimal to.x ∷ codes "," ∷ decimal to.y ∷ codes " "
+    ∷ decimal lines ∷ codes "\n" ∷ [])
 
 -- its line, if it carries any
 abbrev pub link_text : (Link → ℕ) → Link → List ℕ

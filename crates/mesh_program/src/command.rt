@@ -2,7 +2,7 @@
 
 ghost use Rattle.std.specs.Prelude.{◌≡◌, ◌≤◌, ◌∷◌, [], IfSome, codes, map, option_map, string_bytes};
 ghost use Rattle.mesh_program.specs.Jobs.{placed_job};
-ghost use Rattle.mesh_program.specs.Program.{command_of};
+ghost use Rattle.mesh_program.specs.Program.{mesh_command_of};
 
 use crate::cores::listed_cores;
 use rcce_words::{ScriptJob, script_job};
@@ -17,7 +17,7 @@ pub struct Job<'a> {
 
 /// What the words ask for, if they are `-nue N SCRIPT` or `-nue N -at LIST SCRIPT`. No memory is taken.
 pub fn job_of(words: &[String]) -> Option<Job<'_>>
-    ensures gives { option_map placed_job result ≡ command_of (map string_bytes words.now) }
+    ensures gives { option_map placed_job result ≡ mesh_command_of (map string_bytes words.now) }
     ensures some { IfSome result (λ job. 1 ≤ job.asked.nue) }
     ensures most { IfSome result (λ job. job.asked.nue ≤ 48) }
 {
@@ -37,7 +37,7 @@ pub fn job_of(words: &[String]) -> Option<Job<'_>>
 
 /// A job whose ranks are on the cores of their own numbers.
 fn own_job<'a>(option: &str, count: &str, script: &'a str) -> Option<Job<'a>>
-    ensures gives { option_map placed_job result ≡ command_of (option.now ∷ count.now ∷ script.now ∷ []) }
+    ensures gives { option_map placed_job result ≡ mesh_command_of (option.now ∷ count.now ∷ script.now ∷ []) }
     ensures some { IfSome result (λ job. 1 ≤ job.asked.nue) }
     ensures most { IfSome result (λ job. job.asked.nue ≤ 48) }
 {
@@ -48,7 +48,7 @@ fn own_job<'a>(option: &str, count: &str, script: &'a str) -> Option<Job<'a>>
 
 /// A job whose ranks are on the cores of a list.
 fn listed_job<'a>(option: &str, count: &str, cores: &str, script: &'a str) -> Option<Job<'a>>
-    ensures gives { option_map placed_job result ≡ command_of (option.now ∷ count.now ∷ codes "-at" ∷ cores.now ∷ script.now ∷ []) }
+    ensures gives { option_map placed_job result ≡ mesh_command_of (option.now ∷ count.now ∷ codes "-at" ∷ cores.now ∷ script.now ∷ []) }
     ensures some { IfSome result (λ job. 1 ≤ job.asked.nue) }
     ensures most { IfSome result (λ job. job.asked.nue ≤ 48) }
 {

@@ -2,7 +2,7 @@
 
 ghost use Rattle.std.specs.Prelude.{◌≡◌, ◌∷◌, ◌==◌, ◌<◌, ◌≤◌, length, option_map, take, IfSome};
 ghost use Rattle.std.specs.List.{list_any, position};
-ghost use Rattle.mesh_program.specs.Cores.{core_number, is_comma, listed_cores, parts_behind, parts_of};
+ghost use Rattle.mesh_program.specs.Cores.{core_number, is_comma, listed_cores, parts_behind, between_commas};
 
 use scc_base::CoreId;
 
@@ -23,7 +23,7 @@ fn comma(word: &[u8]) -> Option<usize>
 
 /// Cuts a word at its first comma.
 fn cut_word(word: &[u8]) -> Cut<'_>
-    ensures { parts_of word.now ≡ result.first.now ∷ parts_behind (option_map (λ rest. rest.now) result.rest) }
+    ensures { between_commas word.now ≡ result.first.now ∷ parts_behind (option_map (λ rest. rest.now) result.rest) }
 {
     match comma(word) {
         Some(i) => Cut {

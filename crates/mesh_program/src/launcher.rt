@@ -8,8 +8,8 @@ ghost use Rattle.outcomes.specs.Delivery.{sinks};
 ghost use Rattle.outcomes.specs.Promises.{Promises};
 ghost use Rattle.rcce_words.specs.ScriptWords.{plan_of};
 ghost use Rattle.mesh_program.specs.Jobs.{placed_job};
-ghost use Rattle.mesh_program.specs.Program.{command_of, command_plan, rccemesh, run_plan};
-ghost use Rattle.mesh_program.specs.Reports.{report_ran};
+ghost use Rattle.mesh_program.specs.Program.{mesh_command_of, mesh_command_plan, rccemesh, mesh_run_plan};
+ghost use Rattle.mesh_program.specs.Reports.{mesh_report_ran};
 
 use crate::command::{Job, job_of};
 use crate::report::{Report, report_of};
@@ -45,8 +45,8 @@ fn run_words<'a, F: Files>(
     words: &'a [String],
     files: &mut F,
 ) -> Result<Report, Complaint<'a>>
-    ensures { IsMeant (codes "rccemesh") (plan_of command_plan (command_of (map string_bytes words.now)))
-        (F.seen files.old) (F.seen files.new) (outcome_of (codes "rccemesh") report_ran result) }
+    ensures { IsMeant (codes "rccemesh") (plan_of mesh_command_plan (mesh_command_of (map string_bytes words.now)))
+        (F.seen files.old) (F.seen files.new) (outcome_of (codes "rccemesh") mesh_report_ran result) }
 {
     match job_of(words) {
         Some(job) => run_file(alloc, files, &job),
@@ -62,8 +62,8 @@ fn run_file<'a, F: Files>(
 ) -> Result<Report, Complaint<'a>>
     requires some { 1 ≤ job.now.asked.nue }
     requires most { job.now.asked.nue ≤ 48 }
-    ensures { Comes (codes "rccemesh") (command_plan (placed_job job.now))
-        (F.seen files.old) (F.seen files.new) (outcome_of (codes "rccemesh") report_ran result) }
+    ensures { Comes (codes "rccemesh") (mesh_command_plan (placed_job job.now))
+        (F.seen files.old) (F.seen files.new) (outcome_of (codes "rccemesh") mesh_report_ran result) }
 {
     let at = &job.at;
     match read_script_file(alloc, files, job.asked.script, job.asked.nue) {
@@ -77,8 +77,8 @@ fn run_script<'a>(
     at: &[CoreId; 48],
     script: Scripts,
 ) -> Result<Report, Complaint<'a>>
-    ensures { (files : FilesView) → Comes (codes "rccemesh") (run_plan at.now script) files files
-        (outcome_of (codes "rccemesh") report_ran result) }
+    ensures { (files : FilesView) → Comes (codes "rccemesh") (mesh_run_plan at.now script) files files
+        (outcome_of (codes "rccemesh") mesh_report_ran result) }
 {
     match report_of(alloc, at, &script) {
         Ok(report) => Ok(report),

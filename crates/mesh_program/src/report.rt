@@ -20,9 +20,9 @@ pub struct Report {
 }
 
 impl outcomes::Report for Report {
-    ghost use Rattle.mesh_program.specs.Reports.{report_ran};
+    ghost use Rattle.mesh_program.specs.Reports.{mesh_report_ran};
 
-    ghost ran = { report_ran };
+    ghost ran = { mesh_report_ran };
 
     fn is_finished(&self) -> bool {
         self.finished

@@ -4,8 +4,8 @@ use Rattle.std.proofs.lemmas.Bool.{lt-leb, le-leb, leb-true, leb-false, eqb-true
 use Rattle.mpb_alloc.specs.declared.heap.Run.{Run}
 use Rattle.mpb_alloc.specs.declared.heap.MallocFault.TheVariants.{Full}
 use Rattle.scc_base.specs.Places.{LineRun}
-use Rattle.mpb_alloc.specs.Heaps.{IsWithin, StandWithin, line_count, times_at, rest_of, taken_from, given_back, is_run, returned, lowest_fit, longest_of, run_of, front_of, LineHeap, IsHeap, answer_for}
-use Rattle.mpb_alloc.proofs.RunLemmas.{within_from_apart, within-append, line_count-append, times_at-append, length-le-line_count, Found, found, taken_apart, given_apart, line_count-given_back, times_at-given_back, one_at, clear_from_times}
+use Rattle.mpb_alloc.specs.Heaps.{IsWithin, StandWithin, lines_in_runs, times_at, rest_of_run, taken_from, given_back, is_run, returned, lowest_fit, longest_of, run_of_lines, front_of, LineHeap, IsHeap, answer_for}
+use Rattle.mpb_alloc.proofs.RunLemmas.{within_from_apart, within-append, lines_in_runs-append, times_at-append, length-le-lines_in_runs, Found, found, taken_apart, given_apart, lines_in_runs-given_back, times_at-given_back, one_at, clear_from_times}
 use Rattle.std.proofs.lemmas.Bool.Decides.{nat_tests}
 
 -- a run that fits is there exactly where the longest fits
@@ -49,21 +49,21 @@ answer_none n rs e = rw (none_below (front_of n) (lowest_fit n rs) e) refl
 
 -- a buffer goes out
 pub record Goes (h : LineHeap) (n : ℕ) (b : LineRun) : Type 0 where
-  pub heap : IsHeap (record { free = taken_from n h.free; out = h.out ++ run_of b ∷ [] })
+  pub heap : IsHeap (record { free = taken_from n h.free; out = h.out ++ run_of_lines b ∷ [] })
   pub room : length h.out < 31
 
 split_once : (l n : ℕ) (r : Run) → 0 < n → n ≤ r.lines
-    → one_at l (record { first = r.first; lines = n }) + times_at l (rest_of n r) ≡ one_at l r
+    → one_at l (record { first = r.first; lines = n }) + times_at l (rest_of_run n r) ≡ one_at l r
 split_once l n r h k =
     cond_both (r.lines == n) [] ((record { first = r.first + n; lines = r.lines - n }) ∷ [])
     (λ xs. one_at l (record { first = r.first; lines = n }) + times_at l xs ≡ one_at l r)
     (λ e. let f = eqb-true r.lines n e in grind (arith, nat_tests))
     (λ e. let f = eqb-false r.lines n e in grind (arith, nat_tests))
 
-split_lines : (n : ℕ) (r : Run) → n ≤ r.lines → n + line_count (rest_of n r) ≡ r.lines
+split_lines : (n : ℕ) (r : Run) → n ≤ r.lines → n + lines_in_runs (rest_of_run n r) ≡ r.lines
 split_lines n r k =
     cond_both (r.lines == n) [] ((record { first = r.first + n; lines = r.lines - n }) ∷ [])
-    (λ xs. n + line_count xs ≡ r.lines)
+    (λ xs. n + lines_in_runs xs ≡ r.lines)
     (λ e. let f = eqb-true r.lines n e in omega arith)
     (λ e. omega arith)
 
@@ -83,25 +83,25 @@ goes h n b s some e =
     went h n r s some f w =
         let enough = f.enough in
         let w0 = w.0 in let w1 = w.1 in let w2 = w.2 in
-        let free_lines : line_count h.free ≡ line_count f.front + (r.lines + line_count f.back) =
-        ap line_count f.is ∙ line_count-append f.front (r ∷ f.back) in
-        let taken_lines : line_count (taken_from n h.free) ≡ line_count f.front + (line_count (rest_of n r) + line_count f.back) =
-        rw f.taken (simp line_count-append) in
+        let free_lines : lines_in_runs h.free ≡ lines_in_runs f.front + (r.lines + lines_in_runs f.back) =
+        ap lines_in_runs f.is ∙ lines_in_runs-append f.front (r ∷ f.back) in
+        let taken_lines : lines_in_runs (taken_from n h.free) ≡ lines_in_runs f.front + (lines_in_runs (rest_of_run n r) + lines_in_runs f.back) =
+        rw f.taken (simp lines_in_runs-append) in
         let all = s.all_lines in
-        let out_len = length-le-line_count h.out s.out_within in
+        let out_len = length-le-lines_in_runs h.out s.out_within in
         record {
           heap = record {
             free_apart = taken_apart n 225 h.free some s.free_apart;
             out_within = within-append h.out _ s.out_within ((w0, some, omega arith), tt);
-            all_lines = simp line_count-append (omega (arith, split_lines n r enough));
+            all_lines = simp lines_in_runs-append (omega (arith, split_lines n r enough));
             each_once = λ l a z.
                 let one = s.each_once l a z in
                 let free_times : times_at l h.free ≡ times_at l f.front + (one_at l r + times_at l f.back) =
                 ap (times_at l) f.is ∙ times_at-append l f.front (r ∷ f.back) in
-                let taken_times : times_at l (taken_from n h.free) ≡ times_at l f.front + (times_at l (rest_of n r) + times_at l f.back) =
+                let taken_times : times_at l (taken_from n h.free) ≡ times_at l f.front + (times_at l (rest_of_run n r) + times_at l f.back) =
                 rw f.taken (simp times_at-append) in
-                let out_times : times_at l (h.out ++ run_of (front_of n r) ∷ []) ≡ times_at l h.out + (one_at l (run_of (front_of n r)) + 0) =
-                times_at-append l h.out (run_of (front_of n r) ∷ []) in
+                let out_times : times_at l (h.out ++ run_of_lines (front_of n r) ∷ []) ≡ times_at l h.out + (one_at l (run_of_lines (front_of n r)) + 0) =
+                times_at-append l h.out (run_of_lines (front_of n r) ∷ []) in
                 omega (arith, split_once l n r some enough);
           };
           room = omega arith;
@@ -109,7 +109,7 @@ goes h n b s some e =
 
 -- a buffer that is out, and the others
 pub record Struck (b : Run) (out : List Run) : Type 0 where
-  pub lines : line_count out ≡ b.lines + line_count (returned b out)
+  pub lines : lines_in_runs out ≡ b.lines + lines_in_runs (returned b out)
   pub times : (l : ℕ) → times_at l out ≡ one_at l b + times_at l (returned b out)
   pub within : StandWithin out → IsWithin b × StandWithin (returned b out)
 
@@ -121,7 +121,7 @@ struck_first b r rs t =
     let parts = and_parts (b.first == r.first) (b.lines == r.lines) t in
     let same : b ≡ r = same_run b r (eqb-true b.first r.first parts.0) (eqb-true b.lines r.lines parts.1) in
     record {
-      lines = rw t (ap (λ x. x.lines + line_count rs) (sym same));
+      lines = rw t (ap (λ x. x.lines + lines_in_runs rs) (sym same));
       times = λ l. rw t (ap (λ x. one_at l x + times_at l rs) (sym same));
       within = λ s. rw t (subst IsWithin (sym same) s.0, s.1);
     }
@@ -161,13 +161,13 @@ comes h b s c =
     let lines = k.lines in
     let all = s.all_lines in
     let within = within_from_apart h.free 225 (omega arith) s.free_apart in
-    let free_len = length-le-line_count h.free within in
+    let free_len = length-le-lines_in_runs h.free within in
     let clear = clear_from_times b h.free w.0 within (λ l a z. let one = s.each_once l a z in let t = k.times l in omega arith) in
     record {
       heap = record {
         free_apart = given_apart b 225 h.free w0 w1 w2 s.free_apart;
         out_within = w.1;
-        all_lines = omega (arith, line_count-given_back b 225 h.free w1 s.free_apart clear);
+        all_lines = omega (arith, lines_in_runs-given_back b 225 h.free w1 s.free_apart clear);
         each_once = λ l a z.
             let one = s.each_once l a z in
             let t = k.times l in

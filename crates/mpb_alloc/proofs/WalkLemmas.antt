@@ -4,7 +4,7 @@ use Rattle.std.proofs.Math.Seq.{take-append_seam, drop-append_seam}
 use Rattle.std.proofs.lemmas.List.{length-take, length-drop}
 use Rattle.std.proofs.lemmas.Bool.{le-leb, le-ltb, eq-eqb, ne_eqb, and_from}
 use Rattle.mpb_alloc.specs.declared.heap.Run.{Run}
-use Rattle.mpb_alloc.specs.Heaps.{end_of, IsWithin, StandWithin, rest_of, taken_from, joined, given_back, is_run, returned, lowest_fit}
+use Rattle.mpb_alloc.specs.Heaps.{line_behind, IsWithin, StandWithin, rest_of_run, taken_from, joined_runs, given_back, is_run, returned, lowest_fit}
 
 -- what stands from a place on begins with the run at that place
 pub drop_here : (xs : List Run) (i : ℕ) (r : Run) → i < length xs → r ≡ get_or xs i r → drop i xs ≡ r ∷ drop (suc i) xs
@@ -19,7 +19,7 @@ pub record Passed (n at : ℕ) (free : List Run) : Type 0 where
 -- the run at the place is the lowest that fits
 pub record Fits (n at : ℕ) (free : List Run) (r : Run) : Type 0 where
   pub fit : lowest_fit n free ≡ Some r
-  pub taken : taken_from n free ≡ take at free ++ (rest_of n r ++ drop (suc at) free)
+  pub taken : taken_from n free ≡ take at free ++ (rest_of_run n r ++ drop (suc at) free)
   pub within : IsWithin r
 
 pub fits_here : (n at : ℕ) (free : List Run) (r : Run) → at < length free → r ≡ get_or free at r → Passed n at free
@@ -69,18 +69,18 @@ pub record Giving (first : Run) (initial : List Run) (now : Run) (at : ℕ) (fre
   pub room : length free < 31
   pub bound : at ≤ length free
 
--- the run at the place is joined with it
+-- the run at the place is joined_runs with it
 pub giving_joined : (first : Run) (initial : List Run) (run : Run) (at : ℕ) (free : List Run) (other : Run)
     → Giving first initial run at free → at < length free → other ≡ get_or free at other
-    → other.first ≤ end_of run → run.first ≤ end_of other → Giving first initial (joined run other) at (remove free at)
+    → other.first ≤ line_behind run → run.first ≤ line_behind other → Giving first initial (joined_runs run other) at (remove free at)
 giving_joined first initial run at free other g h e a b =
     let d = drop_here free at other h e in
     let le : at ≤ length free = omega arith in
     let w : StandWithin (other ∷ drop (suc at) free) = subst StandWithin d g.within in
     let o = w.0 in
     let r = g.whole in
-    let t : nat_lt (end_of run) other.first ≡ false = le-ltb (end_of run) other.first a in
-    let u : nat_lt (end_of other) run.first ≡ false = le-ltb (end_of other) run.first b in
+    let t : nat_lt (line_behind run) other.first ≡ false = le-ltb (line_behind run) other.first a in
+    let u : nat_lt (line_behind other) run.first ≡ false = le-ltb (line_behind other) run.first b in
     let len : length (remove free at) + 1 ≡ length free = simp (length-append, length-take, length-drop) (omega arith) in
     let room = g.room in
     record {

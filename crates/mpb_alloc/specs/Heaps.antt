@@ -8,12 +8,12 @@ use Rattle.mpb_alloc.specs.declared.heap.MallocFault.{MallocFault}
 use Rattle.mpb_alloc.specs.declared.heap.MallocFault.TheVariants.{Empty, Full}
 
 -- the lines of a buffer
-abbrev pub run_of : LineRun → Run
-run_of b = record { first = b.first; lines = b.lines }
+abbrev pub run_of_lines : LineRun → Run
+run_of_lines b = record { first = b.first; lines = b.lines }
 
 -- the line behind a run
-abbrev pub end_of : Run → ℕ
-end_of r = r.first + r.lines
+abbrev pub line_behind : Run → ℕ
+line_behind r = r.first + r.lines
 
 -- what is seen of a heap: the runs that are free, in order, and the buffers that are out
 pub record LineHeap : Type 0 where
@@ -30,16 +30,16 @@ lines_for bytes = (bytes + 31) / 32
 
 -- a run has this line
 abbrev pub has_line : ℕ → Run → Bool
-has_line line r = nat_le r.first line && nat_lt line (end_of r)
+has_line line r = nat_le r.first line && nat_lt line (line_behind r)
 
 -- the runs stand in order from this line on up to 255; none is empty, none touches the next
 abbrev pub StandApart : ℕ → List Run → Type 0
 StandApart low [] = Unit {0}
-StandApart low (r ∷ rs) = (low ≤ r.first) × (0 < r.lines) × (end_of r ≤ 256) × StandApart (end_of r + 1) rs
+StandApart low (r ∷ rs) = (low ≤ r.first) × (0 < r.lines) × (line_behind r ≤ 256) × StandApart (line_behind r + 1) rs
 
 -- the run has a line, and all its lines are of the heap
 abbrev pub IsWithin : Run → Type 0
-IsWithin r = (first_heap ≤ r.first) × (0 < r.lines) × (end_of r ≤ 256)
+IsWithin r = (first_heap ≤ r.first) × (0 < r.lines) × (line_behind r ≤ 256)
 
 -- each run is such
 abbrev pub StandWithin : List Run → Type 0
@@ -47,9 +47,9 @@ StandWithin [] = Unit {0}
 StandWithin (r ∷ rs) = IsWithin r × StandWithin rs
 
 -- how many lines the runs have
-abbrev pub line_count : List Run → ℕ
-line_count [] = 0
-line_count (r ∷ rs) = r.lines + line_count rs
+abbrev pub lines_in_runs : List Run → ℕ
+lines_in_runs [] = 0
+lines_in_runs (r ∷ rs) = r.lines + lines_in_runs rs
 
 -- how many of the runs have this line
 abbrev pub times_at : ℕ → List Run → ℕ
@@ -60,7 +60,7 @@ times_at line (r ∷ rs) = (if has_line line r then 1 else 0) + times_at line rs
 pub record IsHeap (h : LineHeap) : Type 0 where
   pub free_apart : StandApart first_heap h.free
   pub out_within : StandWithin h.out
-  pub all_lines : line_count h.free + line_count h.out ≡ 31
+  pub all_lines : lines_in_runs h.free + lines_in_runs h.out ≡ 31
   pub each_once : (line : ℕ) → first_heap ≤ line → line < 256 → times_at line h.free + times_at line h.out ≡ 1
 
 -- the lowest run of at least `lines` lines
@@ -77,30 +77,30 @@ longest_of [] = 0
 longest_of (r ∷ rs) = max r.lines (longest_of rs)
 
 -- a run without its first lines, if anything is left
-abbrev pub rest_of : ℕ → Run → List Run
-rest_of lines r =
+abbrev pub rest_of_run : ℕ → Run → List Run
+rest_of_run lines r =
     if r.lines == lines then [] else (record { first = r.first + lines; lines = r.lines - lines }) ∷ []
 
 -- the free runs after the front of the lowest one that fits was taken
 abbrev pub taken_from : ℕ → List Run → List Run
 taken_from lines [] = []
 taken_from lines (r ∷ rs) =
-    if nat_le lines r.lines then rest_of lines r ++ rs else r ∷ taken_from lines rs
+    if nat_le lines r.lines then rest_of_run lines r ++ rs else r ∷ taken_from lines rs
 
 -- one run from the first line of the two to the last
-abbrev pub joined : Run → Run → Run
-joined a b =
+abbrev pub joined_runs : Run → Run → Run
+joined_runs a b =
     record {
       first = min a.first b.first;
-      lines = max (end_of a) (end_of b) - min a.first b.first;
+      lines = max (line_behind a) (line_behind b) - min a.first b.first;
     }
 
--- the free runs after one more came: it is joined with each that it touches
+-- the free runs after one more came: it is joined_runs with each that it touches
 abbrev pub given_back : Run → List Run → List Run
 given_back b [] = b ∷ []
 given_back b (r ∷ rs) =
-    if nat_lt (end_of b) r.first then b ∷ r ∷ rs
-    else (if nat_lt (end_of r) b.first then r ∷ given_back b rs else given_back (joined b r) rs)
+    if nat_lt (line_behind b) r.first then b ∷ r ∷ rs
+    else (if nat_lt (line_behind r) b.first then r ∷ given_back b rs else given_back (joined_runs b r) rs)
 
 -- the same buffer
 abbrev pub is_run : Run → Run → Bool

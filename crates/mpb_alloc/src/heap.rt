@@ -1,7 +1,7 @@
 //! The heap of a core's message passing buffer.
 
 ghost use Rattle.std.specs.Prelude.{◌≡◌, ◌+◌, ◌<◌, ◌↔◌, ◌++◌, [], ◌∷◌, length, IsTrue, IfOk, OnErr, OnOk, Contains, option_map, slice_index_or};
-ghost use Rattle.mpb_alloc.specs.Heaps.{front_of, longest_of, lowest_fit, given_back, taken_from, joined, returned, end_of, IsWithin, StandWithin};
+ghost use Rattle.mpb_alloc.specs.Heaps.{front_of, longest_of, lowest_fit, given_back, taken_from, joined_runs, returned, line_behind, IsWithin, StandWithin};
 
 use arrayvec::ArrayVec;
 use scc_base::Buf;
@@ -54,7 +54,7 @@ impl Model for Heap {
 
 impl Heap {
     ghost use Rattle.std.specs.Prelude.{◌≡◌, ◌↔◌, ◌++◌, [], ◌∷◌, IsTrue, IfOk, OnOk, OnErr, Contains};
-    ghost use Rattle.mpb_alloc.specs.Heaps.{run_of, IsHeap, all_free, malloc_answer, fits_in, lines_for, taken_from, given_back, returned};
+    ghost use Rattle.mpb_alloc.specs.Heaps.{run_of_lines, IsHeap, all_free, malloc_answer, fits_in, lines_for, taken_from, given_back, returned};
 
     /// All 31 lines are free.
     pub fn new() -> Heap
@@ -77,7 +77,7 @@ impl Heap {
     pub fn malloc(&mut self, bytes: usize) -> Result<Buf, MallocFault>
         ensures answer { result ≡ malloc_answer self.old bytes }
         ensures free { OnOk result (self.new.free ≡ taken_from (lines_for bytes) self.old.free) }
-        ensures out { IfOk result (λ b. self.new.out ≡ self.old.out ++ run_of b ∷ []) }
+        ensures out { IfOk result (λ b. self.new.out ≡ self.old.out ++ run_of_lines b ∷ []) }
         ensures unchanged { OnErr result (self.new ≡ self.old) }
         ensures heap { OnOk result (IsHeap self.new) }
     {
@@ -99,9 +99,9 @@ impl Heap {
 
     /// Gives a buffer back, which joins the free runs beside it.
     pub fn free(&mut self, buffer: Buf)
-        requires { Contains self.old.out (run_of buffer) }
-        ensures free { self.new.free ≡ given_back (run_of buffer) self.old.free }
-        ensures out { self.new.out ≡ returned (run_of buffer) self.old.out }
+        requires { Contains self.old.out (run_of_lines buffer) }
+        ensures free { self.new.free ≡ given_back (run_of_lines buffer) self.old.free }
+        ensures out { self.new.out ≡ returned (run_of_lines buffer) self.old.out }
         ensures heap { IsHeap self.new }
     {
         let run = Run::of(buffer);
@@ -111,7 +111,7 @@ impl Heap {
 
     /// Whether a buffer is out.
     pub fn is_out(&self, buffer: Buf) -> bool
-        ensures { IsTrue result ↔ Contains self.now.out (run_of buffer) }
+        ensures { IsTrue result ↔ Contains self.now.out (run_of_lines buffer) }
     {
         self.out.as_slice().contains(&Run::of(buffer))
     }
@@ -126,10 +126,10 @@ impl Heap {
 
 impl Run {
     ghost use Rattle.std.specs.Prelude.{◌≡◌};
-    ghost use Rattle.mpb_alloc.specs.Heaps.{run_of, end_of};
+    ghost use Rattle.mpb_alloc.specs.Heaps.{run_of_lines, line_behind};
 
     fn of(buffer: Buf) -> Run
-        ensures { result ≡ run_of buffer }
+        ensures { result ≡ run_of_lines buffer }
     {
         Run {
             first: buffer.first(),
@@ -139,7 +139,7 @@ impl Run {
 
     /// The line behind the run.
     fn end(self) -> u16
-        ensures { result ≡ end_of self }
+        ensures { result ≡ line_behind self }
     {
         u16::from(self.first) + u16::from(self.lines)
     }
@@ -168,7 +168,7 @@ fn longest(runs: &Runs) -> usize
 fn join(left: Run, right: Run) -> Run
     requires left { IsWithin left }
     requires right { IsWithin right }
-    ensures { result ≡ joined left right }
+    ensures { result ≡ joined_runs left right }
 {
     let first = left.first.min(right.first);
     let lines = left.end().max(right.end()) - u16::from(first);

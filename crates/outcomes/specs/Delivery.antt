@@ -26,9 +26,9 @@ StopsShort o before after = (CutShort o.out before.out after.out × (after.err �
     ⊎ ((after.out ≡ with_text o.out before.out) × CutShort o.err before.err after.err)
 
 -- what was written of an outcome's texts: both whole, or up to a failed write
-abbrev pub Sent : Outcome → Sinks → Sinks → Result (Unit {0}) WriteFault → Type 0
-Sent o before after (Ok _) = after ≡ with_outcome o before
-Sent o before after (Err _) = StopsShort o before after
+abbrev pub WroteTexts : Outcome → Sinks → Sinks → Result (Unit {0}) WriteFault → Type 0
+WroteTexts o before after (Ok _) = after ≡ with_outcome o before
+WroteTexts o before after (Err _) = StopsShort o before after
 
 -- the outcome's texts were taken whole, with its status; or, with the status of a failed write, up to that write
 abbrev pub Delivers : Outcome → Sinks → Sinks → Status → Type 0

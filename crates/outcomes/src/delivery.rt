@@ -2,7 +2,7 @@
 
 ghost use Rattle.std.specs.Prelude.{◌≡◌, ℕ, List};
 ghost use Rattle.outcomes.specs.Complaints.{outcome_of};
-ghost use Rattle.outcomes.specs.Delivery.{Delivers, Sent, sinks};
+ghost use Rattle.outcomes.specs.Delivery.{Delivers, WroteTexts, sinks};
 ghost use Rattle.outcomes.specs.Outcomes.{run_outcome};
 
 use crate::{Complaint, Report, Status};
@@ -46,7 +46,7 @@ fn write_ending<'a, R: Report, O: Sink, E: Sink>(
     out: &mut O,
     err: &mut E,
 ) -> Result<(), WriteFault>
-    ensures { Sent (outcome_of program.now R.ran ending.now) (sinks (O.seen out.old) (E.seen err.old))
+    ensures { WroteTexts (outcome_of program.now R.ran ending.now) (sinks (O.seen out.old) (E.seen err.old))
         (sinks (O.seen out.new) (E.seen err.new)) result }
 {
     match ending {
@@ -60,7 +60,7 @@ fn write_report<R: Report, O: Sink, E: Sink>(
     out: &mut O,
     err: &mut E,
 ) -> Result<(), WriteFault>
-    ensures { Sent (run_outcome (R.ran report.now)) (sinks (O.seen out.old) (E.seen err.old))
+    ensures { WroteTexts (run_outcome (R.ran report.now)) (sinks (O.seen out.old) (E.seen err.old))
         (sinks (O.seen out.new) (E.seen err.new)) result }
 {
     report.write_out(out)?;

@@ -44,7 +44,8 @@ pub data ServeStops (polls : ℕ) (base : List DataCall) (balls back : List Ball
       → GaveUpSending polls (base ++ serves (take round balls) (take round back)) 1 (slice_index_or balls round []) now stall
       → ServeStops polls base balls back now why
   AtReturn : (round : ℕ) → round < length balls → (other : RecvStop) → why ≡ stop.Recv other
-      → GaveUpReceiving polls ((base ++ serves (take round balls) (take round back)) ++ Send 1 (plain_head 4) (slice_index_or balls round []) ∷ [])
+      → GaveUpReceiving polls ((base ++ serves (take round balls) (take round back))
+      ++ Send 1 (plain_head 4) (slice_index_or balls round []) ∷ [])
       1 now other → ServeStops polls base balls back now why
 
 -- the player at rank 1 gave up behind its first rounds: at the receive of the next one, or at its way back

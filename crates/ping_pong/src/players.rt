@@ -89,7 +89,8 @@ pub(crate) fn serve<P: Port>(
     requires free { NoCallOpen (P.sight port.old) station.old }
     requires peers { are_peers (P.sight port.old).seat.setup (P.sight port.old).seat.rank 1 ≡ true }
     requires as_many { length back.old ≡ length balls.now }
-    ensures calls { IfOk result (λ done. (record_in (P.sight port.new)).calls ≡ (record_in (P.sight port.old)).calls ++ serves balls.now back.new) }
+    ensures calls { IfOk result (λ done. (record_in (P.sight port.new)).calls
+        ≡ (record_in (P.sight port.old)).calls ++ serves balls.now back.new) }
     ensures stopped { IfErr result (λ stop. ServeStops station.old.polls (record_in (P.sight port.old)).calls balls.now back.new
         (P.sight port.new) stop) }
     ensures as_many { length back.new ≡ length balls.now }

@@ -4,7 +4,7 @@ use Rattle.std.proofs.lemmas.Bool.Decides.{nat_tests}
 use Rattle.std.proofs.lemmas.List.{take_all}
 use Rattle.rcce_io.specs.Faults.{IsSteady, next_count}
 use Rattle.rcce_io.specs.Files.{NamedFile}
-use Rattle.rcce_io.specs.Memory.{FilesState, SinkState, no_files, new_sink, after_open, after_read, after_write, files_seen, sink_seen}
+use Rattle.rcce_io.specs.Memory.{FilesState, SinkState, no_files_state, new_sink, after_open, after_read, after_write, files_seen, sink_seen}
 use Rattle.rcce_io.specs.Sending.{SinkView, with_text}
 use Rattle.outcomes.specs.Delivery.{AreSteady, Shows, sinks}
 use Rattle.outcomes.specs.Outcomes.{Outcome}
@@ -14,7 +14,7 @@ no_faults = record { same = omega arith; below_most = omega arith }
 
 -- files in memory, which are these
 abbrev pub files_for : List NamedFile → FilesState
-files_for told = record no_files { files = told }
+files_for told = record no_files_state { files = told }
 
 pub files_stay : (told : List NamedFile) (file : List ℕ) (len : ℕ) → IsSteady (files_seen (files_for told)).faults (files_seen (after_read (after_open (files_for told) file) len)).faults
 files_stay told file len = no_faults

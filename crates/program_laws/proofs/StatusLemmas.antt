@@ -16,7 +16,7 @@ use Rattle.outcomes.specs.declared.status.Status.TheVariants as status
 use Rattle.outcomes.specs.Numbers.{is_option, ue_count_of}
 use Rattle.outcomes.specs.Outcomes.{Outcome, too_long}
 use Rattle.outcomes.specs.Plans.{Plan, contents_outcome, expected, plan_outcome, words_outcome}
-use Rattle.rcce_words.specs.CommandLine.{flag_of, nothing, take_option, take_name, takes_value, scan, job_of, parse_command}
+use Rattle.rcce_words.specs.CommandLine.{option_named, nothing, take_option, take_name, takes_value, scan, job_of, parse_command}
 use Rattle.rcce_words.specs.ScriptFiles.{bytes_plan, parsed_plan, script_plan}
 use Rattle.rcce_words.specs.ScriptWords.{Command, plan_of, script_command}
 use Rattle.rcce_words.specs.declared.command.Job.{Job}
@@ -55,7 +55,7 @@ module _ (program : List ℕ) (files : List NamedFile) (next : Script → Plan) 
 
 of_command : (command : Option Command) (files : List NamedFile) → (words_outcome check.rccecheck.name (plan_of check.command_plan command) files).status ≡ command_status command files
 of_command None files = refl
-of_command (Some command) files = of_file check.rccecheck.name files check.run_plan (λ script. refl) command.script command.nue
+of_command (Some command) files = of_file check.rccecheck.name files check.check_run_plan (λ script. refl) command.script command.nue
 
 pub check_status : (words : List (List ℕ)) (told : List NamedFile) → (expected check.rccecheck words told).status ≡ run_status words told
 check_status words told = of_command (script_command words) told
@@ -74,7 +74,7 @@ read_by number script count =
 -- and where the last word is an option or none
 abbrev named_by : ℕ → List ℕ → Bool → Result Job WordFault
 named_by nue script test =
-    ((if test then take_option 2 (record nothing { nue = Some nue }) (flag_of script) None else take_name 2 (record nothing { nue = Some nue })) >>= λ next. scan 3 (takes_value (flag_of script)) next []) >>= job_of
+    ((if test then take_option 2 (record nothing { nue = Some nue }) (option_named script) None else take_name 2 (record nothing { nue = Some nue })) >>= λ next. scan 3 (takes_value (option_named script)) next []) >>= job_of
 
 parsed_job : (number script : List ℕ) (nue : ℕ) → is_option script ≡ false → ue_count_of number ≡ Some nue
     → parse_command (codes "-nue" ∷ number ∷ script ∷ []) ≡ Ok (job_for nue)

@@ -28,5 +28,6 @@ pub fn premises_law()
         × ((files_seen files).told ≡ Some told)
         × ((file : List ℕ) (len : ℕ) → IsSteady (files_seen files).faults (files_seen (after_read (after_open files file) len)).faults)
         × AreSteady (sinks (sink_seen out) (sink_seen err)) (sinks (sink_seen out_after) (sink_seen err_after))
-        × Shows (expected program words told) (sinks (sink_seen out) (sink_seen err)) (sinks (sink_seen out_after) (sink_seen err_after)) (expected program words told).status }
+        × Shows (expected program words told) (sinks (sink_seen out) (sink_seen err)) (sinks (sink_seen out_after) (sink_seen err_after))
+        (expected program words told).status }
 {}

@@ -13,7 +13,7 @@ use Rattle.line_cache.specs.Lines.{noted}
 use Rattle.put_get.specs.Accesses.{loads_of}
 use Rattle.put_get.specs.Cores.{Private, Fetch, Held, Loaded}
 use Rattle.put_get.specs.Transfers.{same_word, load_count}
-use Rattle.put_get.specs.Answers.{tells, IsKnown, Since, Invalidated, HasRead, HasWritten, HasFlushed, AnswersLaw, LineCostLaw}
+use Rattle.put_get.specs.Answers.{tells, IsValueKnown, Since, Invalidated, HasRead, HasWritten, HasFlushed, AnswersLaw, LineCostLaw}
 use Rattle.put_get.proofs.StepLemmas.{events_once}
 use Rattle.put_get.proofs.EntryLemmas.{EachEntry, each_held, each_fills, each_weaker, same_line-true}
 use Rattle.put_get.proofs.WorkLemmas.{spends_line, stands_once}
@@ -21,16 +21,16 @@ use Rattle.put_get.proofs.WorkLemmas.{spends_line, stands_once}
 -- four words, each of them known
 pub record IsLineKnown (known : List Event) (line : LineAt) (words : List ℕ) : Type 0 where
   pub four : length words ≡ 4
-  pub each : (k : ℕ) → k < 4 → IsKnown known (word_of_line line k) (slice_index words k)
+  pub each : (k : ℕ) → k < 4 → IsValueKnown known (word_of_line line k) (slice_index words k)
 
 abbrev pub AllKnown : List Event → Private → Type 0
 AllKnown known c = EachEntry (IsLineKnown known) c.lines
 
-pub known_more : (es fs : List Event) (p : WordAt) (v : ℕ) → IsKnown es p v → IsKnown (es ++ fs) p v
+pub known_more : (es fs : List Event) (p : WordAt) (v : ℕ) → IsValueKnown es p v → IsValueKnown (es ++ fs) p v
 known_more es fs p v h =
     list_any-append (tells p v) es fs ∙ or_left (list_any (tells p v) es) (list_any (tells p v) fs) h
 
-known_last : (es fs : List Event) (p : WordAt) (v : ℕ) → IsKnown fs p v → IsKnown (es ++ fs) p v
+known_last : (es fs : List Event) (p : WordAt) (v : ℕ) → IsValueKnown fs p v → IsValueKnown (es ++ fs) p v
 known_last es fs p v h =
     list_any-append (tells p v) es fs ∙ or_right (list_any (tells p v) es) (list_any (tells p v) fs) h
 
@@ -46,13 +46,13 @@ tells-load p v = and_from (same_word p p) (v == v) (same_word-refl p) (eq-eqb v 
 tells-store : (p : WordAt) (v : ℕ) → tells p v (store_of p v) ≡ true
 tells-store p v = and_from (same_word p p) (v == v) (same_word-refl p) (eq-eqb v v refl)
 
-known_head : (p : WordAt) (v : ℕ) (e : Event) (es : List Event) → tells p v e ≡ true → IsKnown (e ∷ es) p v
+known_head : (p : WordAt) (v : ℕ) (e : Event) (es : List Event) → tells p v e ≡ true → IsValueKnown (e ∷ es) p v
 known_head p v e es h = or_left (tells p v e) (list_any (tells p v) es) h
 
-known_tail : (p : WordAt) (v : ℕ) (e : Event) (es : List Event) → IsKnown es p v → IsKnown (e ∷ es) p v
+known_tail : (p : WordAt) (v : ℕ) (e : Event) (es : List Event) → IsValueKnown es p v → IsValueKnown (e ∷ es) p v
 known_tail p v e es h = or_right (tells p v e) (list_any (tells p v) es) h
 
-loads_known : (line : LineAt) (words : List ℕ) (k : ℕ) → k < 4 → IsKnown (loads_of line words) (word_of_line line k) (slice_index words k)
+loads_known : (line : LineAt) (words : List ℕ) (k : ℕ) → k < 4 → IsValueKnown (loads_of line words) (word_of_line line k) (slice_index words k)
 loads_known line words zero h =
     let p = word_of_line line 0 in
     let v = slice_index words 0 in
@@ -120,18 +120,18 @@ word_written known p v words below a =
     record { four = len; each = λ k h. by k h (cases_eq k p.word) }
   where
     by : (k : ℕ) → k < 4 → (k ≡ p.word) ⊎ (k ≡ p.word → ⊥)
-        → IsKnown (known ++ store_of p v ∷ []) (word_of_line (line_of_word p) k) (slice_index (set words p.word v) k)
+        → IsValueKnown (known ++ store_of p v ∷ []) (word_of_line (line_of_word p) k) (slice_index (set words p.word v) k)
     by k h (inl e) =
         let four = a.four in
         let within : p.word < length words = omega arith in
         let same : slice_index (set words p.word v) p.word ≡ v = rw get_or-set_same refl in
-        subst (λ j. IsKnown (known ++ store_of p v ∷ []) (word_of_line (line_of_word p) j) (slice_index (set words p.word v) j)) (sym e)
-        (subst (λ x. IsKnown (known ++ store_of p v ∷ []) p x) (sym same)
+        subst (λ j. IsValueKnown (known ++ store_of p v ∷ []) (word_of_line (line_of_word p) j) (slice_index (set words p.word v) j)) (sym e)
+        (subst (λ x. IsValueKnown (known ++ store_of p v ∷ []) p x) (sym same)
         (known_last known (store_of p v ∷ []) p v (known_head p v (store_of p v) [] (tells-store p v))))
     by k h (inr ne) =
         let other : k ≢ p.word = ne in
         let same : slice_index (set words p.word v) k ≡ slice_index words k = rw get_or-set_other refl in
-        subst (λ x. IsKnown (known ++ store_of p v ∷ []) (word_of_line (line_of_word p) k) x) (sym same)
+        subst (λ x. IsValueKnown (known ++ store_of p v ∷ []) (word_of_line (line_of_word p) k) x) (sym same)
         (known_more known (store_of p v ∷ []) (word_of_line (line_of_word p) k) (slice_index words k) (a.each k h))
 
 noted_known : (known : List Event) (p : WordAt) (v : ℕ) (es : List Entry) → p.word < 4 → EachEntry (IsLineKnown known) es
@@ -159,7 +159,7 @@ since_known known c (HasFlushed before b since s t d flushes) =
 pub answers : AnswersLaw
 answers known es c d s t p v since below reads did =
     let line = (fetch_known known es (since_known known c since) reads.fetch did).1 in
-    subst (λ x. IsKnown (known ++ es) p x) (sym reads.is) (line.each p.word below)
+    subst (λ x. IsValueKnown (known ++ es) p x) (sym reads.is) (line.each p.word below)
 
 pub line_cost : LineCostLaw
 line_cost es c d s t line words reads did =

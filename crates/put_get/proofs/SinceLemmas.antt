@@ -12,7 +12,7 @@ use Rattle.write_combine.specs.Combining.{one_word, with_word, handed_out, held_
 use Rattle.put_get.specs.Accesses.{stores_of_line, stores_of, whole_line}
 use Rattle.put_get.specs.Cores.{Private, ReadsWord, ReadsLine, WritesThrough, WritesLine, line_noted}
 use Rattle.put_get.specs.Transfers.{line_at, put_stores, put_lines, Puts, ReadsLines, Gets}
-use Rattle.put_get.specs.Answers.{IsKnown, Since, Invalidated, HasRead, HasWritten, HasFlushed, writes_of, writes_from, IsLineTold, LinesLaw}
+use Rattle.put_get.specs.Answers.{IsValueKnown, Since, Invalidated, HasRead, HasWritten, HasFlushed, writes_of, writes_from, IsLineTold, LinesLaw}
 use Rattle.put_get.proofs.StepLemmas.{events_once, did_front, did_left}
 use Rattle.put_get.proofs.CoreLemmas.{word_made}
 use Rattle.put_get.proofs.AnswerLemmas.{answers, known_more}
@@ -25,7 +25,7 @@ record ToldWord (known : List Event) (s : Sight) (p : WordAt) (v : ℕ) (t : Sig
   events : List Event
   did : Did s events t
   since : Since (known ++ events) d
-  told : IsKnown (known ++ events) p v
+  told : IsValueKnown (known ++ events) p v
 
 told_word : (known : List Event) (c d : Private) (s t : Sight) (p : WordAt) (v : ℕ) → p.word < 4 → Since known c → ReadsWord s c p v t d → ToldWord known s p v t d
 told_word known c d s t p v below since reads =
@@ -47,9 +47,9 @@ record ToldLine (known : List Event) (s : Sight) (line : LineAt) (words : List �
 regroup : (k a b c d : List Event) → (((k ++ a) ++ b) ++ c) ++ d ≡ k ++ (((a ++ b) ++ c) ++ d)
 regroup k a b c d = simp append_assoc
 
-four_told : (es : List Event) (line : LineAt) (words : List ℕ) → IsKnown es (word_of_line line 0) (slice_index words 0)
-    → IsKnown es (word_of_line line 1) (slice_index words 1) → IsKnown es (word_of_line line 2) (slice_index words 2)
-    → IsKnown es (word_of_line line 3) (slice_index words 3) → IsLineTold es line words
+four_told : (es : List Event) (line : LineAt) (words : List ℕ) → IsValueKnown es (word_of_line line 0) (slice_index words 0)
+    → IsValueKnown es (word_of_line line 1) (slice_index words 1) → IsValueKnown es (word_of_line line 2) (slice_index words 2)
+    → IsValueKnown es (word_of_line line 3) (slice_index words 3) → IsLineTold es line words
 four_told es line words a b c d zero h = a
 four_told es line words a b c d (suc zero) h = b
 four_told es line words a b c d (suc (suc zero)) h = c
@@ -74,9 +74,9 @@ told_line known c d s t line words since r =
     let v0 = slice_index words 0 in
     let v1 = slice_index words 1 in
     let v2 = slice_index words 2 in
-    let one : IsKnown k4 p0 v0 = known_more k3 w3.events p0 v0 (known_more k2 w2.events p0 v0 (known_more k1 w1.events p0 v0 w0.told)) in
-    let two : IsKnown k4 p1 v1 = known_more k3 w3.events p1 v1 (known_more k2 w2.events p1 v1 w1.told) in
-    let three : IsKnown k4 p2 v2 = known_more k3 w3.events p2 v2 w2.told in
+    let one : IsValueKnown k4 p0 v0 = known_more k3 w3.events p0 v0 (known_more k2 w2.events p0 v0 (known_more k1 w1.events p0 v0 w0.told)) in
+    let two : IsValueKnown k4 p1 v1 = known_more k3 w3.events p1 v1 (known_more k2 w2.events p1 v1 w1.told) in
+    let three : IsValueKnown k4 p2 v2 = known_more k3 w3.events p2 v2 w2.told in
     record {
       events = all;
       did = did_both s ((w0.events ++ w1.events) ++ w2.events) r.s3 w3.events t

@@ -14,8 +14,8 @@ abbrev pub tells : WordAt → ℕ → Event → Bool
 tells p v e = same_word e.place p && e.value == v
 
 -- one of the events is of this word and has this value
-abbrev pub IsKnown : List Event → WordAt → ℕ → Type 0
-IsKnown known p v = list_any (tells p v) known ≡ true
+abbrev pub IsValueKnown : List Event → WordAt → ℕ → Type 0
+IsValueKnown known p v = list_any (tells p v) known ≡ true
 
 -- what a core did since it last dropped all its lines: the loads that it made, and the words that it wrote,
 -- each as a store, in the order of the calls
@@ -31,7 +31,7 @@ pub data Since : List Event → Private → Type 0 where
 -- that it wrote since then
 abbrev pub AnswersLaw : Type 0
 AnswersLaw = (known es : List Event) (c d : Private) (s t : Sight) (p : WordAt) (v : ℕ) → Since known c → p.word < 4
-    → ReadsWord s c p v t d → Did s es t → IsKnown (known ++ es) p v
+    → ReadsWord s c p v t d → Did s es t → IsValueKnown (known ++ es) p v
 
 -- a line that is read costs at most four loads, and four more for each line that was dropped meanwhile
 abbrev pub LineCostLaw : Type 0
@@ -51,7 +51,7 @@ writes_from core line (words ∷ rest) = writes_of (line_at core line) words ++ 
 
 -- each word of a line is known
 abbrev pub IsLineTold : List Event → LineAt → List ℕ → Type 0
-IsLineTold known line words = (k : ℕ) → k < 4 → IsKnown known (word_of_line line k) (slice_index words k)
+IsLineTold known line words = (k : ℕ) → k < 4 → IsValueKnown known (word_of_line line k) (slice_index words k)
 
 -- the calls for whole lines keep `Since`: each field is one call. Behind line_read, line_write, word_through and put what a
 -- core knows goes on with what the call loaded or wrote; behind a get it begins anew with the get's loads. Each word that a

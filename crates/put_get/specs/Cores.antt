@@ -34,7 +34,12 @@ pub data Fills (c : Private) (line : LineAt) (words : List ℕ) (d : Private) : 
   Kept : MayAnswer c.answers (length (filled c.lines line words)) None
       → d ≡ record c { lines = filled c.lines line words; asked = asked_after c.asked; answers = d.answers } → Fills c line words d
   Dropped : (at : ℕ) → at < length (filled c.lines line words) → MayAnswer c.answers (length (filled c.lines line words)) (Some at)
-      → d ≡ record c { lines = remove (filled c.lines line words) at; evictions = suc c.evictions; asked = asked_after c.asked; answers = d.answers } → Fills c line words d
+      → d ≡ record c {
+        lines = remove (filled c.lines line words) at;
+        evictions = suc c.evictions;
+        asked = asked_after c.asked;
+        answers = d.answers;
+      } → Fills c line words d
 
 -- the words of a line were got: from the cache with no event, or by four loads, after which the line came in
 pub data Fetch (s : Sight) (c : Private) (line : LineAt) (words : List ℕ) (t : Sight) (d : Private) : Type 0 where

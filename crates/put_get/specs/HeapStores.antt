@@ -41,4 +41,5 @@ pub record HeapLaw : Type 0 where
       → AwaitsHeap seat.setup out → LeavesStage seat rec (stores_of out)
   pub word_held : (setup : SetupView) (out : Option Out) (p : WordAt) (v : ℕ) → AwaitsHeap setup out → IsHeapLine setup (line_of_word p)
       → AwaitsHeap setup (Some (held_after out p v))
-  pub line_held : (setup : SetupView) (line : LineAt) (words : List ℕ) → IsHeapLine setup line → AwaitsHeap setup (Some (whole_line line words))
+  pub line_held : (setup : SetupView) (line : LineAt) (words : List ℕ) → IsHeapLine setup line
+      → AwaitsHeap setup (Some (whole_line line words))

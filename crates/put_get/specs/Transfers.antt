@@ -25,12 +25,14 @@ abbrev pub put_lines : List Entry → ℕ → ℕ → List (List ℕ) → List E
 put_lines es core line [] = es
 put_lines es core line (words ∷ rest) = put_lines (line_noted es (line_at core line) words) core (line + 1) rest
 
--- a put: lines from a line on were written, and all of them were stored
+-- a put: lines from a line on were written, and all of them were stored. Seven parameters: the target's core and its first
+-- line, the words of the lines, and the caller's sight and core before and after.
 pub record Puts (s : Sight) (c : Private) (core line : ℕ) (src : List (List ℕ)) (t : Sight) (d : Private) : Type 0 where
   pub did : Did s (put_stores core line src) t
   pub is : d ≡ record c { lines = put_lines c.lines core line src }
 
--- lines from a line on were read, one after the other
+-- lines from a line on were read, one after the other. Seven parameters: the source's core and its first line, the words
+-- that were read, and the caller's sight and core before and after.
 abbrev pub ReadsLines : Sight → Private → ℕ → ℕ → List (List ℕ) → Sight → Private → Type 0
 ReadsLines s c core line [] t d = (t ≡ s) × (d ≡ c)
 ReadsLines s c core line (words ∷ rest) t d =
@@ -68,7 +70,8 @@ AreLoaded events core line (words ∷ rest) =
     IsLineLoaded events (line_at core line) words × AreLoaded events core (line + 1) rest
 
 -- a get: the cache was emptied, and lines from a line on were read with loads alone; each word given is the value of
--- one of the loads, of which there are at most four for each line and each eviction
+-- one of the loads, of which there are at most four for each line and each eviction. Seven parameters, those of
+-- `ReadsLines`: a get is such a reading by an emptied cache.
 pub record Gets (s : Sight) (c : Private) (core line : ℕ) (dst : List (List ℕ)) (t : Sight) (d : Private) : Type 0 where
   pub reads : ReadsLines s (record c { lines = [] }) core line dst t d
   pub events : List Event

@@ -201,7 +201,8 @@ impl<V: Evict> Core<V> {
     #[inline]
     pub fn word_write_through<P: Port>(&mut self, port: &mut P, place: Place, word: u64)
         requires other { handed_out self.old.out (line_of_word place) ≡ self.old.out }
-        requires permitted { MayMakeAll (P.sight port.old).seat (record_in (P.sight port.old)) (stores_of self.old.out ++ store_of place word ∷ []) }
+        requires permitted { MayMakeAll (P.sight port.old).seat (record_in (P.sight port.old)) (stores_of self.old.out
+            ++ store_of place word ∷ []) }
         ensures writes { WritesThrough (P.sight port.old) self.old place word (P.sight port.new) self.new }
         ensures steps { MadeSteps P.stepped (P.sight port.old) (P.sight port.new) }
     {

@@ -43,7 +43,8 @@ impl<V: Evict> Core<V> {
         ensures port_unchanged { OnErr result (P.sight port.new ≡ P.sight port.old) }
         ensures core_unchanged { OnErr result (self.new ≡ self.old) }
         ensures puts { OnOk result
-            (Puts (P.sight port.old) self.old (host_of (P.sight port.old).seat.setup.hosts to) at.first src.now (P.sight port.new) self.new) }
+            (Puts (P.sight port.old) self.old (host_of (P.sight port.old).seat.setup.hosts to) at.first src.now
+            (P.sight port.new) self.new) }
         ensures steps { MadeSteps P.stepped (P.sight port.old) (P.sight port.new) }
     {
         let len = usize::from(at.lines());
@@ -81,7 +82,8 @@ impl<V: Evict> Core<V> {
         ensures core_unchanged { OnErr result (self.new ≡ self.old) }
         ensures dst_unchanged { OnErr result (dst.new ≡ dst.old) }
         ensures gets { OnOk result
-            (Gets (P.sight port.old) self.old (host_of (P.sight port.old).seat.setup.hosts from) at.first dst.new (P.sight port.new) self.new) }
+            (Gets (P.sight port.old) self.old (host_of (P.sight port.old).seat.setup.hosts from) at.first dst.new
+            (P.sight port.new) self.new) }
         ensures steps { MadeSteps P.stepped (P.sight port.old) (P.sight port.new) }
     {
         let len = usize::from(at.lines());

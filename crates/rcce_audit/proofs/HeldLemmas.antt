@@ -4,7 +4,7 @@ use Rattle.std.proofs.lemmas.List.{drop-drop, drop_more, map-append, take-append
 use Rattle.scc_base.specs.Calls.{DataCall}
 use Rattle.scc_base.specs.declared.calls.Call.{Call}
 use Rattle.rcce_io.specs.Sending.{joined}
-use Rattle.rcce_audit.specs.Held.{bytes_in, data_by, with_bytes}
+use Rattle.rcce_audit.specs.Held.{bytes_in, call_with_bytes, calls_with_bytes}
 use Rattle.rcce_audit.specs.Pieces.{line_by}
 use Rattle.rcce_audit.specs.Texts.{call_lines, text_of}
 
@@ -13,9 +13,9 @@ abbrev pub left_behind : List Call → List ℕ → List ℕ
 left_behind [] bytes = bytes
 left_behind (call ∷ calls) bytes = left_behind calls (drop (bytes_in call) bytes)
 
-with_append : (one other : List Call) (bytes : List ℕ) → with_bytes (one ++ other) bytes ≡ with_bytes one bytes ++ with_bytes other (left_behind one bytes)
+with_append : (one other : List Call) (bytes : List ℕ) → calls_with_bytes (one ++ other) bytes ≡ calls_with_bytes one bytes ++ calls_with_bytes other (left_behind one bytes)
 with_append [] other bytes = refl
-with_append (call ∷ one) other bytes = ap (λ (l : List DataCall). data_by call (take (bytes_in call) bytes) ∷ l) (with_append one other (drop (bytes_in call) bytes))
+with_append (call ∷ one) other bytes = ap (λ (l : List DataCall). call_with_bytes call (take (bytes_in call) bytes) ∷ l) (with_append one other (drop (bytes_in call) bytes))
 
 behind_append : (one other : List Call) (bytes : List ℕ) → left_behind (one ++ other) bytes ≡ left_behind other (left_behind one bytes)
 behind_append [] other bytes = refl
@@ -27,13 +27,13 @@ joined_append (text ∷ one) other = ap (λ (t : List ℕ). text ++ t) (joined_a
 
 -- the lines of calls
 abbrev pub list_text : ℕ → List Call → List ℕ → List ℕ
-list_text rank calls bytes = joined (map (line_by rank) (with_bytes calls bytes))
+list_text rank calls bytes = joined (map (line_by rank) (calls_with_bytes calls bytes))
 
 text_append : (rank : ℕ) (one other : List Call) (bytes : List ℕ) → list_text rank (one ++ other) bytes ≡ list_text rank one bytes ++ list_text rank other (left_behind one bytes)
 text_append rank one other bytes =
     ap (λ (l : List DataCall). joined (map (line_by rank) l)) (with_append one other bytes)
-    ∙ ap joined (map-append (line_by rank) (with_bytes one bytes) (with_bytes other (left_behind one bytes)))
-    ∙ joined_append (map (line_by rank) (with_bytes one bytes)) (map (line_by rank) (with_bytes other (left_behind one bytes)))
+    ∙ ap joined (map-append (line_by rank) (calls_with_bytes one bytes) (calls_with_bytes other (left_behind one bytes)))
+    ∙ joined_append (map (line_by rank) (calls_with_bytes one bytes)) (map (line_by rank) (calls_with_bytes other (left_behind one bytes)))
 
 module _ (rank : ℕ) (calls : List Call) (bytes : List ℕ) (i at : ℕ) (call : Call) (within : i < length calls) (is : call ≡ get_or calls i call) (place : drop at bytes ≡ left_behind (take i calls) bytes) where
   abbrev own : List ℕ
@@ -46,15 +46,15 @@ module _ (rank : ℕ) (calls : List Call) (bytes : List ℕ) (i at : ℕ) (call 
   all_calls = sym (take-append-drop i calls) ∙ ap (λ (l : List Call). take i calls ++ l) (drop_more calls i call within ∙ ap (λ (c : Call). c ∷ drop (i + 1) calls) (sym is))
 
   -- one line more
-  pub text_more : list_text rank (take (i + 1) calls) bytes ≡ list_text rank (take i calls) bytes ++ line_by rank (data_by call own)
+  pub text_more : list_text rank (take (i + 1) calls) bytes ≡ list_text rank (take i calls) bytes ++ line_by rank (call_with_bytes call own)
   text_more =
       ap (λ (l : List Call). list_text rank l bytes) more_calls
       ∙ text_append rank (take i calls) (call ∷ []) bytes
       ∙ ap (λ (b : List ℕ). list_text rank (take i calls) bytes ++ list_text rank (call ∷ []) b) (sym place)
-      ∙ ap (λ (t : List ℕ). list_text rank (take i calls) bytes ++ t) (append-nil (line_by rank (data_by call own)))
+      ∙ ap (λ (t : List ℕ). list_text rank (take i calls) bytes ++ t) (append-nil (line_by rank (call_with_bytes call own)))
 
   -- the lines before it, it, and those behind it
-  pub text_around : list_text rank calls bytes ≡ list_text rank (take i calls) bytes ++ (line_by rank (data_by call own) ++ list_text rank (drop (i + 1) calls) (drop (bytes_in call) (drop at bytes)))
+  pub text_around : list_text rank calls bytes ≡ list_text rank (take i calls) bytes ++ (line_by rank (call_with_bytes call own) ++ list_text rank (drop (i + 1) calls) (drop (bytes_in call) (drop at bytes)))
   text_around =
       ap (λ (l : List Call). list_text rank l bytes) all_calls
       ∙ text_append rank (take i calls) (call ∷ drop (i + 1) calls) bytes

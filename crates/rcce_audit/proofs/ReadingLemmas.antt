@@ -16,7 +16,7 @@ use Rattle.scc_base.proofs.WorldRules as world
 use Rattle.rcce_audit.specs.declared.faults.LogFault.{LogFault}
 use Rattle.rcce_audit.specs.declared.faults.LogKind.TheVariants as kind
 use Rattle.rcce_audit.specs.declared.lines.CommSplit.{CommSplit}
-use Rattle.rcce_audit.specs.Grammar.{Reading, RankedCall, with_comm, with_call, is_in_order, add_call, begins_comm, comm_said, call_said, line_said, kind_of, lines_said, end_said, nue_of, world_alone, no_calls, start_of, first_said, all_said, parts_said, log_of, is_present, ◌>=>◌}
+use Rattle.rcce_audit.specs.Grammar.{Reading, RankedCall, with_comm, with_call, is_in_order, add_call, begins_comm, comm_said, call_said, line_said, kind_of, lines_said, end_said, nue_of, world_alone, no_calls, reading_start, first_said, all_said, parts_said, log_of, is_present, ◌>=>◌}
 use Rattle.rcce_audit.specs.Logs.{LogView, calls_of, IsLogCall, IsLog, most_log_bytes}
 use Rattle.rcce_audit.specs.Texts.{head_words, line_of, rule_lines, call_words, call_lines, table_lines, log_lines, text_of, log_text, IsFileLog}
 use Rattle.rcce_audit.specs.Words.{◌>>=◌, words_of}
@@ -72,7 +72,7 @@ no_lists_length : length no_calls ≡ 48
 unfolding no_calls
 no_lists_length = refl
 
-pub start_reads : (nue : ℕ) → 1 ≤ nue → nue ≤ 48 → IsReading (start_of nue)
+pub start_reads : (nue : ℕ) → 1 ≤ nue → nue ≤ 48 → IsReading (reading_start nue)
 start_reads nue some most = record {
   written = record {
     some_ranks = some;
@@ -96,7 +96,7 @@ start_reads nue some most = record {
 no_call_lines : (lists : List (List DataCall)) → ((q : ℕ) → get_or lists q [] ≡ []) → table_lines call_lines 0 lists ≡ []
 no_call_lines lists none = table_none call_lines 0 lists [] (λ k below. ap (call_lines (0 + k)) (none k))
 
-pub start_lines : (nue : ℕ) → log_lines (start_of nue).log ≡ line_of (head_words nue) ∷ []
+pub start_lines : (nue : ℕ) → log_lines (reading_start nue).log ≡ line_of (head_words nue) ∷ []
 start_lines nue = ap (λ (t : List (List ℕ)). line_of (head_words nue) ∷ t) (no_call_lines no_calls no_lists)
 
 -- one more communicator
@@ -328,11 +328,11 @@ end_accepts : (number : ℕ) (last : List ℕ) (r : Reading) (log : LogView) →
 end_accepts number [] r log said = (refl, cc)
 end_accepts number (b ∷ last) r log said = absurd cc
 
-start_of_first : (line : List ℕ) (o : Option ℕ) (r : Reading) → nue_of (words_of line) ≡ o → ok_or {E = LogFault} (option_map start_of o) (record { line = 1; kind = kind.BadHead }) ≡ Ok r
+start_of_first : (line : List ℕ) (o : Option ℕ) (r : Reading) → nue_of (words_of line) ≡ o → ok_or {E = LogFault} (option_map reading_start o) (record { line = 1; kind = kind.BadHead }) ≡ Ok r
     → IsReading r × (log_lines r.log ≡ line ∷ [])
 start_of_first line (Some nue) r is taken =
     let (words, some, most) = head_line (words_of line) nue is in
-    let value : start_of nue ≡ r = cc in
+    let value : reading_start nue ≡ r = cc in
     let P : Reading → Type 0 = λ x. IsReading x × (log_lines x.log ≡ line ∷ []) in
     subst P value (start_reads nue some most, start_lines nue ∙ ap (λ (l : List ℕ). l ∷ []) (ap line_of words ∙ line_of-words_of line))
 start_of_first line None r is taken = absurd cc

@@ -11,7 +11,7 @@ use Rattle.scc_base.specs.Setups.{SetupView, setup_key}
 use Rattle.scc_proto.specs.Legality.{Outgoing, Standing, Posting, Taking, Pairing, Meeting, in_group, call_at, Makes, OwnStep}
 use Rattle.scc_proto.proofs.Legality.StepLaws.{itself, own_step, owner_of-own_step}
 use Rattle.rcce_audit.specs.declared.progress.Progress.{Progress}
-use Rattle.rcce_audit.specs.Standings.{AreLists, Tries, TriesFirst, IsQuiet, list_at, outgoing_at, outgoing_of, left_of, slot_of, standing_of, Sleeps, partner_of, Advances, Acts, Meets, Leads, Visits, Sweeps, count_left}
+use Rattle.rcce_audit.specs.Standings.{AreLists, Tries, TriesFirst, IsQuiet, list_at, outgoing_at, outgoing_of, left_of, slot_of, standing_of, Sleeps, partner_of, Advances, Acts, Meets, Leads, VisitDoes, SweepDoes, count_left}
 use Rattle.rcce_audit.proofs.StandingLemmas.{drop-at, drop-none, left_same, no_other_step, no_step, quiet_after, leads_none, leads_step, own_fewer}
 
 -- the call at a place, by the calls from there on
@@ -341,7 +341,7 @@ module _ (s : SetupView) (lists : List (List DataCall)) (first : Progress) where
   no_more n p true swept = omega (arith, swept.fewer refl)
   no_more n p false swept = omega (arith, ap (λ (x : Standing). count_left x 48) (swept.same refl))
 
-  pub swept_step : (n : ℕ) (p q : Progress) (moved : Bool) → n < 48 → IsSwept s lists n first p moved → IsQuiet s lists q → Visits s lists n p q true → IsSwept s lists (n + 1) first q true
+  pub swept_step : (n : ℕ) (p q : Progress) (moved : Bool) → n < 48 → IsSwept s lists n first p moved → IsQuiet s lists q → VisitDoes s lists n p q true → IsSwept s lists (n + 1) first q true
   swept_step n p q moved below swept quiet own = record {
     quiet = quiet;
     leads = leads_step s n (standing_of lists first) (standing_of lists p) (standing_of lists q) swept.leads own;
@@ -350,7 +350,7 @@ module _ (s : SetupView) (lists : List (List DataCall)) (first : Progress) where
     sleeps = λ is. absurd (true≢false is);
   }
 
-  pub swept_sleep : (n : ℕ) (p q : Progress) (moved : Bool) → IsSwept s lists n first p moved → IsQuiet s lists q → Visits s lists n p q false → IsSwept s lists (n + 1) first q moved
+  pub swept_sleep : (n : ℕ) (p q : Progress) (moved : Bool) → IsSwept s lists n first p moved → IsQuiet s lists q → VisitDoes s lists n p q false → IsSwept s lists (n + 1) first q moved
   swept_sleep n p q moved swept quiet (is, asleep, kept) = record {
     quiet = quiet;
     leads = subst (λ (x : Standing). Leads s (standing_of lists first) x) (sym is) swept.leads;
@@ -362,16 +362,16 @@ module _ (s : SetupView) (lists : List (List DataCall)) (first : Progress) where
         (cases_eq b n);
   }
 
-  pub swept_all : (n : ℕ) (p : Progress) (moved : Bool) → 48 ≤ n → IsSwept s lists n first p moved → Sweeps lists first p moved
+  pub swept_all : (n : ℕ) (p : Progress) (moved : Bool) → 48 ≤ n → IsSwept s lists n first p moved → SweepDoes lists first p moved
   swept_all n p true all swept = swept.fewer refl
   swept_all n p false all swept = (swept.same refl, λ b below. swept.sleeps refl b (omega (arith, all, below)))
 
 -- sweeps come to an end
-pub sweeps_end : (lists : List (List DataCall)) (p q : Progress) (was moved : Bool) → was ≡ true → Sweeps lists p q moved → 2 * count_left (standing_of lists q) 48 + cond moved 1 0 < 2 * count_left (standing_of lists p) 48 + cond was 1 0
+pub sweeps_end : (lists : List (List DataCall)) (p q : Progress) (was moved : Bool) → was ≡ true → SweepDoes lists p q moved → 2 * count_left (standing_of lists q) 48 + cond moved 1 0 < 2 * count_left (standing_of lists p) 48 + cond was 1 0
 sweeps_end lists p q true true is fewer = omega (arith, fewer)
 sweeps_end lists p q true false is (same, asleep) = omega (arith, ap (λ (x : Standing). count_left x 48) same)
 sweeps_end lists p q false moved is sweeps = absurd (true≢false (sym is))
 
-pub sweeps_asleep : (lists : List (List DataCall)) (p q : Progress) (moved : Bool) → Sweeps lists p q moved → moved ≡ false → (b : ℕ) → b < 48 → Sleeps q b
+pub sweeps_asleep : (lists : List (List DataCall)) (p q : Progress) (moved : Bool) → SweepDoes lists p q moved → moved ≡ false → (b : ℕ) → b < 48 → Sleeps q b
 sweeps_asleep lists p q true fewer is = absurd (true≢false is)
 sweeps_asleep lists p q false (same, asleep) is = asleep

@@ -13,7 +13,7 @@ use Rattle.scc_base.specs.declared.communicators.CommRule.TheVariants.{Absent, W
 use Rattle.rcce_audit.specs.declared.faults.LogFault.{LogFault}
 use Rattle.rcce_audit.specs.declared.faults.LogKind.TheVariants as kind
 use Rattle.rcce_audit.specs.declared.lines.CommSplit.{CommSplit}
-use Rattle.rcce_audit.specs.Grammar.{Reading, is_present, rule_named, comm_said, nue_of, with_comm, with_call, is_in_order, line_said, kind_of, lines_said, end_said, no_calls, start_of, first_said, all_said, parts_said, log_of, ◌>=>◌}
+use Rattle.rcce_audit.specs.Grammar.{Reading, is_present, rule_named, comm_said, nue_of, with_comm, with_call, is_in_order, line_said, kind_of, lines_said, end_said, no_calls, reading_start, first_said, all_said, parts_said, log_of, ◌>=>◌}
 use Rattle.rcce_audit.specs.Logs.{LogView, IsLogCall, IsLog, most_log_bytes}
 use Rattle.rcce_audit.specs.Texts.{head_words, split_words, call_words, line_of, rule_lines, call_lines, table_lines, log_lines, log_text, IsFileLog}
 use Rattle.rcce_audit.specs.Words.{◌>>=◌, only_if, words_of, range_said}
@@ -160,11 +160,11 @@ head_told_nue : (nue : ℕ) → 1 ≤ nue → nue ≤ 48 → nue_of (head_words 
 head_told_nue nue some most =
     ap (λ (o : Option ℕ). o >>= λ n. only_if (bytes_eq (codes "rcce") (codes "rcce") && bytes_eq (codes "log") (codes "log")) n) (range_said-decimal 1 48 nue some most (omega arith))
 
-first_told : (nue : ℕ) → 1 ≤ nue → nue ≤ 48 → first_said (line_of (head_words nue)) ≡ Ok (start_of nue)
+first_told : (nue : ℕ) → 1 ≤ nue → nue ≤ 48 → first_said (line_of (head_words nue)) ≡ Ok (reading_start nue)
 first_told nue some most =
-    ap (λ (w : List (List ℕ)). ok_or {E = LogFault} (option_map start_of (nue_of w)) (record { line = 1; kind = kind.BadHead }))
+    ap (λ (w : List (List ℕ)). ok_or {E = LogFault} (option_map reading_start (nue_of w)) (record { line = 1; kind = kind.BadHead }))
     (words_of-line_of (codes "rcce") (codes "log" ∷ decimal nue ∷ []) (refl, (refl, (small_word nue (omega arith), tt))))
-    ∙ ap (λ (o : Option ℕ). ok_or {E = LogFault} (option_map start_of o) (record { line = 1; kind = kind.BadHead })) (head_told_nue nue some most)
+    ∙ ap (λ (o : Option ℕ). ok_or {E = LogFault} (option_map reading_start o) (record { line = 1; kind = kind.BadHead })) (head_told_nue nue some most)
 
 -- the lines of a log have no line feeds
 rule_are_lines : (comms : List CommRule) (c : ℕ) (rule : CommRule) → c < 16 → IsRule comms c rule → AreLines (rule_lines c rule)
@@ -241,7 +241,7 @@ text_told log is =
     all_told : (comms : List CommRule) → log.comms ≡ comms → all_said (log_lines log) [] ≡ Ok log
     all_told [] same = absurd (omega (arith, ap length same, written.sixteen))
     all_told (World ∷ rs) same =
-        let r = start_of log.nue in
+        let r = reading_start log.nue in
         let count : 1 + length rs ≡ 16 = omega (arith, ap length same, written.sixteen) in
         let fifteen : length rs ≡ 15 = omega (arith, count) in
         let rules : (k : ℕ) → k < length rs → IsRule ((World ∷ []) ++ rs) (1 + k) (get_or rs k Absent) =

@@ -44,7 +44,8 @@ ends_said nue rank peer = rank_said nue rank >>= λ r. rank_said nue peer >>= en
 
 -- a head is one of the world where its message is plain
 abbrev pub head_of : Kind → ℕ → ℕ → Option MessageHead
-head_of kind comm len = only_if (not (kind_number kind == 0 && not (comm == 0))) (record { kind = kind_number kind; comm = comm; len = len })
+head_of kind comm len =
+    only_if (not (kind_number kind == 0 && not (comm == 0))) (record { kind = kind_number kind; comm = comm; len = len })
 
 -- the head that three words say: a kind, a communicator from 0 to 15 and a length up to 65,536
 abbrev pub head_said : List ℕ → List ℕ → List ℕ → Option MessageHead
@@ -86,7 +87,8 @@ barrier_said nue comms rank verb comm =
 
 -- the call of a line of seven words: a message
 abbrev pub long_said : ℕ → List (List ℕ) → Option RankedCall
-long_said nue (rank ∷ verb ∷ peer ∷ kind ∷ comm ∷ len ∷ hex ∷ []) = ends_said nue rank peer >>= λ ends. head_said kind comm len >>= λ head. message_said ends head verb hex
+long_said nue (rank ∷ verb ∷ peer ∷ kind ∷ comm ∷ len ∷ hex ∷ []) =
+    ends_said nue rank peer >>= λ ends. head_said kind comm len >>= λ head. message_said ends head verb hex
 long_said nue words = None
 
 -- the call of a line of three words: a barrier
@@ -105,11 +107,14 @@ rule_named how parent k =
     else if bytes_eq how (codes "div") then Some (Div parent k)
     else None
 
--- the split that a line's words say, of a communicator past `last` and a parent that has a rule
+-- the split that a line's words say, of a communicator past `last` and a parent that has a rule. Seven parameters: what was
+-- read so far (the last communicator that was split, the rules), and the line's five words behind its number's, each by what
+-- it says.
 abbrev pub split_said : ℕ → List CommRule → (word comm parent how k : List ℕ) → Option CommSplit
 split_said last comms word comm parent how k =
     range_said (last + 1) 15 comm >>= λ c. range_said 0 15 parent >>= λ p. range_said 1 48 k >>= λ parts.
-    rule_named how p parts >>= λ rule. only_if (bytes_eq word (codes "comm") && is_present (rule_of comms p)) (record { comm = c; rule = rule })
+    rule_named how p parts >>= λ rule.
+    only_if (bytes_eq word (codes "comm") && is_present (rule_of comms p)) (record { comm = c; rule = rule })
 
 -- the communicator of a line, by its words: above the last one, with a parent that has a rule
 abbrev pub comm_said : ℕ → List CommRule → List (List ℕ) → Option CommSplit
@@ -118,7 +123,8 @@ comm_said last comms words = None
 
 -- a communicator stands before all calls
 abbrev pub with_comm : Reading → Option ℕ → CommSplit → Option Reading
-with_comm reading None split = Some (record reading { log = record reading.log { comms = slice_set reading.log.comms split.comm split.rule }; comm = split.comm })
+with_comm reading None split =
+    Some (record reading { log = record reading.log { comms = slice_set reading.log.comms split.comm split.rule }; comm = split.comm })
 with_comm reading (Some rank) split = None
 
 -- the lists with one more call of a rank
@@ -186,19 +192,20 @@ nue_of words = None
 
 -- the rules where the world alone stands
 abbrev pub world_alone : List CommRule
-world_alone = World ∷ Absent ∷ Absent ∷ Absent ∷ Absent ∷ Absent ∷ Absent ∷ Absent ∷ Absent ∷ Absent ∷ Absent ∷ Absent ∷ Absent ∷ Absent ∷ Absent ∷ Absent ∷ []
+world_alone = World ∷ Absent ∷ Absent ∷ Absent ∷ Absent ∷ Absent ∷ Absent ∷ Absent ∷ Absent ∷ Absent ∷ Absent ∷ Absent ∷ Absent ∷ Absent
+    ∷ Absent ∷ Absent ∷ []
 
 -- the lists where no rank has a call
 unfoldable pub no_calls : List (List DataCall)
 no_calls = replicate 48 []
 
 -- the reading behind the first line, which says the number of ranks
-abbrev pub start_of : ℕ → Reading
-start_of nue = record { log = record { nue = nue; comms = world_alone; lists = no_calls }; comm = 0; rank = None }
+abbrev pub reading_start : ℕ → Reading
+reading_start nue = record { log = record { nue = nue; comms = world_alone; lists = no_calls }; comm = 0; rank = None }
 
 -- what the first line says, or BadHead
 abbrev pub first_said : List ℕ → Result Reading LogFault
-first_said line = ok_or (option_map start_of (nue_of (words_of line))) (record { line = 1; kind = kind.BadHead })
+first_said line = ok_or (option_map reading_start (nue_of (words_of line))) (record { line = 1; kind = kind.BadHead })
 
 -- what these lines say, each with its line feed, and what stands behind the last line feed
 abbrev pub all_said : List (List ℕ) → List ℕ → Result LogView LogFault

@@ -10,20 +10,21 @@ use Rattle.rcce_audit.specs.Logs.{LogView}
 use Rattle.rcce_audit.specs.Texts.{log_text}
 
 -- the call with these bytes
-abbrev pub data_by : Call → List ℕ → DataCall
-data_by (call.Send to head) bytes = Send to head bytes
-data_by (call.Recv from head) bytes = Recv from head bytes
-data_by (call.Post to head) bytes = Post to head bytes
-data_by (call.Bar comm) bytes = Bar comm
+abbrev pub call_with_bytes : Call → List ℕ → DataCall
+call_with_bytes (call.Send to head) bytes = Send to head bytes
+call_with_bytes (call.Recv from head) bytes = Recv from head bytes
+call_with_bytes (call.Post to head) bytes = Post to head bytes
+call_with_bytes (call.Bar comm) bytes = Bar comm
 
 -- calls, each with its bytes from the front of those that are left
-abbrev pub with_bytes : List Call → List ℕ → List DataCall
-with_bytes [] bytes = []
-with_bytes (call ∷ calls) bytes = data_by call (take (bytes_in call) bytes) ∷ with_bytes calls (drop (bytes_in call) bytes)
+abbrev pub calls_with_bytes : List Call → List ℕ → List DataCall
+calls_with_bytes [] bytes = []
+calls_with_bytes (call ∷ calls) bytes =
+    call_with_bytes call (take (bytes_in call) bytes) ∷ calls_with_bytes calls (drop (bytes_in call) bytes)
 
 -- the calls of a rank that are held, each with its bytes
 abbrev pub held_calls : CallList → List DataCall
-held_calls list = with_bytes list.calls.now list.bytes.now
+held_calls list = calls_with_bytes list.calls.now list.bytes.now
 
 -- the log that is held
 abbrev pub held_view : HeldLog → LogView

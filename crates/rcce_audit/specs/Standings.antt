@@ -73,7 +73,8 @@ pub record Acts (s : SetupView) (lists : List (List DataCall)) (step : CallStep)
   pub makes : Makes s.nue (setup_key s) step (standing_of lists old) (standing_of lists new)
   pub kept : (b : ℕ) → Sleeps new b → Sleeps old b
   pub woken_callers : (k : ℕ) → callers s.nue (setup_key s) step k ≡ true → Sleeps new k → ⊥
-  pub woken_partners : (k : ℕ) → callers s.nue (setup_key s) step k ≡ true → Sleeps new (partner_of (setup_key s) k (left_of lists new.next k)) → ⊥
+  pub woken_partners : (k : ℕ) → callers s.nue (setup_key s) step k ≡ true
+      → Sleeps new (partner_of (setup_key s) k (left_of lists new.next k)) → ⊥
   pub woken_slot : (k : ℕ) → slot_at step k ≡ true → Sleeps new k → ⊥
   pub woken_taker : (m : Outgoing) → slot_after step ≡ Some m → Sleeps new m.to → ⊥
 
@@ -107,11 +108,11 @@ count_left s zero = 0
 count_left s (suc n) = count_left s n + length (s.calls n)
 
 -- what a visit of a rank does: a step of the rank, or the rank falls asleep
-abbrev pub Visits : SetupView → List (List DataCall) → ℕ → Progress → Progress → Bool → Type 0
-Visits s lists a old new true = OwnStep s.nue (setup_key s) a (standing_of lists old) (standing_of lists new)
-Visits s lists a old new false = (standing_of lists new ≡ standing_of lists old) × Sleeps new a × ((b : ℕ) → Sleeps old b → Sleeps new b)
+abbrev pub VisitDoes : SetupView → List (List DataCall) → ℕ → Progress → Progress → Bool → Type 0
+VisitDoes s lists a old new true = OwnStep s.nue (setup_key s) a (standing_of lists old) (standing_of lists new)
+VisitDoes s lists a old new false = (standing_of lists new ≡ standing_of lists old) × Sleeps new a × ((b : ℕ) → Sleeps old b → Sleeps new b)
 
 -- what a sweep over the ranks does: some steps, or all ranks fall asleep
-abbrev pub Sweeps : List (List DataCall) → Progress → Progress → Bool → Type 0
-Sweeps lists old new true = count_left (standing_of lists new) 48 < count_left (standing_of lists old) 48
-Sweeps lists old new false = (standing_of lists new ≡ standing_of lists old) × ((b : ℕ) → b < 48 → Sleeps new b)
+abbrev pub SweepDoes : List (List DataCall) → Progress → Progress → Bool → Type 0
+SweepDoes lists old new true = count_left (standing_of lists new) 48 < count_left (standing_of lists old) 48
+SweepDoes lists old new false = (standing_of lists new ≡ standing_of lists old) × ((b : ℕ) → b < 48 → Sleeps new b)

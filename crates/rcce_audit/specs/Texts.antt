@@ -19,7 +19,8 @@ split_words comm parent how k = codes "comm" ∷ decimal comm ∷ decimal parent
 
 -- the words of the line of a message
 abbrev pub message_words : ℕ → List ℕ → ℕ → MessageHead → List ℕ → List (List ℕ)
-message_words r verb peer head bytes = decimal r ∷ verb ∷ decimal peer ∷ kind_text (kind_at head.kind) ∷ decimal head.comm ∷ decimal head.len ∷ hex_text bytes ∷ []
+message_words r verb peer head bytes =
+    decimal r ∷ verb ∷ decimal peer ∷ kind_text (kind_at head.kind) ∷ decimal head.comm ∷ decimal head.len ∷ hex_text bytes ∷ []
 
 -- the words of the line of a call
 abbrev pub call_words : ℕ → DataCall → List (List ℕ)

@@ -15,7 +15,11 @@ IsLegalLog log = (slots : ℕ → Option Outgoing) × IsLegal log.nue (key_of lo
 
 -- the steps of legality, taken from empty slots until nobody has one, come to this standing
 abbrev pub EndsIn : LogView → Standing → Type 0
-EndsIn log e = (n : ℕ) × Runs (OwnStep log.nue (key_of log.comms)) (EndsAt (OwnStep log.nue (key_of log.comms)) e) n (record { calls = calls_of log; slots = no_slots })
+EndsIn log e =
+    (n : ℕ) × Runs (OwnStep log.nue (key_of log.comms)) (EndsAt (OwnStep log.nue (key_of log.comms)) e) n (record {
+      calls = calls_of log;
+      slots = no_slots;
+    })
 
 -- at a standing, the lowest rank whose list is not used up, and its first call left, counted from 1
 pub record IsFirstLeft (calls : ℕ → List DataCall) (e : Standing) (rank call : ℕ) : Type 0 where

@@ -2,7 +2,7 @@
 
 ghost use Rattle.std.specs.Prelude.{◌≡◌, ◌+◌, ◌≤◌, drop, length, map, take};
 ghost use Rattle.rcce_io.specs.Sending.{Sends, joined};
-ghost use Rattle.rcce_audit.specs.Held.{bytes_in, data_by, held_calls, with_bytes};
+ghost use Rattle.rcce_audit.specs.Held.{bytes_in, call_with_bytes, held_calls, calls_with_bytes};
 ghost use Rattle.rcce_audit.specs.Pieces.{line_by};
 ghost use Rattle.rcce_audit.specs.Texts.{call_lines, table_lines, text_of};
 
@@ -39,7 +39,7 @@ fn bytes_in(call: &Call) -> usize
 
 /// Writes the line of a rank's call with these bytes.
 fn write_held<S: Sink>(sink: &mut S, rank: u8, call: &Call, bytes: &[u8]) -> Result<(), WriteFault>
-    ensures { Sends (line_by rank (data_by call.now bytes.now)) (S.seen sink.old) (S.seen sink.new) result }
+    ensures { Sends (line_by rank (call_with_bytes call.now bytes.now)) (S.seen sink.old) (S.seen sink.new) result }
 {
     match call {
         Call::Send { to, head } => write_message(sink, rank, "send", *to, *head, bytes),
@@ -70,7 +70,7 @@ fn write_list<S: Sink>(
     calls: &[Call],
     bytes: &[u8],
 ) -> Result<(), WriteFault>
-    ensures { Sends (joined (map (line_by rank) (with_bytes calls.now bytes.now))) (S.seen sink.old) (S.seen sink.new) result }
+    ensures { Sends (joined (map (line_by rank) (calls_with_bytes calls.now bytes.now))) (S.seen sink.old) (S.seen sink.new) result }
 {
     let mut at = 0usize;
     for call in calls {

@@ -1,7 +1,7 @@
 //! The audit of a log.
 
 ghost use Rattle.std.specs.Prelude.{◌≡◌, ◌<◌, ◌↔◌, ℕ, length};
-ghost use Rattle.rcce_audit.specs.Standings.{AreLists, IsQuiet, Leads, Sleeps, Sweeps, Visits, list_at, standing_of};
+ghost use Rattle.rcce_audit.specs.Standings.{AreLists, IsQuiet, Leads, Sleeps, SweepDoes, VisitDoes, list_at, standing_of};
 ghost use Rattle.rcce_audit.specs.Verdicts.{IsLegalLog, IsVerdict, Tells};
 ghost use Rattle.rcce_audit.specs.Views.{data_lists};
 
@@ -16,7 +16,7 @@ fn visit(lists: &[Vec<LogCall>], setup: &Setup, progress: &mut Progress, rank: R
     requires lists { AreLists setup.now (data_lists lists.now) }
     requires quiet { IsQuiet setup.now (data_lists lists.now) progress.old }
     ensures quiet { IsQuiet setup.now (data_lists lists.now) progress.new }
-    ensures visits { Visits setup.now (data_lists lists.now) rank progress.old progress.new result }
+    ensures visits { VisitDoes setup.now (data_lists lists.now) rank progress.old progress.new result }
 {
     let place = rank.number() as usize;
     if !progress.awake[place] {
@@ -35,7 +35,7 @@ fn sweep(lists: &[Vec<LogCall>], setup: &Setup, progress: &mut Progress) -> bool
     requires quiet { IsQuiet setup.now (data_lists lists.now) progress.old }
     ensures quiet { IsQuiet setup.now (data_lists lists.now) progress.new }
     ensures leads { Leads setup.now (standing_of (data_lists lists.now) progress.old) (standing_of (data_lists lists.now) progress.new) }
-    ensures sweeps { Sweeps (data_lists lists.now) progress.old progress.new result }
+    ensures sweeps { SweepDoes (data_lists lists.now) progress.old progress.new result }
 {
     let mut moved = false;
     for number in 0..48 {

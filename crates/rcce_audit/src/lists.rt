@@ -26,7 +26,8 @@ pub fn push_call(
     call: LogCall,
 ) -> Result<(), AllocError>
     requires { rank < vec_len lists.old }
-    ensures gives { OnOk result (data_lists lists.new.items ≡ with_call (data_lists lists.old.items) (record { rank = rank; call = data_of call })) }
+    ensures gives { OnOk result (data_lists lists.new.items
+        ≡ with_call (data_lists lists.old.items) (record { rank = rank; call = data_of call })) }
     ensures ranks { vec_len lists.new ≡ vec_len lists.old }
 {
     let list = &mut lists[rank];

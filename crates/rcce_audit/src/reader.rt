@@ -25,7 +25,7 @@ pub(crate) struct Reader {
 
 impl Reader {
     ghost use Rattle.std.specs.Prelude.{◌≡◌, IfOk, None, Some, map};
-    ghost use Rattle.rcce_audit.specs.Grammar.{TakesLine, add_call, is_in_order, start_of, take_call, take_comm, with_comm};
+    ghost use Rattle.rcce_audit.specs.Grammar.{TakesLine, add_call, is_in_order, reading_start, take_call, take_comm, with_comm};
     ghost use Rattle.rcce_audit.specs.Reading.{reading_of};
     ghost use Rattle.rcce_audit.specs.Views.{ranked_of};
     ghost use Rattle.std.specs.Bool.{MatchBool};
@@ -34,7 +34,7 @@ impl Reader {
     pub(crate) fn new(alloc: Global, nue: u8) -> Result<Reader, AllocError>
         requires some { 1 ≤ nue }
         requires most { nue ≤ 48 }
-        ensures { IfOk result (λ reader. reading_of reader ≡ start_of nue) }
+        ensures { IfOk result (λ reader. reading_of reader ≡ reading_start nue) }
     {
         let mut comms = [CommRule::Absent; 16];
         comms[0] = CommRule::World;

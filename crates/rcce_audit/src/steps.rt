@@ -28,7 +28,8 @@ fn try_post(
     requires left { slice_index progress.old.next rank < length (list_at (data_lists lists.now) rank) }
     ensures { (head : MessageHead) (bytes : List ℕ)
         → slice_get (list_at (data_lists lists.now) rank) (slice_index progress.old.next rank) ≡ Some (Post to head bytes)
-        → Tries setup.now (data_lists lists.now) (Posting rank (record { to = to; head = head; bytes = bytes })) progress.old progress.new result }
+        → Tries setup.now (data_lists lists.now) (Posting rank (record { to = to; head = head; bytes = bytes })) progress.old
+        progress.new result }
 {
     let place = rank.number() as usize;
     if !is_slot_empty(lists, progress, place) {
@@ -51,8 +52,10 @@ fn try_take(
     bytes: &[u8],
 ) -> bool
     requires lists { AreLists setup.now (data_lists lists.now) }
-    requires front { slice_get (list_at (data_lists lists.now) rank) (slice_index progress.old.next rank) ≡ Some (Recv from head bytes.now) }
-    ensures { Tries setup.now (data_lists lists.now) (Taking from (record { to = rank; head = head; bytes = bytes.now })) progress.old progress.new result }
+    requires front { slice_get (list_at (data_lists lists.now) rank) (slice_index progress.old.next rank)
+        ≡ Some (Recv from head bytes.now) }
+    ensures { Tries setup.now (data_lists lists.now) (Taking from (record { to = rank; head = head; bytes = bytes.now })) progress.old
+        progress.new result }
 {
     let sender = from.number() as usize;
     if !is_posted(lists, progress, sender, rank, head, bytes) {
@@ -76,7 +79,8 @@ fn try_pair(
 ) -> bool
     requires lists { AreLists setup.now (data_lists lists.now) }
     requires front { slice_get (list_at (data_lists lists.now) rank) (slice_index progress.old.next rank) ≡ Some (Send to head bytes.now) }
-    ensures { Tries setup.now (data_lists lists.now) (Pairing rank (record { to = to; head = head; bytes = bytes.now })) progress.old progress.new result }
+    ensures { Tries setup.now (data_lists lists.now) (Pairing rank (record { to = to; head = head; bytes = bytes.now })) progress.old
+        progress.new result }
 {
     let sender = rank.number() as usize;
     let receiver = to.number() as usize;

@@ -27,7 +27,8 @@ pub record FilesView : Type 0 where
 
 -- the files with the one of this name open at its front
 abbrev pub with_open : List ℕ → FilesView → FilesView
-with_open name files = record { told = files.told; rest = option_and_then (contents_of name) files.told; is_open = true; faults = files.faults }
+with_open name files =
+    record { told = files.told; rest = option_and_then (contents_of name) files.told; is_open = true; faults = files.faults }
 
 -- the files with none open
 abbrev pub with_none_open : FilesView → FilesView

@@ -17,8 +17,8 @@ pub record Calls : Type 0 where
   pub faults : ℕ
 
 -- no call was made, and none is to fail
-abbrev pub no_calls : Calls
-no_calls = record { made = 0; failing = None; faults = 0 }
+abbrev pub no_file_calls : Calls
+no_file_calls = record { made = 0; failing = None; faults = 0 }
 
 -- whether this is the number of the failing call
 abbrev pub is_failing : Option ℕ → ℕ → Bool
@@ -44,8 +44,8 @@ pub record FilesState : Type 0 where
   pub calls : Calls
 
 -- no file, none open, and reads that are bounded by their buffer alone
-abbrev pub no_files : FilesState
-no_files = record { files = []; rest = None; most = 2 ^ 64 - 1; calls = no_calls }
+abbrev pub no_files_state : FilesState
+no_files_state = record { files = []; rest = None; most = 2 ^ 64 - 1; calls = no_file_calls }
 
 -- as a caller of any files sees them: all is told
 abbrev pub files_seen : FilesState → FilesView
@@ -99,7 +99,7 @@ sink_seen state = record { taken = Some state.taken; faults = state.calls.faults
 
 -- a sink that has taken nothing, with room for `room` bytes in all and `most` at one write
 abbrev pub new_sink : ℕ → ℕ → SinkState
-new_sink room most = record { taken = []; room = room; most = most; calls = no_calls }
+new_sink room most = record { taken = []; room = room; most = most; calls = no_file_calls }
 
 -- a write fails where its number is the failing one or no room is left
 abbrev pub write_fails : SinkState → Bool

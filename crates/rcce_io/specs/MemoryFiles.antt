@@ -15,8 +15,8 @@ abbrev pub contents_at : List MemFile → ℕ → List ℕ
 contents_at files k = slice_index_or (map (λ file. file.contents.items) files) k []
 
 -- files in memory as their callers see them: the rest of the open one is what stands behind its place
-abbrev pub state_of : Inside → FilesState
-state_of inside = record {
+abbrev pub files_state_of : Inside → FilesState
+files_state_of inside = record {
   files = map named inside.files.items;
   rest = option_map (λ place. drop place.at (contents_at inside.files.items place.file)) inside.place;
   most = inside.most;

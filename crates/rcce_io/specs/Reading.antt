@@ -27,14 +27,16 @@ whole_of bytes rest = option_map (λ more. bytes ++ more) rest
 
 -- what reading on in the open file gives
 abbrev pub ReadsRest : ℕ → FilesView → FilesView → Result (List ℕ) ReadEnd → Type 0
-ReadsRest limit before after (Ok bytes) = SameFiles before after × (length bytes ≤ limit + 1) × IfSome before.rest (λ more. bytes ≡ take (limit + 1) more)
+ReadsRest limit before after (Ok bytes) =
+    SameFiles before after × (length bytes ≤ limit + 1) × IfSome before.rest (λ more. bytes ≡ take (limit + 1) more)
 ReadsRest limit before after (Err ends.Absent) = ⊥
 ReadsRest limit before after (Err ends.Failed) = OneFault before after
 ReadsRest limit before after (Err ends.Memory) = SameFiles before after
 
 -- what one read gives, behind the bytes read so far: some went over from the rest, or nothing is left
 abbrev pub ReadsBlock : List ℕ → List ℕ → ℕ → FilesView → FilesView → Result Bool ReadEnd → Type 0
-ReadsBlock bytes more room before after (Ok true) = (after ≡ with_rest after.rest before) × (length bytes < length more) × (length more ≤ length bytes + room)
+ReadsBlock bytes more room before after (Ok true) =
+    (after ≡ with_rest after.rest before) × (length bytes < length more) × (length more ≤ length bytes + room)
     × (whole_of more after.rest ≡ whole_of bytes before.rest)
 ReadsBlock bytes more room before after (Ok false) = (after ≡ before) × (more ≡ bytes) × IfSome before.rest (λ none. none ≡ [])
 ReadsBlock bytes more room before after (Err ends.Absent) = ⊥

@@ -19,9 +19,9 @@ abbrev pub with_fault : SinkView → SinkView
 with_fault sink = record { taken = sink.taken; faults = next_count sink.faults }
 
 -- what a write does to a sink: it takes a front of the bytes, or counts one fault and takes nothing
-abbrev pub Writes : List ℕ → SinkView → SinkView → Put → Type 0
-Writes bytes before after (put.Took n) = (0 < n) × (n ≤ length bytes) × (after ≡ with_text (take n bytes) before)
-Writes bytes before after put.Failed = after ≡ with_fault before
+abbrev pub SinkWrites : List ℕ → SinkView → SinkView → Put → Type 0
+SinkWrites bytes before after (put.Took n) = (0 < n) × (n ≤ length bytes) × (after ≡ with_text (take n bytes) before)
+SinkWrites bytes before after put.Failed = after ≡ with_fault before
 
 -- The sink took a front of the text, and then one write failed. Nothing was written behind it: that might have failed
 -- too, and then two faults were counted.

@@ -1,5 +1,5 @@
 ghost use Rattle.std.specs.Prelude.{◌≡◌, Some};
-ghost use Rattle.rcce_io.specs.Memory.{Calls, no_calls, fails_next, after_call};
+ghost use Rattle.rcce_io.specs.Memory.{Calls, no_file_calls, fails_next, after_call};
 
 use std::marker::Model;
 
@@ -21,7 +21,7 @@ impl Model for CallCounter {
 
 impl CallCounter {
     pub fn new() -> Self
-        ensures { result ≡ no_calls }
+        ensures { result ≡ no_file_calls }
     {
         CallCounter {
             made: 0,

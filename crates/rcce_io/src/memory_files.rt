@@ -37,19 +37,19 @@ impl Model for MemFiles {
 
     ghost use Rattle.std.specs.Prelude.{◌<◌};
     ghost use Rattle.std.specs.Option.{ForSome};
-    ghost use Rattle.rcce_io.specs.MemoryFiles.{state_of, IsWithin};
+    ghost use Rattle.rcce_io.specs.MemoryFiles.{files_state_of, IsWithin};
 
-    ghost view = { state_of };
+    ghost view = { files_state_of };
 
     ghost invariant = { λ m. ForSome m.place (IsWithin m.files.items) × (0 < m.most) };
 }
 
 impl MemFiles {
-    ghost use Rattle.rcce_io.specs.Memory.{no_files, with_file};
+    ghost use Rattle.rcce_io.specs.Memory.{no_files_state, with_file};
 
     /// Takes no memory yet: `add` does.
     pub fn new(alloc: Global) -> Self
-        ensures { result ≡ no_files }
+        ensures { result ≡ no_files_state }
     {
         MemFiles {
             alloc,

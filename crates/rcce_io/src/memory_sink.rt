@@ -1,5 +1,5 @@
 ghost use Rattle.std.specs.Prelude.{◌≡◌, ◌<◌, Some, length, IfOk};
-ghost use Rattle.rcce_io.specs.Sending.{Writes};
+ghost use Rattle.rcce_io.specs.Sending.{SinkWrites};
 ghost use Rattle.rcce_io.specs.Memory.{new_sink, sink_seen, write_answer, after_write};
 
 use crate::calls::CallCounter;
@@ -70,7 +70,7 @@ impl Sink for MemSink {
 
     fn write(&mut self, bytes: &[u8]) -> Put
         requires { 0 < length bytes.now }
-        ensures writes { Writes bytes.now (sink_seen self.old) (sink_seen self.new) result }
+        ensures writes { SinkWrites bytes.now (sink_seen self.old) (sink_seen self.new) result }
 
         // Exactly the write of the number set fails, and each where no room is left.
         ensures answers { result ≡ write_answer self.old (length bytes.now) }

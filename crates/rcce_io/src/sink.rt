@@ -1,5 +1,5 @@
 ghost use Rattle.std.specs.Prelude.{◌<◌, length};
-ghost use Rattle.rcce_io.specs.Sending.{SinkView, Writes};
+ghost use Rattle.rcce_io.specs.Sending.{SinkView, SinkWrites};
 
 /// What a `write` answers.
 #[derive(Clone, Copy, PartialEq, Eq)]
@@ -17,5 +17,5 @@ pub trait Sink {
     /// Takes a front of the bytes, or fails. A failed write counts exactly one fault.
     fn write(&mut self, bytes: &[u8]) -> Put
         requires { 0 < length bytes.now }
-        ensures { Writes bytes.now (seen self.old) (seen self.new) result };
+        ensures { SinkWrites bytes.now (seen self.old) (seen self.new) result };
 }

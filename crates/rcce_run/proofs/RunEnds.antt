@@ -22,12 +22,12 @@ use Rattle.rcce_ue.specs.Ues.{UeView}
 use Rattle.chip_run.specs.declared.ends.RunEnd.{RunEnd}
 use Rattle.chip_run.specs.declared.ends.RunEnd.TheVariants as run_end
 use Rattle.chip_run.specs.Conducts.{Conduct, Later, WorkerView}
-use Rattle.chip_run.specs.Crews.{AllRest, EndsWith, GoesOn, IsCrew}
+use Rattle.chip_run.specs.Crews.{AllRest, RunEndedAs, CrewGoesOn, IsCrew}
 use Rattle.chip_run.specs.Turns.{HasFinished, IsOver, RestsAt}
 use Rattle.chip_run.specs.Waiting.{SlotWaits, Waits}
 use Rattle.chip_run.proofs.LaterLaws.{later_keeps}
 use Rattle.chip_run.proofs.WaitsLike.{slot_like, waits_like}
-use Rattle.rcce_run.specs.Crews.{AllRun, EndsAs, IsAtEnd, locals_of}
+use Rattle.rcce_run.specs.Crews.{AllRun, EndsAs, IsAtEnd, crew_locals}
 use Rattle.rcce_run.specs.Scripts.{IsSwept}
 use Rattle.rcce_run.specs.Sweep.{Stood, Vain, slots_by}
 use Rattle.rcce_ue.specs.Workers.{UeStands, slot_awaited, ue_seen, ue_want, want_at_end}
@@ -46,7 +46,7 @@ pub record RunsUes {A : Type 0} (c : Conduct A) (ue : A → UeView) : Type 0 whe
   pub stayed : (x y : A) → c.stays x y → (ue y).machine.script ≡ (ue x).machine.script
 
 -- they run the same script as before
-pub still_run : {A : Type 0} (c : Conduct A) (ue : A → UeView) → RunsUes c ue → (script : Script) (chip now : ChipView) (crew later : List A) → GoesOn c chip crew now later → AllRun ue script crew → AllRun ue script later
+pub still_run : {A : Type 0} (c : Conduct A) (ue : A → UeView) → RunsUes c ue → (script : Script) (chip now : ChipView) (crew later : List A) → CrewGoesOn c chip crew now later → AllRun ue script crew → AllRun ue script later
 still_run {A} c ue runs script chip now crew later goes all k d low =
     let within : k < length crew = subst (λ (n : ℕ). k < n) goes.count low in
     later_keeps c (λ (x : A). (ue x).machine.script) runs.moved runs.stayed (slice_index_or crew k d) (slice_index_or later k d) (goes.each k d within) ∙ all k d within
@@ -77,7 +77,7 @@ module _ {A : Type 0} (c : Conduct A) (ue : A → UeView) (runs : RunsUes c ue) 
   ue_at k = ue (slice_index_or crew k d)
 
   abbrev states : ℕ → State
-  states k = state_of (locals_of ue crew d k) (records k)
+  states k = state_of (crew_locals ue crew d k) (records k)
 
   within : (k : ℕ) → k < s.nue → k < length crew
   within k low = subst (λ (n : ℕ). k < n) (sym is_crew.each) low
@@ -130,14 +130,14 @@ module _ {A : Type 0} (c : Conduct A) (ue : A → UeView) (runs : RunsUes c ue) 
         low : 0 < s.nue
         low = subst (λ (n : ℕ). 0 < n) is_crew.each some
 
-    pub at_end : IsAtEnd script s records (locals_of ue crew d)
+    pub at_end : IsAtEnd script s records (crew_locals ue crew d)
     at_end = record {
       lasts = lasts;
       ends = script_ends script s memory records states lasts is_swept;
       opened = open_is_next next_of s memory records (started script) states lasts is_swept.swept;
     }
 
-    end_at : (k : ℕ) → k < script.nue → (ended_at (plain_ends script) k).end ≡ end_of (slots_by s records lasts k) (locals_of ue crew d k)
+    end_at : (k : ℕ) → k < script.nue → (ended_at (plain_ends script) k).end ≡ end_of (slots_by s records lasts k) (crew_locals ue crew d k)
     end_at k low = plain_end_at script states (slots_by s records lasts) (script_ends script s memory records states lasts is_swept) k low
 
     rank_below : (k : ℕ) → k < script.nue → k < s.nue
@@ -147,16 +147,16 @@ module _ {A : Type 0} (c : Conduct A) (ue : A → UeView) (runs : RunsUes c ue) 
     all_finished finished k low =
         let at = finished k (rank_below k low) in
         let empty = none_on_its_way (ue_at k) (records k) (tied_slot (ue_at k) s k (events_in chip k) (tied_at k (rank_below k low))) at in
-        end_at k low ∙ finished_end (locals_of ue crew d k) (slots_by s records lasts k) at.running (over_ends (ue_at k) (records k) at.over) (script_empty script s memory records states lasts is_swept k empty)
+        end_at k low ∙ finished_end (crew_locals ue crew d k) (slots_by s records lasts k) at.running (over_ends (ue_at k) (records k) at.over) (script_empty script s memory records states lasts is_swept k empty)
 
-    not_finished : (k : ℕ) → k < s.nue → RestsAt false s records k (ue_seen (ue_at k)) → end_of (slots_by s records lasts k) (locals_of ue crew d k) ≢ ue_end.Finished
-    not_finished k low (inl stopped) = stopped_end (locals_of ue crew d k) (slots_by s records lasts k) stopped.stopped
+    not_finished : (k : ℕ) → k < s.nue → RestsAt false s records k (ue_seen (ue_at k)) → end_of (slots_by s records lasts k) (crew_locals ue crew d k) ≢ ue_end.Finished
+    not_finished k low (inl stopped) = stopped_end (crew_locals ue crew d k) (slots_by s records lasts k) stopped.stopped
     not_finished k low (inr waits) =
         let slot_to : Option ℕ = slot_awaited (ue_at k) in
-        waiting_end (locals_of ue crew d k) (slots_by s records lasts k)
-        (waits_pauses s (view_of s waits.memory) k (waits.records k) slot_to (local_next (locals_of ue crew d k)) waits.waits)
+        waiting_end (crew_locals ue crew d k) (slots_by s records lasts k)
+        (waits_pauses s (view_of s waits.memory) k (waits.records k) slot_to (local_next (crew_locals ue crew d k)) waits.waits)
         (λ ends.
-        let there : SlotWaits (view_of s waits.memory) k (waits.records k) = waits_at_end s (view_of s waits.memory) k (waits.records k) slot_to (local_next (locals_of ue crew d k)) ends waits.waits in
+        let there : SlotWaits (view_of s waits.memory) k (waits.records k) = waits_at_end s (view_of s waits.memory) k (waits.records k) slot_to (local_next (crew_locals ue crew d k)) ends waits.waits in
         let slot = slot_like s waits.memory memory waits.records records waits.agrees agrees waits.alike k low there in
         let (message, last, full) = script_waits script s memory records states lasts is_swept k low slot in
         (message, full))
@@ -167,6 +167,6 @@ module _ {A : Type 0} (c : Conduct A) (ue : A → UeView) (runs : RunsUes c ue) 
         (k, below, λ end. not_finished k low rests_there (sym (end_at k below) ∙ end))
 
   -- where the run ended so, all ranks have finished in the plain meaning, or one has not
-  pub ends_as : AllRest c chip crew s.nue → (end : RunEnd) → EndsWith c end chip crew → EndsAs end script
+  pub ends_as : AllRest c chip crew s.nue → (end : RunEnd) → RunEndedAs c end chip crew → EndsAs end script
   ends_as rests run_end.Finished all = all_finished rests (λ k low. rests_as true k (all k d (within k low)))
   ends_as rests run_end.Stuck (all, one) = one_unfinished rests one.one (subst (λ (n : ℕ). one.one < n) is_crew.each one.below) (rests_as false one.one (one.rests d))

@@ -32,7 +32,7 @@ use Rattle.chip_run.specs.declared.members.Member.{Member}
 use Rattle.chip_run.specs.Crews.{IsCrew}
 use Rattle.rcce_run.specs.Crews.{AllRun}
 use Rattle.rcce_run.specs.Sent.{CountsSends}
-use Rattle.rcce_run.specs.UeRuns.{ue_members, ue_of}
+use Rattle.rcce_run.specs.UeRuns.{ue_members, member_ue}
 use Rattle.rcce_run.proofs.UeFits.{some_sight}
 
 -- the sends and posts among calls, and their bytes, with one call more
@@ -128,7 +128,7 @@ counts_tied x s rank events tied =
     let few = few_stood script rank tied.begun.whole within (record_of s rank events) x.machine.local tied.last stood in
     record { sent = tied.sent_is; bytes = tied.bytes_are; few = omega (arith, few.1.few); short = few.1.short }
 
-module _ (script : Script) (chip : ChipView) (crew : List (Member UeView)) (is_crew : IsCrew ue_members chip crew) (all_run : AllRun ue_of script crew) (some : 0 < length crew) (d : Member UeView) where
+module _ (script : Script) (chip : ChipView) (crew : List (Member UeView)) (is_crew : IsCrew ue_members chip crew) (all_run : AllRun member_ue script crew) (some : 0 < length crew) (d : Member UeView) where
   abbrev ue_at : ℕ → UeView
   ue_at k = (slice_index_or crew k d).worker
 

@@ -35,7 +35,7 @@ use Rattle.chip_run.specs.Crews.{AllRest, IsCrew}
 use Rattle.chip_run.specs.Turns.{RestsAt}
 use Rattle.chip_run.proofs.WaitsLike.{slot_like}
 use Rattle.rcce_run.specs.Crews.{AllRun}
-use Rattle.rcce_run.specs.UeRuns.{HasPlainCalls, IsFreshCrew, ShowsEnd, WaitsOpen, shown, state_shown, ue_members, ue_of}
+use Rattle.rcce_run.specs.UeRuns.{HasPlainCalls, IsFreshCrew, ShowsEnd, WaitsOpen, shown_states, state_shown, ue_members, member_ue}
 use Rattle.rcce_run.specs.Scripts.{IsSwept}
 use Rattle.chip_run.specs.Waiting.{SlotWaits}
 use Rattle.rcce_run.specs.Sweep.{Holds, Stood, slots_by}
@@ -68,7 +68,7 @@ fresh_crew script chip crew fresh = record {
       };
 }
 
-pub fresh_run : (script : Script) (chip : ChipView) (crew : List (Member UeView)) → IsFreshCrew script chip crew → AllRun ue_of script crew
+pub fresh_run : (script : Script) (chip : ChipView) (crew : List (Member UeView)) → IsFreshCrew script chip crew → AllRun member_ue script crew
 fresh_run script chip crew fresh k d low = ap (λ (m : MachineView). m.script) (fresh.members.each k d (subst (λ (n : ℕ). k < n) fresh.members.count low)).fresh.machine
 
 pub fresh_some : (script : Script) (chip : ChipView) (crew : List (Member UeView)) (s : SetupView) → IsFreshCrew script chip crew → s ≡ about_in chip → 1 ≤ s.nue → 0 < length crew
@@ -78,7 +78,7 @@ fresh_some script chip crew s fresh same ranks =
     omega (arith, each, some)
 
 -- members run their UEs
-pub members_run : RunsUes ue_members ue_of
+pub members_run : RunsUes ue_members member_ue
 members_run = record {
   shows = λ s rank x. refl;
   stands = λ x s rank events home. home.ties;
@@ -103,7 +103,7 @@ recorded_call done (Recvs from head take refuse) = refl
 recorded_call done (Bars comm after) = refl
 
 module _ (script : Script) (chip : ChipView) (crew : List (Member UeView)) (memory : Memory) (agrees : Agrees (about_in chip) memory (records_in chip)) (is_crew : IsCrew ue_members chip crew)
-    (all_run : AllRun ue_of script crew) (some : 0 < length crew) (d : Member UeView) (rests : AllRest ue_members chip crew (about_in chip).nue) where
+    (all_run : AllRun member_ue script crew) (some : 0 < length crew) (d : Member UeView) (rests : AllRest ue_members chip crew (about_in chip).nue) where
   abbrev s : SetupView
   s = about_in chip
 
@@ -141,7 +141,7 @@ module _ (script : Script) (chip : ChipView) (crew : List (Member UeView)) (memo
 
   sw : IsSwept script s memory records states lasts
   sw =
-      let found = is_swept ue_members ue_of members_run script chip crew memory agrees is_crew all_run some d rests in
+      let found = is_swept ue_members member_ue members_run script chip crew memory agrees is_crew all_run some d rests in
       record { ranks = found.ranks; comms = found.comms; swept = record { agrees = agrees; stands = λ k low. stood_by k (cases_lt k s.nue) low; vain = found.swept.vain } }
 
   holds : Holds script.nue (plain_end script) states (slots_by s records lasts)
@@ -216,7 +216,7 @@ module _ (script : Script) (chip : ChipView) (crew : List (Member UeView)) (memo
   abbrev numbered : List (ℕ × Member UeView)
   numbered = enumerate_from 0 crew
 
-  shown_at : (k : ℕ) → (k < length crew) ⊎ (length crew ≤ k) → slice_get (shown chip crew []).cells k ≡ slice_get (plain_end script).cells k
+  shown_at : (k : ℕ) → (k < length crew) ⊎ (length crew ≤ k) → slice_get (shown_states chip crew []).cells k ≡ slice_get (plain_end script).cells k
   shown_at k (inl low) =
       let first : 0 + k ≡ k = omega arith in
       slice_get-map (state_shown chip) numbered k
@@ -232,8 +232,8 @@ module _ (script : Script) (chip : ChipView) (crew : List (Member UeView)) (memo
   whole = subst (λ (x : Script). IsWhole x.nue x.items) (all_run 0 d some) (tied_at 0 (subst (λ (n : ℕ). 0 < n) is_crew.each some)).begun.whole
 
   -- so collective calls have given in them what they give
-  pub collectives_hold : (slots : List (Option Posted)) → CollectivesHold script (shown chip crew slots)
+  pub collectives_hold : (slots : List (Option Posted)) → CollectivesHold script (shown_states chip crew slots)
   collectives_hold slots =
       subst (λ (cells : List State). CollectivesHold script (record { cells = cells; slots = slots }))
-      (list_same (plain_end script).cells (shown chip crew []).cells (λ k. sym (shown_at k (cases_lt k (length crew)))))
+      (list_same (plain_end script).cells (shown_states chip crew []).cells (λ k. sym (shown_at k (cases_lt k (length crew)))))
       (any_slots script (plain_end script).cells (plain_end script).slots slots (plain_end_collectives script whole))

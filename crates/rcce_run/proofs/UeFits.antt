@@ -8,7 +8,7 @@ use Rattle.scc_proto.specs.Ports.{Sight, record_in}
 use Rattle.scc_proto.specs.Records.{record_of}
 use Rattle.scc_proto.specs.Stages.{OnItsWay, Record}
 use Rattle.scc_proto.proofs.Tests.{both_first, peers_from}
-use Rattle.scc_mesh.specs.Scenes.{no_table, sight_away}
+use Rattle.scc_mesh.specs.Scenes.{blank_table, sight_away}
 use Rattle.script_reader.specs.Script.{Script}
 use Rattle.script_reader.specs.Settled.{IsWhole}
 use Rattle.script_plain.specs.declared.posts.Posted.{Posted}
@@ -28,7 +28,7 @@ use Rattle.rcce_run.specs.Ues.{Fits, state_of}
 
 -- a port at which a rank of a setup has these events
 abbrev pub some_sight : SetupView → ℕ → List Event → Sight
-some_sight s rank events = sight_away s (record { table = no_table; rank = rank; events = events })
+some_sight s rank events = sight_away s (record { table = blank_table; rank = rank; events = events })
 
 stood_of : (script : Script) (s : SetupView) (rank : ℕ) (rec : Record) (u : Local) (last : Option Posted) → IsWhole script.nue script.items → s.nue ≡ script.nue → rank < script.nue
     → ue.Stood (started script rank) rec u last → Stood next_of s rank (started script rank) rec (state_of u rec) last

@@ -20,8 +20,8 @@ abbrev pub AllRun : {A : Type 0} → (A → UeView) → Script → List A → Ty
 AllRun {A} ue script crew = (k : ℕ) (d : A) → k < length crew → (ue (slice_index_or crew k d)).machine.script ≡ script
 
 -- what the ranks hold
-abbrev pub locals_of : {A : Type 0} → (A → UeView) → List A → A → ℕ → Local
-locals_of ue crew d k = (ue (slice_index_or crew k d)).machine.local
+abbrev pub crew_locals : {A : Type 0} → (A → UeView) → List A → A → ℕ → Local
+crew_locals ue crew d k = (ue (slice_index_or crew k d)).machine.local
 
 -- the ranks stand at the plain end of a script: what they hold, with the finished calls of their records, and the messages
 -- in the slots are those of the plain end, and an open call is the one that stands next

@@ -13,7 +13,8 @@ use Rattle.script_plain.specs.Next as next
 use Rattle.rcce_run.specs.Sweep.{Swept}
 
 -- the setup is that of the script, the ranks started where the script starts them, and a sweep found every one waiting
-pub record IsSwept (script : Script) (s : SetupView) (memory : Memory) (records : ℕ → Record) (states : ℕ → State) (lasts : ℕ → Option Posted) : Type 0 where
+pub record IsSwept (script : Script) (s : SetupView) (memory : Memory) (records : ℕ → Record) (states : ℕ → State)
+    (lasts : ℕ → Option Posted) : Type 0 where
   pub ranks : s.nue ≡ script.nue
   pub comms : s.comms ≡ rules_of script.items
   pub swept : Swept next_of s memory records (started script) states lasts

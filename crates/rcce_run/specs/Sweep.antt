@@ -33,8 +33,11 @@ pub record Refused {U : Type 0} (next : U → Next U) (s : SetupView) (me : ℕ)
   pub ends : next now ≡ Ends
 
 -- a rank's state against its record: from its start the rank has done of its program the finished calls of its record,
--- with their bytes; or it has come so to a receive, and a message with another head stopped it there
-pub data Stood {U : Type 0} (next : U → Next U) (s : SetupView) (me : ℕ) (start : U) (rec : Record) (u : U) (last : Option Posted) : Type 0 where
+-- with their bytes; or it has come so to a receive, and a message with another head stopped it there. Seven parameters: what
+-- is next in a state, the rank in its setup and its start, and the three that are compared: its record, its state and the
+-- message that it posted last.
+pub data Stood {U : Type 0} (next : U → Next U) (s : SetupView) (me : ℕ) (start : U) (rec : Record) (u : U)
+    (last : Option Posted) : Type 0 where
   Running : Did next u last start None rec.calls → Stood next s me start rec u last
   Stopped : (before : U) → Did next before last start None rec.calls → Refused next s me rec before u → Stood next s me start rec u last
 
@@ -49,7 +52,8 @@ Vain s view me rec (Recvs from head take refuse) = TakeWaits s view me from rec
 Vain s view me rec (Bars comm after) = BarWaits s view me comm rec
 
 -- a sweep has found every rank waiting: words and records agree, each rank's state fits its record, and each look that a
--- rank waits at is vain
+-- rank waits at is vain. Seven parameters: what is next in a state, the setup and the words, and by rank the record, the
+-- start, the state and the message that it posted last.
 pub record Swept {U : Type 0} (next : U → Next U) (s : SetupView) (memory : Memory) (records : ℕ → Record)
     (starts states : ℕ → U) (lasts : ℕ → Option Posted) : Type 0 where
   pub agrees : Agrees s memory records

@@ -38,14 +38,14 @@ pub record IsFreshUe (script : Script) (s : SetupView) (rank : ℕ) (ue : UeView
   pub tied : (sight : Sight) → sight.seat.setup ≡ s → sight.seat.rank ≡ rank → sight.events ≡ [] → Tied ue sight
 
 -- a member with a UE of this rank before its first turn, and with no token
-pub record IsFreshMember (script : Script) (s : SetupView) (rank : ℕ) (member : Member UeView) : Type 0 where
+pub record IsFreshUeMember (script : Script) (s : SetupView) (rank : ℕ) (member : Member UeView) : Type 0 where
   pub fresh : IsFreshUe script s rank member.worker
   pub home : member.token ≡ None
 
 -- the first n ranks have each a member before its first turn, with no token
 pub record AreFresh (script : Script) (s : SetupView) (n : ℕ) (crew : List (Member UeView)) : Type 0 where
   pub count : length crew ≡ n
-  pub each : (rank : ℕ) (d : Member UeView) → rank < n → IsFreshMember script s rank (slice_index_or crew rank d)
+  pub each : (rank : ℕ) (d : Member UeView) → rank < n → IsFreshUeMember script s rank (slice_index_or crew rank d)
 
 -- a chip that is open without events, all its ranks at home, and for each rank such a member, of this script and with the
 -- chip's setup
@@ -55,8 +55,8 @@ pub record IsFreshCrew (script : Script) (chip : ChipView) (crew : List (Member 
   pub members : AreFresh script (about_in chip) (about_in chip).nue crew
 
 -- the UE of a member
-abbrev pub ue_of : Member UeView → UeView
-ue_of m = m.worker
+abbrev pub member_ue : Member UeView → UeView
+member_ue m = m.worker
 
 -- how members with UEs conduct themselves in a run
 abbrev pub ue_members : Conduct (Member UeView)
@@ -109,8 +109,8 @@ abbrev pub state_shown : ChipView → ℕ × Member UeView → State
 state_shown chip member = state_of member.1.worker.machine.local (records_in chip member.0)
 
 -- the states that UEs show, rank by rank, with these messages in the slots
-abbrev pub shown : ChipView → List (Member UeView) → List (Option Posted) → Configuration State
-shown chip crew slots = record { cells = map (state_shown chip) (enumerate_from 0 crew); slots = slots }
+abbrev pub shown_states : ChipView → List (Member UeView) → List (Option Posted) → Configuration State
+shown_states chip crew slots = record { cells = map (state_shown chip) (enumerate_from 0 crew); slots = slots }
 
 -- What a run of a script gives.
 pub record RunGives (script : Script) (end : RunEnd) (chip : ChipView) (crew : List (Member UeView)) : Type 0 where
@@ -124,7 +124,8 @@ pub record RunGives (script : Script) (end : RunEnd) (chip : ChipView) (crew : L
   pub sent : (k : ℕ) (d : Member UeView) → k < script.nue → CountsSends script k (records_in chip k) (slice_index_or crew k d).worker
   -- a call that a rank has open is the one at which the plain meaning leaves it waiting. None is open where the rank waits
   -- for its posted message at its end
-  pub opened : (k : ℕ) (call : DataCall) → k < script.nue → open_call (about_in chip) (records_in chip k) ≡ Some call → WaitsOpen script k call
+  pub opened : (k : ℕ) (call : DataCall) → k < script.nue → open_call (about_in chip) (records_in chip k) ≡ Some call
+      → WaitsOpen script k call
   -- in the states that the UEs show, each broadcast that a rank has done gave it the bytes that the root sent, and each
   -- reduction the fold of what the members gave, whatever messages stand in the slots
-  pub collectives : (slots : List (Option Posted)) → CollectivesHold script (shown chip crew slots)
+  pub collectives : (slots : List (Option Posted)) → CollectivesHold script (shown_states chip crew slots)

@@ -21,4 +21,5 @@ pub record Fits (ue : UeView) (s : SetupView) (rank : ℕ) (events : List Event)
   pub ranks : s.nue ≡ ue.machine.script.nue
   pub comms : s.comms ≡ rules_of ue.machine.script.items
   pub last : Option Posted
-  pub stood : Stood next_of s rank (started ue.machine.script rank) (record_of s rank events) (state_of ue.machine.local (record_of s rank events)) last
+  pub stood : Stood next_of s rank (started ue.machine.script rank) (record_of s rank events)
+      (state_of ue.machine.local (record_of s rank events)) last

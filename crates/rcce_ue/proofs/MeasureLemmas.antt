@@ -9,7 +9,7 @@ use Rattle.scc_base.specs.Setups.{SetupView, place_of, setup_key, size_of}
 use Rattle.scc_base.specs.declared.layouts.Layout.{Layout}
 use Rattle.scc_base.specs.declared.layouts.Layout.TheVariants.{LineFlags, BitFlags}
 use Rattle.scc_base.proofs.GroupFacts.{place_below}
-use Rattle.send_recv.specs.Chunks.{chunk_count, lines_from, lines_of, message_bound}
+use Rattle.send_recv.specs.Chunks.{chunk_count, lines_from, lines_of_bytes, message_bound}
 use Rattle.send_recv.specs.Ops.{SlotAt, new_send, slot_left}
 use Rattle.send_recv.specs.Sending.{of_chunk}
 use Rattle.send_recv.proofs.Starts.{new_receive_left}
@@ -105,8 +105,8 @@ each_post : (layout : Layout) → of_chunk layout true ≤ 2
 each_post LineFlags = omega arith
 each_post BitFlags = omega arith
 
-lines_all : (size len : ℕ) → lines_from size len 0 ≡ lines_of len
-lines_all size len = let none : len - size * 0 ≡ len = omega arith in ap lines_of none
+lines_all : (size len : ℕ) → lines_from size len 0 ≡ lines_of_bytes len
+lines_all size len = let none : len - size * 0 ≡ len = omega arith in ap lines_of_bytes none
 
 post_fits : (slot lines product chunks : ℕ) → product ≤ 2 * (chunks - 0) → 3 + (slot + 1 + lines + product) ≤ slot + (1 + (4 + 5 * chunks + lines))
 post_fits slot lines product chunks le = omega (arith, le)
@@ -117,16 +117,16 @@ send_fits slot lines product chunks le = omega (arith, le)
 module _ (s : SetupView) (rank : ℕ) (slot : SlotAt) where
   post_opens : (to : ℕ) (head : MessageHead) → open_left s rank (Sending (new_send to head true)) slot ≤ slot_left slot + (1 + message_bound s.layout head.len)
   post_opens to head =
-      subst (λ (l : ℕ). 3 + (slot_left slot + 1 + l + of_chunk s.layout true * (chunk_count (chunk_size s.layout) head.len - 0)) ≤ slot_left slot + (1 + (4 + 5 * chunk_count (chunk_size s.layout) head.len + lines_of head.len)))
+      subst (λ (l : ℕ). 3 + (slot_left slot + 1 + l + of_chunk s.layout true * (chunk_count (chunk_size s.layout) head.len - 0)) ≤ slot_left slot + (1 + (4 + 5 * chunk_count (chunk_size s.layout) head.len + lines_of_bytes head.len)))
       (sym (lines_all (chunk_size s.layout) head.len))
-      (post_fits (slot_left slot) (lines_of head.len) (of_chunk s.layout true * (chunk_count (chunk_size s.layout) head.len - 0)) (chunk_count (chunk_size s.layout) head.len)
+      (post_fits (slot_left slot) (lines_of_bytes head.len) (of_chunk s.layout true * (chunk_count (chunk_size s.layout) head.len - 0)) (chunk_count (chunk_size s.layout) head.len)
       (mul-le-mul_right (chunk_count (chunk_size s.layout) head.len - 0) (each_post s.layout)))
 
   send_opens : (to : ℕ) (head : MessageHead) → open_left s rank (Sending (new_send to head false)) slot ≤ slot_left slot + (1 + message_bound s.layout head.len)
   send_opens to head =
-      subst (λ (l : ℕ). 1 + (slot_left slot + 1 + l + of_chunk s.layout false * (chunk_count (chunk_size s.layout) head.len - 0)) ≤ slot_left slot + (1 + (4 + 5 * chunk_count (chunk_size s.layout) head.len + lines_of head.len)))
+      subst (λ (l : ℕ). 1 + (slot_left slot + 1 + l + of_chunk s.layout false * (chunk_count (chunk_size s.layout) head.len - 0)) ≤ slot_left slot + (1 + (4 + 5 * chunk_count (chunk_size s.layout) head.len + lines_of_bytes head.len)))
       (sym (lines_all (chunk_size s.layout) head.len))
-      (send_fits (slot_left slot) (lines_of head.len) (of_chunk s.layout false * (chunk_count (chunk_size s.layout) head.len - 0)) (chunk_count (chunk_size s.layout) head.len)
+      (send_fits (slot_left slot) (lines_of_bytes head.len) (of_chunk s.layout false * (chunk_count (chunk_size s.layout) head.len - 0)) (chunk_count (chunk_size s.layout) head.len)
       (mul-le-mul_right (chunk_count (chunk_size s.layout) head.len - 0) (each_send s.layout)))
 
   flip_left : (size place : ℕ) → 1 ≤ size → left_by size place Flip ≤ 2 * size + 1

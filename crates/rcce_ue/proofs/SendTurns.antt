@@ -13,7 +13,7 @@ use Rattle.scc_proto.proofs.PortLaws.{seat_kept}
 use Rattle.put_get.specs.Cores.{Private}
 use Rattle.send_recv.specs.Chunks.{message_bound}
 use Rattle.send_recv.specs.Ops.{SendAt, SlotAt, is_sent, slot_left}
-use Rattle.send_recv.specs.Sending.{IsAtSendStage, IsSameOrEmpty, SendStands, SendTurned, send_call, send_left, slot_after}
+use Rattle.send_recv.specs.Sending.{IsAtSendStage, IsSameOrEmpty, SendStands, SendTurned, send_call, send_left, slot_after_send}
 use Rattle.send_recv.specs.declared.stages.SendStage.{SendStage}
 use Rattle.send_recv.specs.Ranks.{sending}
 use Rattle.send_recv.proofs.Starts.{slot_left_most}
@@ -61,7 +61,7 @@ plain_call : (op : SendAt) (to : ℕ) (head : MessageHead) (bytes : List ℕ) �
 plain_call op to head bytes at is posted on = λ i. cond (on i) [] (cond (posted i) (Post (at i) (is i) bytes ∷ []) (Send (at i) (is i) bytes ∷ []))
 
 -- the slot of a post
-filled : (op : SendAt) (slot after : SlotAt) (to : ℕ) → after ≡ slot_after op slot → op.to ≡ to → op.posted ≡ true → is_sent op.stage ≡ false → after.to ≡ Some to
+filled : (op : SendAt) (slot after : SlotAt) (to : ℕ) → after ≡ slot_after_send op slot → op.to ≡ to → op.posted ≡ true → is_sent op.stage ≡ false → after.to ≡ Some to
 filled op slot after to is at posted on =
     ap (λ (x : SlotAt). x.to) is ∙ (λ i. (cond (on i) slot (cond (posted i) (record { to = Some (at i); seen = false }) slot)).to)
 

@@ -37,7 +37,8 @@ state_at u calls = record { local = u; matched = calls }
 -- came so to a receive, and was stopped there by a message whose header the record has noted, and which has another head
 pub data Stood (start : State) (rec : Record) (u : Local) (last : Option Posted) : Type 0 where
   Runs : Came next_of start (state_at u rec.calls) last → Stood start rec u last
-  Refused : (v : Local) → (from : ℕ) → (head : MessageHead) → (sent : MessageHead) → (take : List ℕ → Local) → (refuse : MessageHead → Local) → (header : Notes)
+  Refused : (v : Local) → (from : ℕ) → (head : MessageHead) → (sent : MessageHead) → (take : List ℕ → Local)
+      → (refuse : MessageHead → Local) → (header : Notes)
       → Came next_of start (state_at v rec.calls) last → local_next v ≡ Recvs from head take refuse → sent ≢ head
       → rec.notes from ≡ Some header → SaysHead header sent → u ≡ refuse sent → is_stopped u ≡ true → Stood start rec u last
 
@@ -78,7 +79,8 @@ pub record IsFree (s : Sight) (own : OwnState) : Type 0 where
   pub messages : IsBetweenMessages s own.core own.slot
   pub parity : IsParityOf (record_in s) own.parity
 
--- the record, the core and the bytes stand where the call stands that comes next
+-- the record, the core and the bytes stand where the call stands that comes next. Seven parameters: what stands (the sight,
+-- the core, the slot, the parity, the bytes received so far), the call that is open, and what is next in the program.
 abbrev pub OpStands : Sight → Private → SlotAt → List Bool → List ℕ → Open → Next Local → Type 0
 OpStands s c slot parity inbox Nothing next = IsBetweenCalls s c × IsNoCall next
 OpStands s c slot parity inbox (Sending op) next = SendStands s c op slot (bytes_out next) × IsSendOf op next

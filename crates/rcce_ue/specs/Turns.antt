@@ -78,7 +78,8 @@ pub data WentOn (ue now : UeView) : Type 0 where
 -- before, and then nothing is done
 abbrev pub UeMeans : UeView → Sight → UeView → Sight → Turn → Type 0
 UeMeans ue s now t turn.Moved = (left_of now < left_of ue) × (is_over ue ≡ false) × WentOn ue now
-UeMeans ue s now t (turn.Waiting spot) = IsStill ue now × (left_of now ≡ left_of ue) × IsAtRest (record_in s) (record_in t) × (is_over ue ≡ false) × IsPausing now
+UeMeans ue s now t (turn.Waiting spot) =
+    IsStill ue now × (left_of now ≡ left_of ue) × IsAtRest (record_in s) (record_in t) × (is_over ue ≡ false) × IsPausing now
 UeMeans ue s now t turn.Done = (now ≡ ue) × (t ≡ s) × (is_over ue ≡ true) × IsPausing now
 
 -- what a turn does where no call stands next: the slot's turn behind the end of the program, and else nothing
@@ -86,11 +87,14 @@ abbrev pub AloneDoes : UeView → Sight → (at_end : Bool) → (done : Bool) �
 AloneDoes ue s true done t d = SlotDoes (with_slot s ue.core ue.slot) done t d
 AloneDoes ue s false done t d = (t ≡ s) × (d ≡ ue.core)
 
--- what a turn does: what the call does that stands next, with the parity after the turn
+-- what a turn does: what the call does that stands next, with the parity after the turn. Seven parameters: the UE, the
+-- parity and the call that is open, whether the try was done, and the sight before and the sight and the core after.
 abbrev pub UeDoes : UeView → Sight → (parity : List Bool) → Open → (done : Bool) → Sight → Private → Type 0
 UeDoes ue s parity Nothing done t d = AloneDoes ue s (not (is_stopped ue.machine.local) && is_ended (local_next ue.machine.local)) done t d
-UeDoes ue s parity (Sending op) done t d = SendDoes (sending s ue.core op ue.slot (bytes_out (local_next ue.machine.local))) op.stage done t d
-UeDoes ue s parity (Receiving op) done t d = RecvDoes (receiving s ue.core op (take (length_in (local_next ue.machine.local)) ue.inbox)) op.stage done t d
+UeDoes ue s parity (Sending op) done t d =
+    SendDoes (sending s ue.core op ue.slot (bytes_out (local_next ue.machine.local))) op.stage done t d
+UeDoes ue s parity (Receiving op) done t d =
+    RecvDoes (receiving s ue.core op (take (length_in (local_next ue.machine.local)) ue.inbox)) op.stage done t d
 UeDoes ue s parity (Meeting op) done t d = barrier_turn.Does s.seat op.comm op.stage (flag_value (value_at parity op.comm)) s ue.core t d
 
 -- one turn of a UE: what it did, and what it came to

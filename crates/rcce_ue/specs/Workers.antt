@@ -8,7 +8,7 @@ use Rattle.script_plain.specs.Moves.{is_stopped}
 use Rattle.script_plain.specs.Next.{Next}
 use Rattle.script_plain.specs.Next.Next.{Ends, Goes, Posts, Sends, Recvs, Bars}
 use Rattle.chip_run.specs.Conducts.{Conduct, WorkerView}
-use Rattle.chip_run.specs.Turns.{HoldsNone}
+use Rattle.chip_run.specs.Turns.{RankHoldsNone}
 use Rattle.chip_run.specs.Wants.{Want}
 use Rattle.rcce_ue.specs.Left.{left_of}
 use Rattle.rcce_ue.specs.Standing.{Tied}
@@ -56,7 +56,7 @@ pub record UeStands (ue : UeView) (s : SetupView) (rank : ℕ) (events : List Ev
   -- at whatever port shows them
   pub tied : (sight : Sight) → sight.seat.setup ≡ s → sight.seat.rank ≡ rank → sight.events ≡ events → Tied ue sight
   -- and its rank holds no register between turns
-  pub hands : HoldsNone s rank events
+  pub hands : RankHoldsNone s rank events
 
 -- how UEs conduct themselves in a run
 abbrev pub ue_conduct : Conduct UeView

@@ -122,7 +122,8 @@ impl<'s, V: Evict> Ue<'s, V> {
         requires room { length_in (local_next self.old.machine.local) ≤ length self.old.inbox }
         ensures { self.new ≡ entered (record self.old {
           machine = record self.old.machine {
-            local = taken (local_next self.old.machine.local) (take (length_in (local_next self.old.machine.local)) self.old.inbox) self.old.machine.local;
+            local = taken (local_next self.old.machine.local) (take (length_in (local_next self.old.machine.local)) self.old.inbox)
+                self.old.machine.local;
           };
         }) }
     {
@@ -207,7 +208,8 @@ impl<'s, V: Evict + Drop> Ue<'s, V> {
         requires within { rank < setup.nue }
         requires ranks { setup.nue ≡ scripts.now.nue }
         requires communicators { setup.comms ≡ rules_of scripts.now.items }
-        ensures machine { IfOk result (λ u. u.machine ≡ record { script = scripts.now; setup = setup; rank = rank; local = local_start scripts.now rank }) }
+        ensures machine { IfOk result (λ u. u.machine
+            ≡ record { script = scripts.now; setup = setup; rank = rank; local = local_start scripts.now rank }) }
         ensures tied { IfOk result (λ u. (s : Sight) → s.seat.setup ≡ setup → s.seat.rank ≡ rank → s.events ≡ [] → Tied u s) }
         ensures left { IfOk result (λ u. left_of u ≤ visits scripts.now rank + bounds_of setup scripts.now rank) }
         ensures evictor { IfOk result (λ u. u.core.answers ≡ V.answers evict) }
@@ -257,7 +259,8 @@ impl<'s, V: Evict> Ue<'s, V> {
     /// How the rank's run stands: finished, stopped by a mismatch, or at what it waits.
     pub fn end(&self) -> UeEnd
         requires rests { is_going (local_next self.now.machine.local) ≡ false }
-        ensures gives { (last : Option Posted) → self.now.posted ≡ option_map on_its_way last → result ≡ end_of (in_slot self.now.slot last) self.now.machine.local }
+        ensures gives { (last : Option Posted) → self.now.posted ≡ option_map on_its_way last
+            → result ≡ end_of (in_slot self.now.slot last) self.now.machine.local }
     {
         match self.slot.holds() {
             Some(_) => self.machine.end(self.posted),

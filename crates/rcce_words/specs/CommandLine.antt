@@ -15,8 +15,8 @@ use Rattle.rcce_words.specs.declared.flags.Flag.TheVariants as flag
 use Rattle.rcce_words.specs.declared.said.Said.{Said}
 
 -- the option that a word names
-abbrev pub flag_of : List ℕ → Option Flag
-flag_of word =
+abbrev pub option_named : List ℕ → Option Flag
+option_named word =
     if bytes_eq word (codes "-nue") then Some flag.Nue
     else if bytes_eq word (codes "-f") then Some flag.Hosts
     else if bytes_eq word (codes "-evict") then Some flag.Evict
@@ -95,7 +95,7 @@ take_option at said (Some flag) behind = take_flag at said flag behind
 
 -- a word that is no value: what begins with `-` is an option, and what does not is the script's name
 abbrev pub take : ℕ → Said → List ℕ → Option (List ℕ) → Result Said WordFault
-take at said word behind = if is_option word then take_option at said (flag_of word) behind else take_name at said
+take at said word behind = if is_option word then take_option at said (option_named word) behind else take_name at said
 
 -- the first of the words, if there is one
 abbrev pub first_of : List (List ℕ) → Option (List ℕ)
@@ -106,7 +106,8 @@ first_of (word ∷ words) = Some word
 abbrev pub scan : ℕ → Bool → Said → List (List ℕ) → Result Said WordFault
 scan at is_value said [] = Ok said
 scan at true said (word ∷ words) = scan (at + 1) false said words
-scan at false said (word ∷ words) = take at said word (first_of words) >>= λ next. scan (at + 1) (takes_value (flag_of word)) next words
+scan at false said (word ∷ words) =
+    take at said word (first_of words) >>= λ next. scan (at + 1) (takes_value (option_named word)) next words
 
 -- the script that is to run: one from a file, or one that is made
 abbrev pub work_of : Option ℕ → Option ℕ → Result Work WordFault

@@ -62,21 +62,22 @@ abbrev pub with_core : List ℕ → ℕ → Result (List ℕ) HostKind
 with_core cores core = if has_core core cores then Err kind.TwiceCore else Ok (cores ++ core ∷ [])
 
 -- the cores of the lines up to one: an empty line has none, and any other has one
-abbrev pub read_line : List ℕ → List ℕ → Result (List ℕ) HostKind
-read_line cores line =
+abbrev pub read_host_line : List ℕ → List ℕ → Result (List ℕ) HostKind
+read_host_line cores line =
     if is_text line
     then (if length (entry_of line) == 0 then Ok cores else core_of_word (entry_of line) >>= with_core cores)
     else Err kind.NotText
 
 -- a fault with the number of its line
-abbrev pub at_line : {A : Type 0} → ℕ → Result A HostKind → Result A HostFault
-at_line line (Ok x) = Ok x
-at_line line (Err kind) = Err (record { line = line; kind = kind })
+abbrev pub at_host_line : {A : Type 0} → ℕ → Result A HostKind → Result A HostFault
+at_host_line line (Ok x) = Ok x
+at_host_line line (Err kind) = Err (record { line = line; kind = kind })
 
 -- the cores of the lines, of which the first has the number behind `before`
-abbrev pub read_lines : ℕ → List ℕ → List (List ℕ) → Result (List ℕ) HostFault
-read_lines before cores [] = Ok cores
-read_lines before cores (line ∷ lines) = at_line (before + 1) (read_line cores line) >>= λ next. read_lines (before + 1) next lines
+abbrev pub read_host_lines : ℕ → List ℕ → List (List ℕ) → Result (List ℕ) HostFault
+read_host_lines before cores [] = Ok cores
+read_host_lines before cores (line ∷ lines) =
+    at_host_line (before + 1) (read_host_line cores line) >>= λ next. read_host_lines (before + 1) next lines
 
 -- the core of a rank: the entry of its number, and from the number of units of execution on entry 0 again
 abbrev pub host_at : ℕ → List ℕ → ℕ → ℕ
@@ -88,7 +89,8 @@ host_list nue cores = map (host_at nue cores) (range_with_len 0 48)
 
 -- the cores of a file of `lines` lines, if there is one for each of the `nue` ranks
 abbrev pub enough : ℕ → ℕ → List ℕ → Result (List ℕ) HostFault
-enough nue lines cores = if nat_lt (length cores) nue then Err (record { line = lines + 1; kind = kind.TooFew }) else Ok (host_list nue cores)
+enough nue lines cores =
+    if nat_lt (length cores) nue then Err (record { line = lines + 1; kind = kind.TooFew }) else Ok (host_list nue cores)
 
 -- the most bytes of a host file
 abbrev pub most_host_bytes : ℕ
@@ -98,7 +100,7 @@ most_host_bytes = 65536
 abbrev pub parse_hosts : List ℕ → ℕ → Result (List ℕ) HostFault
 parse_hosts bytes nue =
     if nat_lt most_host_bytes (length bytes) then Err (record { line = 0; kind = kind.TooLong })
-    else read_lines 0 [] (file_lines bytes) >>= enough nue (length (file_lines bytes))
+    else read_host_lines 0 [] (file_lines bytes) >>= enough nue (length (file_lines bytes))
 
 -- each rank on the core of its number
 abbrev pub default_hosts : List ℕ

@@ -27,11 +27,13 @@ script_plan next file nue = Reads file most_script_bytes (bytes_plan next file n
 
 -- this script stands in the file, where files are told
 abbrev pub ScriptIn : List ℕ → Option (List NamedFile) → ℕ → Script → Type 0
-ScriptIn file told nue script = (bytes : List ℕ) × (length bytes ≤ most_script_bytes) × Holds told file bytes × (parse_script bytes nue ≡ Ok script)
+ScriptIn file told nue script =
+    (bytes : List ℕ) × (length bytes ≤ most_script_bytes) × Holds told file bytes × (parse_script bytes nue ≡ Ok script)
 
 -- the script stands in the file, and the plan of the file comes to what it comes to with this script
 pub record LeadsTo (file : List ℕ) (nue : ℕ) (before after : FilesView) (script : Script) : Type 0 where
-  pub goes : (program : List ℕ) (next : Script → Plan) (end : FilesView) (o : Outcome) → Comes program (next script) after end o → Comes program (script_plan next file nue) before end o
+  pub goes : (program : List ℕ) (next : Script → Plan) (end : FilesView) (o : Outcome) → Comes program (next script) after end o
+      → Comes program (script_plan next file nue) before end o
   pub stands : ScriptIn file before.told nue script
 
 -- What the reading of a script's file says to its plan: with a script it leads to this one, and with a complaint the plan comes
@@ -45,4 +47,5 @@ ReadsScript file nue before after (Err why) =
 abbrev pub ReadsBytes : List ℕ → ℕ → List ℕ → Result Script Complaint → Type 0
 ReadsBytes file nue bytes (Ok script) = parse_script bytes nue ≡ Ok script
 ReadsBytes file nue bytes (Err why) =
-    (program : List ℕ) (next : Script → Plan) (files : FilesView) → Comes program (bytes_plan next file nue bytes) files files (complaint_outcome program why)
+    (program : List ℕ) (next : Script → Plan) (files : FilesView)
+    → Comes program (bytes_plan next file nue bytes) files files (complaint_outcome program why)

@@ -14,7 +14,8 @@ pub record Command : Type 0 where
 -- the words `-nue N SCRIPT`, and no others
 abbrev pub script_command : List (List ℕ) → Option Command
 script_command (option ∷ number ∷ script ∷ []) =
-    if bytes_eq option (codes "-nue") && not (is_option script) then option_map (λ nue. record { nue = nue; script = script }) (ue_count_of number) else None
+    if bytes_eq option (codes "-nue") && not (is_option script)
+    then option_map (λ nue. record { nue = nue; script = script }) (ue_count_of number) else None
 script_command _ = None
 
 -- the command of a job

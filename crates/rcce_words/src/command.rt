@@ -4,7 +4,7 @@ ghost use Rattle.std.specs.Prelude.{◌≡◌, ◌+◌, ℕ, List, IfOk, false, 
 ghost use Rattle.outcomes.specs.Complaints.{complaint_outcome};
 ghost use Rattle.outcomes.specs.Outcomes.{words_refused};
 ghost use Rattle.rcce_words.specs.CommandLine.{IsInRange, IsSeedInRange, IsWithin, first_of, job_of, nothing, parse_command, scan, work_of};
-ghost use Rattle.rcce_words.specs.FaultTexts.{fault_text, word_at};
+ghost use Rattle.rcce_words.specs.FaultTexts.{fault_text, word_numbered};
 
 use crate::flags::takes_value;
 use crate::said::Said;
@@ -125,7 +125,7 @@ pub fn parse_words(words: &[String]) -> Result<Job, WordFault>
 
 /// A word by its number, counted from 0, and nothing past the last one.
 pub fn word_at(words: &[String], at: usize) -> &str
-    ensures { result.now ≡ word_at (map string_bytes words.now) at }
+    ensures { result.now ≡ word_numbered (map string_bytes words.now) at }
 {
     match words.get(at) {
         Some(word) => word.as_str(),
@@ -135,7 +135,7 @@ pub fn word_at(words: &[String], at: usize) -> &str
 
 /// The word behind one, and nothing behind the last one.
 fn word_behind(words: &[String], at: usize) -> &str
-    ensures { result.now ≡ word_at (map string_bytes words.now) (at + 1) }
+    ensures { result.now ≡ word_numbered (map string_bytes words.now) (at + 1) }
 {
     match at.checked_add(1) {
         Some(next) => word_at(words, next),
@@ -145,7 +145,8 @@ fn word_behind(words: &[String], at: usize) -> &str
 
 /// The complaint that says why these words are refused.
 pub fn complaint(words: &[String], fault: WordFault) -> Complaint<'_>
-    ensures gives { (program : List ℕ) → complaint_outcome program result ≡ words_refused program (fault_text (map string_bytes words.now) fault) }
+    ensures gives { (program : List ℕ)
+        → complaint_outcome program result ≡ words_refused program (fault_text (map string_bytes words.now) fault) }
 {
     let (text, at) = match fault {
         WordFault::NoNue => return Complaint::words("-nue is missing"),

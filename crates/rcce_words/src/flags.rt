@@ -1,7 +1,7 @@
 //! The options of the command line.
 
 ghost use Rattle.std.specs.Prelude.{◌≡◌};
-ghost use Rattle.rcce_words.specs.CommandLine.{flag_of, takes_value};
+ghost use Rattle.rcce_words.specs.CommandLine.{option_named, takes_value};
 
 /// An option, by what it sets.
 #[derive(Clone, Copy)]
@@ -22,7 +22,7 @@ pub(crate) enum Flag {
 
 /// The option that a word names.
 pub(crate) fn flag_of(word: &str) -> Option<Flag>
-    ensures { result ≡ flag_of word.now }
+    ensures { result ≡ option_named word.now }
 {
     if word == "-nue" {
         Some(Flag::Nue)
@@ -43,7 +43,7 @@ pub(crate) fn flag_of(word: &str) -> Option<Flag>
 
 /// Whether the word behind this one is its value.
 pub(crate) fn takes_value(word: &str) -> bool
-    ensures { result ≡ takes_value (flag_of word.now) }
+    ensures { result ≡ takes_value (option_named word.now) }
 {
     match flag_of(word) {
         Some(Flag::Bits) | None => false,

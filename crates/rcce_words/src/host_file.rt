@@ -4,7 +4,7 @@ ghost use Rattle.std.specs.Prelude.{◌≡◌, ◌≤◌, ◌<◌, ℕ, IfOk, If
 ghost use Rattle.std.specs.Prelude.{◌==◌};
 ghost use Rattle.std.specs.List.{position_or_len};
 ghost use Rattle.scc_base.specs.Setups.{AreApart};
-ghost use Rattle.rcce_words.specs.HostFile.{core_of_word, default_hosts, digits_of, entry_of, file_lines, host_kind_name, host_list, parse_hosts, read_line, read_lines, most_host_bytes};
+ghost use Rattle.rcce_words.specs.HostFile.{core_of_word, default_hosts, digits_of, entry_of, file_lines, host_kind_name, host_list, parse_hosts, read_host_line, read_host_lines, most_host_bytes};
 
 use crate::cores::Cores;
 use scc_base::{CoreId, own_cores};
@@ -106,7 +106,8 @@ fn entry_of(line: &[u8]) -> &[u8]
 
 /// Puts the core that a line has, if it has one, behind those of the lines before it.
 fn read_line(cores: &mut Cores, line: &[u8]) -> Result<(), HostKind>
-    ensures gives { MatchResult result (λ _. read_line cores.old line.now ≡ Ok cores.new) (λ kind. read_line cores.old line.now ≡ Err kind) }
+    ensures gives { MatchResult result (λ _. read_host_line cores.old line.now ≡ Ok cores.new) (λ kind. read_host_line cores.old line.now
+        ≡ Err kind) }
 {
     if !is_text(line) {
         return Err(HostKind::NotText);
@@ -133,7 +134,8 @@ struct Entries {
 /// The entries of a host file.
 fn read_lines(bytes: &[u8]) -> Result<Entries, HostFault>
     requires few { length bytes.now ≤ most_host_bytes }
-    ensures gives { MatchResult result (λ entries. read_lines 0 [] (file_lines bytes.now) ≡ Ok entries.cores) (λ fault. read_lines 0 [] (file_lines bytes.now) ≡ Err fault) }
+    ensures gives { MatchResult result (λ entries. read_host_lines 0 [] (file_lines bytes.now)
+        ≡ Ok entries.cores) (λ fault. read_host_lines 0 [] (file_lines bytes.now) ≡ Err fault) }
     ensures lines { IfOk result (λ entries. entries.lines ≡ length (file_lines bytes.now)) }
     ensures few { IfOk result (λ entries. entries.lines ≤ most_host_bytes) }
 {

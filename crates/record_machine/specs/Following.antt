@@ -60,7 +60,8 @@ pub record Takes (old : Machine) (e : Event) (new : Machine) (answer : Result (O
   pub rank : new.rank ≡ old.rank
   pub permitted : (rec : Record) → FollowsRecord old rec → IsOk answer ↔ IsPermitted old.setup old.rank rec e
   pub follows : (rec : Record) → FollowsRecord old rec → FollowsRecord new (record_after old.setup old.rank rec e)
-  pub finishes : (rec : Record) → FollowsRecord old rec → FinishesCall answer new.work.bytes.items rec.calls (record_after old.setup old.rank rec e).calls
+  pub finishes : (rec : Record) → FollowsRecord old rec
+      → FinishesCall answer new.work.bytes.items rec.calls (record_after old.setup old.rank rec e).calls
 
 -- a draft stands open where nothing was open
 abbrev pub opened : Stage → Stage

@@ -23,7 +23,8 @@ use Rattle.record_machine.specs.declared.next.NextStore.TheVariants as may
 abbrev pub store_allowed : ℕ → Stage → Option OnItsWay → (ℕ → Option Notes) → NextStore
 store_allowed size Idle None notes = may.Begin
 store_allowed size Idle (Some post) notes = may.BesidePost post.to
-store_allowed size (Drafting header chunk) post notes = if is_whole_header header && is_drafted size (begun (head_of header)) chunk then may.Raise else may.Draft
+store_allowed size (Drafting header chunk) post notes =
+    if is_whole_header header && is_drafted size (begun (head_of header)) chunk then may.Raise else may.Draft
 store_allowed size (Sending to Filling message chunk) post notes =
     if is_empty chunk then may.FillFirst to else (if is_drafted size message chunk then may.RaiseMore to else may.Fill to)
 store_allowed size (Sending to Raised message chunk) post notes = may.SeeReady to
@@ -61,7 +62,8 @@ lacks_flags rec core (ReleaseFlag comm owner) = false
 lacks_flags rec core HeapWord = false
 lacks_flags rec core IdleWord = false
 
--- what a record allows in place of an access that it does not permit (each load is permitted, so of a load this tells only what may be stored)
+-- what a record allows in place of an access that it does not permit (each load is permitted, so of a load this tells only
+-- what may be stored)
 abbrev pub allowed_by : SetupView → Record → Access → WordAt → NextEvent
 allowed_by s rec Load place = stores_allowed s rec
 allowed_by s rec Store place = if lacks_flags rec place.core (role_of s place) then next.LoadFlags else stores_allowed s rec

@@ -54,16 +54,22 @@ pub record IsInHand (size : ℕ) (head : MessageHead) (bytes : List ℕ) (messag
 -- open message that are through
 pub data KeepsStage (size : ℕ) (header : NotedLine) (chunk : NotedChunk) (bytes : List ℕ) : Standing → Stage → Type 0 where
   AtIdle : KeepsStage size header chunk bytes standing.Idle Idle
-  AtDraft : (line words : Notes) → IsLineOf header line → IsChunkOf chunk words → KeepsStage size header chunk bytes standing.Drafting (Drafting line words)
-  AtFill : (to : ℕ) → (head : MessageHead) → (message : Progress) → (words : Notes) → IsInHand size head bytes message → IsChunkOf chunk words
+  AtDraft : (line words : Notes) → IsLineOf header line → IsChunkOf chunk words
+      → KeepsStage size header chunk bytes standing.Drafting (Drafting line words)
+  AtFill : (to : ℕ) → (head : MessageHead) → (message : Progress) → (words : Notes) → IsInHand size head bytes message
+      → IsChunkOf chunk words
       → KeepsStage size header chunk bytes (standing.Filling to head) (Sending to Filling message words)
-  AtRaised : (to : ℕ) → (head : MessageHead) → (message : Progress) → (words : Notes) → IsInHand size head bytes message → IsChunkOf chunk words
+  AtRaised : (to : ℕ) → (head : MessageHead) → (message : Progress) → (words : Notes) → IsInHand size head bytes message
+      → IsChunkOf chunk words
       → is_whole size message words ≡ true → KeepsStage size header chunk bytes (standing.Raised to head) (Sending to Raised message words)
-  AtAnswered : (to : ℕ) → (head : MessageHead) → (message : Progress) → (words : Notes) → IsInHand size head bytes message → IsChunkOf chunk words
-      → is_whole size message words ≡ true → KeepsStage size header chunk bytes (standing.Answered to head) (Sending to Answered message words)
+  AtAnswered : (to : ℕ) → (head : MessageHead) → (message : Progress) → (words : Notes) → IsInHand size head bytes message
+      → IsChunkOf chunk words
+      → is_whole size message words ≡ true
+      → KeepsStage size header chunk bytes (standing.Answered to head) (Sending to Answered message words)
   AtPause : (from : ℕ) → (head : MessageHead) → (message : Progress) → IsInHand size head bytes message
       → KeepsStage size header chunk bytes (standing.Between from head) (Between from message)
-  AtTake : (from : ℕ) → (head : MessageHead) → (message : Progress) → (words : Notes) → IsInHand size head bytes message → IsChunkOf chunk words
+  AtTake : (from : ℕ) → (head : MessageHead) → (message : Progress) → (words : Notes) → IsInHand size head bytes message
+      → IsChunkOf chunk words
       → KeepsStage size header chunk bytes (standing.Taking from head) (Taking from message words)
   AtMeet : (comm seen released : ℕ) → KeepsStage size header chunk bytes (standing.Meeting comm seen released) (Barrier comm seen released)
 

@@ -20,7 +20,8 @@ pub fn next_store_law()
         → names_move (store_allowed size rec.stage rec.post rec.notes) (ready_allowed rec.stage rec.post) move ≡ true }
     ensures offered { (size : ℕ) (rec : Record) (move : Move) → (rec.post ≡ None) ⊎ (is_free rec.stage ≡ true)
         → offers (store_allowed size rec.stage rec.post rec.notes) move ≡ true → permits size move rec ≡ true }
-    ensures beside { (size by : ℕ) (rec : Record) → ready_allowed rec.stage rec.post ≡ Some by → permits size (LowerSignal Ready by) rec ≡ true }
+    ensures beside { (size by : ℕ) (rec : Record) → ready_allowed rec.stage rec.post ≡ Some by
+        → permits size (LowerSignal Ready by) rec ≡ true }
 {}
 
 /// A register that may not be taken may be freed, and the other way round; and where a word of bit flags is to be loaded first,
@@ -30,6 +31,7 @@ pub fn next_event_law()
         → IsPermitted s me rec (free_of core) }
     ensures take { (s : SetupView) (me core : ℕ) (rec : Record) (taken : Bool) → (IsPermitted s me rec (free_of core) → ⊥)
         → IsPermitted s me rec (take_of core taken) }
-    ensures flags { (s : SetupView) (me value other : ℕ) (rec : Record) (place : WordAt) → allowed_for s rec (store_of place value) ≡ LoadFlags
+    ensures flags { (s : SetupView) (me value other : ℕ) (rec : Record) (place : WordAt)
+        → allowed_for s rec (store_of place value) ≡ LoadFlags
         → IsPermitted s me rec (store_of place other) → ⊥ }
 {}

@@ -30,7 +30,7 @@ shows_run asked chip has =
 
 -- a run that took place, or for which there was no memory, was written
 pub ran_by : (asked : Asked) (chip : ChipView) (before after : Sinks) (s : Status) (answer : Result Shown Complaint) → Launches asked chip answer
-    → Delivers (outcome_of (codes "rccerun") shown_ran answer) before after s → loading.Ran asked chip before after s
+    → Delivers (outcome_of (codes "rccerun") shown_ran answer) before after s → loading.IsCarriedOut asked chip before after s
 ran_by asked chip before after s (Ok shown) launched delivers = (
   run_outcome (asked_ran asked),
   inl refl,
@@ -55,7 +55,7 @@ meant_by (Err text) asks before after loaded o leads came = absurd leads
 
 -- a call that carried out what it loaded
 pub ends_loaded : (words : List (List ℕ)) (files files_after : FilesView) (before after : Sinks) (s : Status) (chip : ChipView) (loaded : Loaded)
-    → LoadsWords words (parse_command words) files files_after (Ok loaded) → loading.Ran (asked_by loaded) chip before after s
+    → LoadsWords words (parse_command words) files files_after (Ok loaded) → loading.IsCarriedOut (asked_by loaded) chip before after s
     → EndsWith (ChipTells words (parse_command words) files.told chip) rccerun words files files_after before after s
 ends_loaded words files files_after before after s chip loaded leads ran =
     let command = parse_command words in

@@ -12,7 +12,7 @@ use Rattle.script_reader.specs.declared.fault.ReadFault.{ReadFault}
 use Rattle.script_reader.specs.Script.{Script}
 use Rattle.script_gen.specs.Scripts.{gen_script_of}
 use Rattle.script_gen.specs.Texts.{gen_text}
-use Rattle.rcce_words.specs.FaultTexts.{fault_text, word_at}
+use Rattle.rcce_words.specs.FaultTexts.{fault_text, word_numbered}
 use Rattle.rcce_words.specs.HostFile.{default_hosts, host_kind_name, parse_hosts}
 use Rattle.rcce_words.specs.ScriptFiles.{LeadsTo, ScriptIn}
 use Rattle.rcce_words.specs.declared.command.Job.{Job}
@@ -98,11 +98,11 @@ comes_unlisted list next bytes nue fault files o gives is =
 
 -- the host file that the words name, or none
 pub loads_named : (words : List (List ℕ)) (told : Option (List NamedFile)) (job : Job) (hosts : Option ℕ) (at : ℕ) (file : List ℕ) (before after : FilesView) (answer : Result Loaded Complaint)
-    → hosts ≡ Some at → LoadsPlan (plan_behind words job.nue (file_plan file job.nue) (Some at)) (AsksListed (word_at words at) file told job) before after answer
+    → hosts ≡ Some at → LoadsPlan (plan_behind words job.nue (file_plan file job.nue) (Some at)) (AsksListed (word_numbered words at) file told job) before after answer
     → LoadsPlan (plan_behind words job.nue (file_plan file job.nue) hosts) (AsksBehind words told job hosts file) before after answer
 loads_named words told job hosts at file before after answer is leads =
     subst (λ (h : Option ℕ). LoadsPlan (plan_behind words job.nue (file_plan file job.nue) h) (AsksBehind words told job h file) before after answer) (sym is)
-    (loads_less _ (AsksListed (word_at words at) file told job) (AsksBehind words told job (Some at) file) before after answer
+    (loads_less _ (AsksListed (word_numbered words at) file told job) (AsksBehind words told job (Some at) file) before after answer
     (λ asked all. record { hosts = all.hosts; are_hosts = all.listed; on = all.on }) leads)
 
 pub loads_unnamed : (words : List (List ℕ)) (told : Option (List NamedFile)) (job : Job) (hosts : Option ℕ) (cores file : List ℕ) (before after : FilesView) (answer : Result Loaded Complaint)
@@ -115,12 +115,12 @@ loads_unnamed words told job hosts cores file before after answer is own leads =
 
 -- what a job asks for
 pub loads_work : (words : List (List ℕ)) (told : Option (List NamedFile)) (job : Job) (work : Work) (at : ℕ) (before after : FilesView) (answer : Result Loaded Complaint)
-    → job.work ≡ work → work ≡ works.Script at → LoadsPlan (plan_behind words job.nue (file_plan (word_at words at) job.nue) job.hosts) (AsksBehind words told job job.hosts (word_at words at)) before after answer
+    → job.work ≡ work → work ≡ works.Script at → LoadsPlan (plan_behind words job.nue (file_plan (word_numbered words at) job.nue) job.hosts) (AsksBehind words told job job.hosts (word_numbered words at)) before after answer
     → LoadsBy (work_plan words job job.work) (AsksFor words told job) before after answer
 loads_work words told job work at before after answer same is leads =
     let here : job.work ≡ works.Script at = same ∙ is in
     subst (λ (x : Work). LoadsBy (work_plan words job x) (AsksFor words told job) before after answer) (sym here)
-    (loads_less _ (AsksBehind words told job job.hosts (word_at words at)) (AsksFor words told job) before after answer
+    (loads_less _ (AsksBehind words told job job.hosts (word_numbered words at)) (AsksFor words told job) before after answer
     (λ asked all. record {
       job_is = all.on.job_is;
       hosts = all.hosts;

@@ -5,7 +5,7 @@ use Rattle.script_plain.specs.Ends.{all_finished, ended_at}
 use Rattle.script_plain.specs.Meaning.{plain_ends}
 use Rattle.rcce_run.specs.Crews.{EndsAs}
 use Rattle.rcce_ue.specs.Ues.{UeView}
-use Rattle.run_program.specs.Reports.{by_rank, ran_by, unfinished_text}
+use Rattle.run_program.specs.Reports.{lines_by_rank, ran_by, unfinished_text}
 use Rattle.rcce_run.proofs.FinishedLaws.{plain_count}
 use Rattle.chip_run.specs.Waiting.{NoneDrafts}
 use Rattle.rcce_run.specs.Sent.{CountsSends}
@@ -38,7 +38,7 @@ pub ran_finished : (script : Script) (seed : Option ℕ) → (ran_by script seed
 ran_finished script None = refl
 ran_finished script (Some seed) = refl
 
-pub ran_err : (script : Script) (seed : Option ℕ) → (ran_by script seed).err ≡ by_rank unfinished_text 0 (plain_ends script)
+pub ran_err : (script : Script) (seed : Option ℕ) → (ran_by script seed).err ≡ lines_by_rank unfinished_text 0 (plain_ends script)
 ran_err script None = refl
 ran_err script (Some seed) = refl
 

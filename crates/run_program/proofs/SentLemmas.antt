@@ -15,7 +15,7 @@ use Rattle.script_plain.specs.Matches.{plain_matches}
 use Rattle.script_plain.specs.Meaning.{State, plain_end, plain_ends}
 use Rattle.script_plain.specs.Printed.{Printed}
 use Rattle.script_plain.proofs.Runs.PlainLaws.{length-plain_end}
-use Rattle.script_gen.specs.Outcome.{all_sends, all_sent_bytes, counts_line, message_bytes, printed_sum, script_line, sends_of, sent_bytes_of}
+use Rattle.script_gen.specs.Outcome.{all_sends, all_sent_bytes, counts_line, message_bytes, printed_sum, script_line, sends_of_call, sent_bytes_of}
 use Rattle.script_gen.specs.Scripts.{gen_script_of}
 use Rattle.script_gen.proofs.Sums.{bytes_came, sends_came}
 use Rattle.script_gen.proofs.Usual.{AreUsual, gen_short, gen_usual}
@@ -28,7 +28,7 @@ use Rattle.run_program.specs.Runs.{CountsPlain, HaveSent}
 
 -- ---- what a unit of execution has counted is what its rank sent in the plain meaning
 
-one_send : (call : DataCall) → cond (is_sending call) 1 0 ≡ sends_of call
+one_send : (call : DataCall) → cond (is_sending call) 1 0 ≡ sends_of_call call
 one_send (Send to head bytes) = refl
 one_send (Recv from head bytes) = refl
 one_send (Post to head bytes) = refl
@@ -47,8 +47,8 @@ same_sums f g same (call ∷ calls) =
     let first = same call in
     omega (arith, rest, first, sum_by-cons f call calls, sum_by-cons g call calls)
 
-count_same : (calls : List DataCall) → count_by is_sending calls ≡ sum_by sends_of calls
-count_same calls = same_sums (λ (call : DataCall). cond (is_sending call) 1 0) sends_of one_send calls
+count_same : (calls : List DataCall) → count_by is_sending calls ≡ sum_by sends_of_call calls
+count_same calls = same_sums (λ (call : DataCall). cond (is_sending call) 1 0) sends_of_call one_send calls
 
 bytes_same : (calls : List DataCall) → sum_by bytes_sent calls ≡ sum_by sent_bytes_of calls
 bytes_same calls = same_sums bytes_sent sent_bytes_of one_length calls
@@ -61,7 +61,7 @@ counts_plain script rank rec ue calls counts = by (slice_get (plain_end script).
     by None there is = absurd (cc)
     by (Some state) there is =
         let same : rec.calls ≡ state.matched = sym (same_Some state.matched rec.calls is) in
-        let sends : count_by is_sending rec.calls ≡ sum_by sends_of state.matched = count_same rec.calls ∙ ap (sum_by sends_of) same in
+        let sends : count_by is_sending rec.calls ≡ sum_by sends_of_call state.matched = count_same rec.calls ∙ ap (sum_by sends_of_call) same in
         let bytes : sum_by bytes_sent rec.calls ≡ sum_by sent_bytes_of state.matched = bytes_same rec.calls ∙ ap (sum_by sent_bytes_of) same in
         let few = counts.few in
         let short = counts.short in
@@ -91,13 +91,13 @@ module _ (script : Script) (crew : List (Member UeView)) (sent : HaveSent script
   within = subst (λ (k : ℕ). n < k) (sym (cells_count script)) low
 
   -- one rank more
-  pub sends_more : (so_far now : ℕ) → so_far ≡ counted (sum_by (λ (u : State). sum_by sends_of u.matched) (take n (plain_end script).cells)) → now ≡ min (so_far + member.worker.sent) (2 ^ 64 - 1)
-      → now ≡ counted (sum_by (λ (u : State). sum_by sends_of u.matched) (take (n + 1) (plain_end script).cells))
+  pub sends_more : (so_far now : ℕ) → so_far ≡ counted (sum_by (λ (u : State). sum_by sends_of_call u.matched) (take n (plain_end script).cells)) → now ≡ min (so_far + member.worker.sent) (2 ^ 64 - 1)
+      → now ≡ counted (sum_by (λ (u : State). sum_by sends_of_call u.matched) (take (n + 1) (plain_end script).cells))
   sends_more so_far now first is_now =
       let cells = (plain_end script).cells in
       let there : get_or cells n here.state ≡ here.state = get_or_from_slice_get cells n here.state here.state here.there in
-      let more : sum_by (λ (u : State). sum_by sends_of u.matched) (take (n + 1) cells) ≡ sum_by (λ (u : State). sum_by sends_of u.matched) (take n cells) + sum_by sends_of here.state.matched =
-      sum_by_more (λ (u : State). sum_by sends_of u.matched) cells n here.state within ∙ ap (λ (u : State). sum_by (λ (v : State). sum_by sends_of v.matched) (take n cells) + sum_by sends_of u.matched) there in
+      let more : sum_by (λ (u : State). sum_by sends_of_call u.matched) (take (n + 1) cells) ≡ sum_by (λ (u : State). sum_by sends_of_call u.matched) (take n cells) + sum_by sends_of_call here.state.matched =
+      sum_by_more (λ (u : State). sum_by sends_of_call u.matched) cells n here.state within ∙ ap (λ (u : State). sum_by (λ (v : State). sum_by sends_of_call v.matched) (take n cells) + sum_by sends_of_call u.matched) there in
       counted_more so_far member.worker.sent _ _ now first here.sent is_now ∙ ap counted (sym more)
 
   pub bytes_more : (so_far now : ℕ) → so_far ≡ counted (sum_by (λ (u : State). sum_by sent_bytes_of u.matched) (take n (plain_end script).cells)) → now ≡ min (so_far + member.worker.sent_bytes) (2 ^ 64 - 1)
@@ -124,12 +124,12 @@ sum_within f most (u ∷ us) each =
 
 -- each rank of a crew that has counted has sent little, where ranks take few steps
 module _ (script : Script) (crew : List (Member UeView)) (sent : HaveSent script crew) (d : Member UeView) (most : script.nue ≤ 48) (few : (rank : ℕ) → cost_of (local_start script rank) ≤ 110001) where
-  at_cell : (k : ℕ) (u : State) → slice_get (plain_end script).cells k ≡ Some u → (sum_by sends_of u.matched ≤ 110001) × (sum_by sent_bytes_of u.matched ≤ 65536 * 110001)
+  at_cell : (k : ℕ) (u : State) → slice_get (plain_end script).cells k ≡ Some u → (sum_by sends_of_call u.matched ≤ 110001) × (sum_by sent_bytes_of u.matched ≤ 65536 * 110001)
   at_cell k u there =
       let low : k < script.nue = subst (λ (n : ℕ). k < n) (cells_count script) (slice_get_within (plain_end script).cells k u there) in
       let own = sent.each k d low in
       let same : own.state ≡ u = same_Some own.state u (sym own.there ∙ there) in
-      let sends : sum_by sends_of own.state.matched ≡ sum_by sends_of u.matched = ap (λ (v : State). sum_by sends_of v.matched) same in
+      let sends : sum_by sends_of_call own.state.matched ≡ sum_by sends_of_call u.matched = ap (λ (v : State). sum_by sends_of_call v.matched) same in
       let bytes : sum_by sent_bytes_of own.state.matched ≡ sum_by sent_bytes_of u.matched = ap (λ (v : State). sum_by sent_bytes_of v.matched) same in
       let little = own.few in
       let short = own.short in
@@ -140,7 +140,7 @@ module _ (script : Script) (crew : List (Member UeView)) (sent : HaveSent script
   pub sends_whole : counted (all_sends (plain_end script)) ≡ all_sends (plain_end script)
   sends_whole =
       let cells = (plain_end script).cells in
-      let all = sum_within (λ (u : State). sum_by sends_of u.matched) 110001 cells (λ k u there. (at_cell k u there).0) in
+      let all = sum_within (λ (u : State). sum_by sends_of_call u.matched) 110001 cells (λ k u there. (at_cell k u there).0) in
       let many = cells_count script in
       omega (arith, all, many, most)
 

@@ -5,13 +5,13 @@ use Rattle.std.specs.List.{range_with_len}
 use Rattle.std.proofs.lemmas.List.{take_all}
 use Rattle.std.proofs.lemmas.List.FromFn.{get_or-range_with_len, length-range_with_len}
 use Rattle.groups.specs.declared.operations.Ty.{Ty}
-use Rattle.groups.specs.Folds.{bytes_in, value_at, value_of}
+use Rattle.groups.specs.Folds.{bytes_in, typed_value_at, value_of}
 use Rattle.rcce_io.specs.Sending.{joined}
 use Rattle.rcce_io.proofs.SendingLemmas.{joined-more, joined-parts}
 use Rattle.run_program.specs.Texts.{value_text, values_text}
 
 -- the text of a value, by its bytes
-pub value_here : (ty : Ty) (bytes : List ℕ) (i at k : ℕ) → at ≡ i * bytes_in ty → k ≡ bytes_in ty → signed_decimal (value_of ty (take k (drop at bytes))) ≡ signed_decimal (value_at ty bytes i)
+pub value_here : (ty : Ty) (bytes : List ℕ) (i at k : ℕ) → at ≡ i * bytes_in ty → k ≡ bytes_in ty → signed_decimal (value_of ty (take k (drop at bytes))) ≡ signed_decimal (typed_value_at ty bytes i)
 value_here ty bytes i at k start wide =
     ap (λ (n : ℕ). signed_decimal (value_of ty (take n (drop at bytes)))) wide ∙ ap (λ (n : ℕ). signed_decimal (value_of ty (take (bytes_in ty) (drop n bytes)))) start
 

@@ -10,7 +10,7 @@ use Rattle.script_gen.specs.Scripts.{gen_script_of}
 use Rattle.outcomes.specs.Coming.{ByTest, Holds}
 use Rattle.outcomes.specs.Outcomes.{Outcome, Ran, run_outcome}
 use Rattle.outcomes.specs.Statuses.{is_quiet}
-use Rattle.rcce_words.specs.FaultTexts.{word_at}
+use Rattle.rcce_words.specs.FaultTexts.{word_numbered}
 use Rattle.rcce_words.specs.HostFile.{default_hosts, parse_hosts, most_host_bytes}
 use Rattle.rcce_words.specs.ScriptFiles.{ScriptIn}
 use Rattle.rcce_words.specs.declared.command.Job.{Job}
@@ -30,12 +30,13 @@ setup_by job hosts script = record { nue = job.nue; layout = layout_by job.bits;
 
 -- a host file of at most 65,536 bytes has these hosts, where files are told
 abbrev pub HostsIn : List ℕ → Option (List NamedFile) → ℕ → List ℕ → Type 0
-HostsIn file told nue hosts = (bytes : List ℕ) × (length bytes ≤ most_host_bytes) × Holds told file bytes × (parse_hosts bytes nue ≡ Ok hosts)
+HostsIn file told nue hosts =
+    (bytes : List ℕ) × (length bytes ≤ most_host_bytes) × Holds told file bytes × (parse_hosts bytes nue ≡ Ok hosts)
 
 -- the hosts that words ask for: rank r on core r, or those of the host file
 abbrev pub AreHosts : List (List ℕ) → Option (List NamedFile) → ℕ → Option ℕ → List ℕ → Type 0
 AreHosts words told nue None hosts = hosts ≡ default_hosts
-AreHosts words told nue (Some at) hosts = HostsIn (word_at words at) told nue hosts
+AreHosts words told nue (Some at) hosts = HostsIn (word_numbered words at) told nue hosts
 
 -- the host file that a job asks for. A script that is made runs without one.
 abbrev pub hosts_asked : Work → Option ℕ → Option ℕ
@@ -49,7 +50,7 @@ seed_of (work.Gen seed) = Some seed
 
 -- the script that words ask for: that of a file, or the one that is made of a number
 abbrev pub IsScript : List (List ℕ) → Option (List NamedFile) → ℕ → Work → Script → Type 0
-IsScript words told nue (work.Script at) script = ScriptIn (word_at words at) told nue script
+IsScript words told nue (work.Script at) script = ScriptIn (word_numbered words at) told nue script
 IsScript words told nue (work.Gen seed) script = script ≡ gen_script_of nue seed
 
 -- what a run comes to

@@ -27,13 +27,14 @@ abbrev pub asked_by : Loaded → Asked
 asked_by loaded = record { job = loaded.job; setup = loaded.setup; script = loaded.script; seed = loaded.seed }
 
 -- a run was loaded as the plan says, and the plan comes to what it comes to
-pub record Leads (plan : Plan) (asks : Asked → Type 0) (before after : FilesView) (loaded : Loaded) : Type 0 where
-  pub goes : (o : Outcome) → Comes (codes "rccerun") (Runs (asked_ran (asked_by loaded))) after after o → Comes (codes "rccerun") plan before after o
+pub record LoadLeads (plan : Plan) (asks : Asked → Type 0) (before after : FilesView) (loaded : Loaded) : Type 0 where
+  pub goes : (o : Outcome) → Comes (codes "rccerun") (Runs (asked_ran (asked_by loaded))) after after o
+      → Comes (codes "rccerun") plan before after o
   pub asked : asks (asked_by loaded)
 
 -- what `load` ensures for this plan: Ok has a run that the plan asks for, Err is an outcome of the plan
 abbrev pub LoadsPlan : Plan → (Asked → Type 0) → FilesView → FilesView → Result Loaded Complaint → Type 0
-LoadsPlan plan asks before after (Ok loaded) = Leads plan asks before after loaded
+LoadsPlan plan asks before after (Ok loaded) = LoadLeads plan asks before after loaded
 LoadsPlan plan asks before after (Err why) = Comes (codes "rccerun") plan before after (complaint_outcome (codes "rccerun") why)
 
 -- what `load` ensures for words: with a plan what the plan ensures, and without one only the text that refuses them
@@ -44,7 +45,8 @@ LoadsBy (Err text) asks before after (Err why) = IsMeant (codes "rccerun") (Err 
 
 -- what `load` ensures for the launcher's words: a run that they ask for, or why there is none
 abbrev pub LoadsWords : List (List ℕ) → Result Job WordFault → FilesView → FilesView → Result Loaded Complaint → Type 0
-LoadsWords words command before after answer = LoadsBy (words_plan words command) (WordsAskFor words command before.told) before after answer
+LoadsWords words command before after answer =
+    LoadsBy (words_plan words command) (WordsAskFor words command before.told) before after answer
 
 -- a run of the script in a file on these hosts
 pub record AsksOn (file : List ℕ) (told : Option (List NamedFile)) (job : Job) (hosts : List ℕ) (asked : Asked) : Type 0 where
@@ -60,7 +62,8 @@ pub record AsksListed (list file : List ℕ) (told : Option (List NamedFile)) (j
   pub on : AsksOn file told job hosts asked
 
 -- a run of the script in a file on the hosts that words ask for
-pub record AsksBehind (words : List (List ℕ)) (told : Option (List NamedFile)) (job : Job) (at : Option ℕ) (file : List ℕ) (asked : Asked) : Type 0 where
+pub record AsksBehind (words : List (List ℕ)) (told : Option (List NamedFile)) (job : Job) (at : Option ℕ) (file : List ℕ)
+    (asked : Asked) : Type 0 where
   pub hosts : List ℕ
   pub are_hosts : AreHosts words told job.nue at hosts
   pub on : AsksOn file told job hosts asked
@@ -77,8 +80,8 @@ abbrev pub ChipShows : Asked → ChipView → Outcome → Type 0
 ChipShows asked chip o = ByTest (is_quiet o.status) (chip ≡ None) ((o ≡ run_outcome (asked_ran asked)) × HasRun asked chip)
 
 -- the loaded run was carried out and written, or there was no memory for it
-abbrev pub Ran : Asked → ChipView → Sinks → Sinks → Status → Type 0
-Ran asked chip before after s = (o : Outcome) × ((o ≡ run_outcome (asked_ran asked)) ⊎ (o ≡ no_memory (codes "rccerun")))
+abbrev pub IsCarriedOut : Asked → ChipView → Sinks → Sinks → Status → Type 0
+IsCarriedOut asked chip before after s = (o : Outcome) × ((o ≡ run_outcome (asked_ran asked)) ⊎ (o ≡ no_memory (codes "rccerun")))
     × Delivers o before after s × ChipShows asked chip o
 
 -- the script that was run, and what it was made of

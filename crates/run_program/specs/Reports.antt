@@ -12,9 +12,9 @@ use Rattle.script_gen.specs.Outcome.{script_line}
 use Rattle.run_program.specs.Texts.{item_line, call_pieces, waiting_line, mismatch_line}
 
 -- the lines of each unit of execution, by rank from `rank` on
-abbrev pub by_rank : (ℕ → Ended → List ℕ) → ℕ → List Ended → List ℕ
-by_rank text rank [] = []
-by_rank text rank (ue ∷ ues) = text rank ue ++ by_rank text (rank + 1) ues
+abbrev pub lines_by_rank : (ℕ → Ended → List ℕ) → ℕ → List Ended → List ℕ
+lines_by_rank text rank [] = []
+lines_by_rank text rank (ue ∷ ues) = text rank ue ++ lines_by_rank text (rank + 1) ues
 
 -- a register that a unit of execution printed
 abbrev pub printed_line : List (List ℕ) → ℕ → Printed → List ℕ
@@ -39,8 +39,8 @@ unfinished_text rank ue = end_text rank ue.end
 abbrev pub ran_of : List (List ℕ) → List Ended → Ran
 ran_of names ues = record {
   finished = all_finished ues;
-  out = by_rank (printed_text names) 0 ues;
-  err = by_rank unfinished_text 0 ues;
+  out = lines_by_rank (printed_text names) 0 ues;
+  err = lines_by_rank unfinished_text 0 ues;
 }
 
 -- what the run of a script comes to, by its plain meaning
@@ -52,7 +52,7 @@ abbrev pub made_ran : ℕ → Script → Ran
 made_ran seed script = record {
   finished = all_finished (plain_ends script);
   out = script_line seed script;
-  err = by_rank unfinished_text 0 (plain_ends script);
+  err = lines_by_rank unfinished_text 0 (plain_ends script);
 }
 
 -- a script that was run, and the number that it was made of, if it was

@@ -4,7 +4,7 @@ use Rattle.script_reader.specs.Script.{Script}
 use Rattle.script_plain.specs.Ends.{ended_at}
 use Rattle.script_plain.specs.Local.{cost_of, local_start}
 use Rattle.script_plain.specs.Meaning.{State, plain_end, plain_ends}
-use Rattle.script_gen.specs.Outcome.{sends_of, sent_bytes_of}
+use Rattle.script_gen.specs.Outcome.{sends_of_call, sent_bytes_of}
 use Rattle.script_gen.specs.Scripts.{gen_script_of}
 use Rattle.rcce_ue.specs.Ues.{UeView, counted}
 use Rattle.chip_run.specs.declared.members.Member.{Member}
@@ -18,17 +18,18 @@ use Rattle.scc_base.specs.Heads.{most_message}
 -- each rank has come to what the plain meaning of the script leaves of it
 pub record HaveEnded (script : Script) (crew : List (Member UeView)) : Type 0 where
   pub count : length crew ≡ script.nue
-  pub each : (rank : ℕ) (d : Member UeView) → rank < script.nue → ShowsEnd (ended_at (plain_ends script) rank) (slice_index_or crew rank d).worker
+  pub each : (rank : ℕ) (d : Member UeView) → rank < script.nue
+      → ShowsEnd (ended_at (plain_ends script) rank) (slice_index_or crew rank d).worker
 
 -- A unit of execution has counted what its rank sent in the plain meaning of the script: no more messages than the rank takes
 -- steps, each of at most 65,536 bytes.
 pub record CountsPlain (script : Script) (rank : ℕ) (ue : UeView) : Type 0 where
   pub state : State
   pub there : slice_get (plain_end script).cells rank ≡ Some state
-  pub sent : ue.sent ≡ counted (sum_by sends_of state.matched)
+  pub sent : ue.sent ≡ counted (sum_by sends_of_call state.matched)
   pub bytes : ue.sent_bytes ≡ counted (sum_by sent_bytes_of state.matched)
-  pub few : sum_by sends_of state.matched ≤ cost_of (local_start script rank)
-  pub short : sum_by sent_bytes_of state.matched ≤ most_message * sum_by sends_of state.matched
+  pub few : sum_by sends_of_call state.matched ≤ cost_of (local_start script rank)
+  pub short : sum_by sent_bytes_of state.matched ≤ most_message * sum_by sends_of_call state.matched
 
 -- each unit of execution has counted what its rank sent
 pub record HaveSent (script : Script) (crew : List (Member UeView)) : Type 0 where

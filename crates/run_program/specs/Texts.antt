@@ -4,7 +4,7 @@ use Rattle.std.specs.Fmt.{signed_decimal}
 use Rattle.std.specs.List.{range_with_len}
 use Rattle.groups.specs.declared.operations.Ty.{Ty}
 use Rattle.groups.specs.declared.operations.Ty.TheVariants.{Int, Long}
-use Rattle.groups.specs.Folds.{bytes_in, value_at}
+use Rattle.groups.specs.Folds.{bytes_in, typed_value_at}
 use Rattle.rcce_io.specs.Digits.{hex_text}
 use Rattle.rcce_io.specs.Sending.{joined}
 use Rattle.scc_base.specs.Heads.{MessageHead, kind_at, kind_text}
@@ -35,7 +35,7 @@ type_text Long = codes "long"
 
 -- the i-th value of a list of bytes, behind a blank
 abbrev pub value_text : Ty → List ℕ → ℕ → List ℕ
-value_text ty bytes i = codes " " ++ signed_decimal (value_at ty bytes i)
+value_text ty bytes i = codes " " ++ signed_decimal (typed_value_at ty bytes i)
 
 -- the values of a list of bytes, each behind a blank
 abbrev pub values_text : Ty → List ℕ → List ℕ
@@ -49,7 +49,8 @@ item_line rank name (form.Decimal ty) bytes =
 
 -- a unit of execution that waits at a line of the script
 abbrev pub waiting_line : ℕ → ℕ → List (List ℕ) → List ℕ
-waiting_line rank line pieces = joined ((codes "ue " ∷ decimal rank ∷ codes " waits at line " ∷ decimal line ∷ codes ": " ∷ []) ++ pieces ++ (codes "\n" ∷ []))
+waiting_line rank line pieces =
+    joined ((codes "ue " ∷ decimal rank ∷ codes " waits at line " ∷ decimal line ∷ codes ": " ∷ []) ++ pieces ++ (codes "\n" ∷ []))
 
 -- a unit of execution whose receive met another head than it asked for
 abbrev pub mismatch_line : ℕ → ℕ → ℕ → MessageHead → MessageHead → List ℕ

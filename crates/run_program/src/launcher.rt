@@ -9,7 +9,7 @@ ghost use Rattle.rcce_words.specs.CommandLine.{parse_command};
 ghost use Rattle.run_program.specs.Asking.{ChipTells};
 ghost use Rattle.run_program.specs.Evictors.{HaveEvictors};
 ghost use Rattle.run_program.specs.History.{mode_by};
-ghost use Rattle.run_program.specs.Loading.{Launches, Ran, asked_by};
+ghost use Rattle.run_program.specs.Loading.{Launches, IsCarriedOut, asked_by};
 ghost use Rattle.run_program.specs.Program.{rccerun};
 ghost use Rattle.run_program.specs.Runs.{IsMadeOf, IsOver};
 
@@ -50,7 +50,8 @@ pub fn rccerun<R: Threads + Sync, F: Files, O: Sink, E: Sink, G: Gate + Sync>(
         (sinks (O.seen out.old) (E.seen err.old)) (sinks (O.seen out.new) (E.seen err.new)) result }
     // The chip history theorem: with the statuses 0 and 3 the chip has the history of the run that the words ask for, and with
     // 1, 2, 4 and 5 it is blank. Where a write failed, it is as the outcome says that was to be written.
-    ensures history { EndsWith (ChipTells (map string_bytes words.now) (parse_command (map string_bytes words.now)) (F.seen files.old).told chip.new)
+    ensures history { EndsWith
+        (ChipTells (map string_bytes words.now) (parse_command (map string_bytes words.now)) (F.seen files.old).told chip.new)
         rccerun (map string_bytes words.now) (F.seen files.old) (F.seen files.new)
         (sinks (O.seen out.old) (E.seen err.old)) (sinks (O.seen out.new) (E.seen err.new)) result }
     // The legality theorem, whatever the status. (A blank chip has no calls.)
@@ -74,7 +75,7 @@ fn run_loaded<R: Threads + Sync, O: Sink, E: Sink, G: Gate + Sync>(
 ) -> Status
     requires blank { chip.old ≡ None }
     requires made { IsMadeOf loaded.now.script loaded.now.seed }
-    ensures ran { Ran (asked_by loaded.now) chip.new (sinks (O.seen out.old) (E.seen err.old))
+    ensures ran { IsCarriedOut (asked_by loaded.now) chip.new (sinks (O.seen out.old) (E.seen err.old))
         (sinks (O.seen out.new) (E.seen err.new)) result }
     ensures legal { IsOpen chip.new → AreLegal chip.new }
 {

@@ -33,7 +33,8 @@ pub fn load<'a, F: Files>(
     words: &'a [String],
     files: &mut F,
 ) -> Result<Loaded, Complaint<'a>>
-    ensures { LoadsWords (map string_bytes words.now) (parse_command (map string_bytes words.now)) (F.seen files.old) (F.seen files.new) result }
+    ensures { LoadsWords (map string_bytes words.now) (parse_command (map string_bytes words.now)) (F.seen files.old)
+        (F.seen files.new) result }
 {
     match parse_words(words) {
         Ok(job) => load_job(alloc, words, files, job),
@@ -51,7 +52,8 @@ fn load_job<'a, F: Files>(
     requires some { 1 ≤ job.nue }
     requires most { job.nue ≤ 48 }
     requires seed { IsSeedInRange job.work }
-    ensures { LoadsBy (work_plan (map string_bytes words.now) job job.work) (AsksFor (map string_bytes words.now) (F.seen files.old).told job)
+    ensures { LoadsBy (work_plan (map string_bytes words.now) job job.work)
+        (AsksFor (map string_bytes words.now) (F.seen files.old).told job)
         (F.seen files.old) (F.seen files.new) result }
 {
     match job.work {
@@ -99,7 +101,8 @@ fn load_behind<'a, F: Files>(
     requires some { 1 ≤ job.nue }
     requires most { job.nue ≤ 48 }
     ensures { LoadsPlan (plan_behind (map string_bytes words.now) job.nue (file_plan script.now job.nue) job.hosts)
-        (AsksBehind (map string_bytes words.now) (F.seen files.old).told job job.hosts script.now) (F.seen files.old) (F.seen files.new) result }
+        (AsksBehind (map string_bytes words.now) (F.seen files.old).told job job.hosts script.now) (F.seen files.old)
+        (F.seen files.new) result }
 {
     match job.hosts {
         Some(at) => load_hosts(alloc, files, job, word_at(words, at), script),
@@ -138,7 +141,8 @@ fn load_listed<'a, F: Files>(
     requires some { 1 ≤ job.nue }
     requires most { job.nue ≤ 48 }
     requires within { length bytes.now ≤ most_host_bytes }
-    ensures { Holds (F.seen files.old).told list.now bytes.now → LoadsPlan (hosts_plan list.now job.nue (file_plan script.now job.nue) bytes.now)
+    ensures { Holds (F.seen files.old).told list.now bytes.now
+        → LoadsPlan (hosts_plan list.now job.nue (file_plan script.now job.nue) bytes.now)
         (AsksListed list.now script.now (F.seen files.old).told job) (F.seen files.old) (F.seen files.new) result }
 {
     match read_hosts(bytes, job.nue) {
@@ -158,7 +162,8 @@ fn load_script<'a, F: Files>(
     requires some { 1 ≤ job.nue }
     requires most { job.nue ≤ 48 }
     requires apart { AreApart job.nue hosts }
-    ensures { LoadsPlan (file_plan script.now job.nue) (AsksOn script.now (F.seen files.old).told job hosts) (F.seen files.old) (F.seen files.new) result }
+    ensures { LoadsPlan (file_plan script.now job.nue) (AsksOn script.now (F.seen files.old).told job hosts) (F.seen files.old)
+        (F.seen files.new) result }
 {
     match read_script_file(alloc, files, script, job.nue) {
         Ok(script) => Ok(with_setup(job, script, hosts, None)),

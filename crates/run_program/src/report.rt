@@ -3,7 +3,7 @@
 ghost use Rattle.std.specs.Prelude.{◌≡◌, ◌<◌, length};
 ghost use Rattle.rcce_io.specs.Sending.{Sends};
 ghost use Rattle.script_plain.specs.Ends.{ended_at};
-ghost use Rattle.run_program.specs.Reports.{by_rank, printed_text, unfinished_text};
+ghost use Rattle.run_program.specs.Reports.{lines_by_rank, printed_text, unfinished_text};
 
 use crate::endings::Endings;
 use crate::lines::{ItemLine, write_end};
@@ -18,7 +18,7 @@ pub fn write_printed<T: Endings, S: Sink>(
     run: &T,
 ) -> Result<(), WriteFault>
     requires ranked { length (T.ended run.now) ≡ scripts.now.nue }
-    ensures { Sends (by_rank (printed_text scripts.now.names) 0 (T.ended run.now)) (S.seen sink.old) (S.seen sink.new) result }
+    ensures { Sends (lines_by_rank (printed_text scripts.now.names) 0 (T.ended run.now)) (S.seen sink.old) (S.seen sink.new) result }
 {
     for number in 0..scripts.nue() {
         write_items(sink, scripts, run, Rank::of(number))?;
@@ -56,7 +56,7 @@ pub fn write_unfinished<T: Endings, S: Sink>(
     run: &T,
 ) -> Result<(), WriteFault>
     requires ranked { length (T.ended run.now) ≡ scripts.now.nue }
-    ensures { Sends (by_rank unfinished_text 0 (T.ended run.now)) (S.seen sink.old) (S.seen sink.new) result }
+    ensures { Sends (lines_by_rank unfinished_text 0 (T.ended run.now)) (S.seen sink.old) (S.seen sink.new) result }
 {
     for number in 0..scripts.nue() {
         let rank = Rank::of(number);

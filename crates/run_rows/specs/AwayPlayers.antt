@@ -6,5 +6,5 @@ use Rattle.scc_mesh.specs.AwayRanks.{Ticket}
 use Rattle.scc_mesh.specs.Spaces.{ChipId}
 
 -- a rank of this chip is away, and something stands where its events stand
-abbrev pub IsAway : (SetupView → ℕ → List Event → Type 0) → SetupView → ChipId → Option Ticket → Type 0
-IsAway stands s table token = IsSomeAnd token (λ t. (t.table ≡ table) × stands s t.rank t.events)
+abbrev pub StandsAway : (SetupView → ℕ → List Event → Type 0) → SetupView → ChipId → Option Ticket → Type 0
+StandsAway stands s table token = IsSomeAnd token (λ t. (t.table ≡ table) × stands s t.rank t.events)

@@ -12,7 +12,7 @@ use Rattle.send_recv.specs.Ops.{SlotAt, new_receive, new_send}
 use Rattle.send_recv.specs.Receiving.{RecvStands, recv_left}
 use Rattle.send_recv.specs.Sending.{SendStands, SlotStands, send_left}
 use Rattle.chip_run.specs.Conducts.{Conduct, WorkerView}
-use Rattle.chip_run.specs.Turns.{HoldsNone}
+use Rattle.chip_run.specs.Turns.{RankHoldsNone}
 use Rattle.chip_run.specs.declared.members.Member.{Member}
 use Rattle.chip_run.specs.Wants.{Want}
 use Rattle.chip_teams.specs.Teams.{sight_alone}
@@ -47,7 +47,7 @@ pub record IsPassing (p : Passer) (s : SetupView) (rank : ℕ) (events : List Ev
   pub before : are_peers s rank p.from ≡ true
   pub head : IsHead p.head
   pub long : length p.number ≡ p.head.len
-  pub hands : HoldsNone s rank events
+  pub hands : RankHoldsNone s rank events
 
 -- what it wants, by the message under way
 abbrev pub want_by : Message → Want

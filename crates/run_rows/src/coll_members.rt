@@ -63,7 +63,8 @@ impl<V: Evict + Drop> Member<V> {
     ghost use Rattle.chip_teams.specs.Teams.{sight_alone};
 
     fn new(evict: V, more: More, len: u32, src: Vec<u8>, dst: Vec<u8>, times: u32) -> Member<V>
-        ensures ready { (s : SetupView) (r : ℕ) → IsAtOp (sight_alone s r []) result.core result.slot result.src.items result.dst.items result.op }
+        ensures ready { (s : SetupView) (r : ℕ)
+            → IsAtOp (sight_alone s r []) result.core result.slot result.src.items result.dst.items result.op }
     {
         Member {
             core: Core::new(evict),

@@ -7,7 +7,7 @@ ghost use Rattle.scc_mesh.specs.Scenes.{IsNew, about_in};
 ghost use Rattle.script_reader.specs.Script.{rules_of};
 ghost use Rattle.rcce_ue.specs.Standing.{Tied};
 ghost use Rattle.chip_teams.specs.Teams.{sight_alone};
-ghost use Rattle.run_rows.specs.AwayPlayers.{IsAway};
+ghost use Rattle.run_rows.specs.AwayPlayers.{StandsAway};
 
 use crate::evictors::Fresh;
 use crate::scripts::{End, chip_with, is_at, setup_of};
@@ -55,8 +55,8 @@ fn turns_away<M: Player>(words: Words<'_>, token: Token, player: &mut M, count: 
 
 // `count` turns of a rank that is away, with the token in its place before and after them.
 fn turns_held<M: Player + Drop>(words: Words<'_>, rank: &mut Apart<M>, count: u32)
-    requires away { IsAway (M.stands rank.old.player) words.space.now.about words.space.now.table rank.old.token }
-    ensures away { IsAway (M.stands rank.new.player) words.entry.space.now.about words.entry.space.now.table rank.new.token }
+    requires away { StandsAway (M.stands rank.old.player) words.space.now.about words.space.now.table rank.old.token }
+    ensures away { StandsAway (M.stands rank.new.player) words.entry.space.now.about words.entry.space.now.table rank.new.token }
 {
     let Some(token) = rank.token.take() else {
         unreachable!()
@@ -72,8 +72,11 @@ fn all_turn<M: Player + Drop + Send, R: Threads + Sync>(
     count: u32,
 )
     requires some { 0 < length ranks.old }
-    requires away { (i : ℕ) (d : _) → i < length ranks.old → let m = slice_index_or ranks.old i d in IsAway (M.stands m.player) words.space.now.about words.space.now.table m.token }
-    ensures away { (i : ℕ) (d : _) → i < length ranks.old → let m = slice_index_or ranks.new i d in IsAway (M.stands m.player) words.entry.space.now.about words.entry.space.now.table m.token }
+    requires away { (i : ℕ) (d : _) → i < length ranks.old
+        → let m = slice_index_or ranks.old i d in StandsAway (M.stands m.player) words.space.now.about words.space.now.table m.token }
+    ensures away { (i : ℕ) (d : _) → i < length ranks.old
+        → let m = slice_index_or ranks.new i d in StandsAway (M.stands m.player) words.entry.space.now.about
+        words.entry.space.now.table m.token }
 {
     let threads = ranks.len();
     thread::for_each_mut(
@@ -81,8 +84,8 @@ fn all_turn<M: Player + Drop + Send, R: Threads + Sync>(
         ranks,
         threads,
         &|at: usize, rank: &mut Apart<M>|
-            requires { IsAway (M.stands rank.old.player) words.space.now.about words.space.now.table rank.old.token }
-            ensures { IsAway (M.stands rank.new.player) words.entry.space.now.about words.entry.space.now.table rank.new.token }
+            requires { StandsAway (M.stands rank.old.player) words.space.now.about words.space.now.table rank.old.token }
+            ensures { StandsAway (M.stands rank.new.player) words.entry.space.now.about words.entry.space.now.table rank.new.token }
         {
             let _ = at;
             turns_held(words, rank, count)
@@ -98,7 +101,8 @@ fn rounds<M: Player + Drop + Send, R: Threads + Sync>(
     count: usize,
 )
     requires some { 0 < length ranks.old }
-    requires away { (i : ℕ) (d : _) → i < length ranks.old → let m = slice_index_or ranks.old i d in IsAway (M.stands m.player) words.space.now.about words.space.now.table m.token }
+    requires away { (i : ℕ) (d : _) → i < length ranks.old
+        → let m = slice_index_or ranks.old i d in StandsAway (M.stands m.player) words.space.now.about words.space.now.table m.token }
 {
     for _ in 0..count {
         all_turn(rt, words, ranks, 10);

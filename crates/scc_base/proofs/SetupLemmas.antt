@@ -5,23 +5,23 @@ use Rattle.std.proofs.lemmas.Bool.{cases_lt}
 use Rattle.std.proofs.Math.Logic.{⊎_elim}
 use Rattle.scc_base.specs.Groups.{is_with, size_in, members_in}
 use Rattle.scc_base.specs.Setups.{SetupView, IsSetup, IsMemberAt, setup_key, size_of, members_of, root_of, place_of}
-use Rattle.scc_base.specs.Tables.{Shows, ShowAll, no_table}
+use Rattle.scc_base.specs.Tables.{ShowsGroup, ShowAll, no_table}
 use Rattle.scc_base.specs.declared.communicators.Grouping.{Grouping}
 use Rattle.scc_base.proofs.Counts.{count_same, list_same, list_past}
 use Rattle.scc_base.proofs.GroupFacts.{place_below, member_at_place, place_found, root_with, root_within, root_place}
 use Rattle.scc_base.proofs.TableLemmas.{root_test}
 
 -- the table's roots tell the groups
-pub roots_test : (key : ℕ → ℕ) (table : Grouping) → Shows key table → (r q : ℕ) → r < 48 → q < 48
+pub roots_test : (key : ℕ → ℕ) (table : Grouping) → ShowsGroup key table → (r q : ℕ) → r < 48 → q < 48
     → (slice_index table.roots r == slice_index table.roots q) ≡ (key r == key q)
 roots_test key table shown r q hr hq = rw (shown.roots r hr, shown.roots q hq) (root_test key r q)
 
-pub size_shown : (nue : ℕ) (key : ℕ → ℕ) (table : Grouping) → Shows key table → nue ≤ 48 → (r : ℕ) → r < 48
+pub size_shown : (nue : ℕ) (key : ℕ → ℕ) (table : Grouping) → ShowsGroup key table → nue ≤ 48 → (r : ℕ) → r < 48
     → size_in nue (λ x. slice_index table.roots x) r ≡ size_in nue key r
 size_shown nue key table shown ranks r h =
     count_same (is_with (λ x. slice_index table.roots x) r) (is_with key r) nue (λ x low. roots_test key table shown x r (omega (arith, low, ranks)) h)
 
-pub members_shown : (nue : ℕ) (key : ℕ → ℕ) (table : Grouping) → Shows key table → nue ≤ 48 → (r : ℕ) → r < 48
+pub members_shown : (nue : ℕ) (key : ℕ → ℕ) (table : Grouping) → ShowsGroup key table → nue ≤ 48 → (r : ℕ) → r < 48
     → members_in nue (λ x. slice_index table.roots x) r ≡ members_in nue key r
 members_shown nue key table shown ranks r h =
     list_same (is_with (λ x. slice_index table.roots x) r) (is_with key r) nue (λ x low. roots_test key table shown x r (omega (arith, low, ranks)) h)

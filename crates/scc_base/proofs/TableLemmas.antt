@@ -5,7 +5,7 @@ use Rattle.std.proofs.lemmas.List.{get_or-set_same, get_or-set_other}
 use Rattle.std.proofs.lemmas.Bool.Decides.{nat_tests, eqb_tells}
 use Rattle.std.proofs.Math.Logic.{⊎_elim}
 use Rattle.scc_base.specs.Groups.{place_in, root_in, is_with}
-use Rattle.scc_base.specs.Tables.{Shows, ShowAll, HasKeys, no_table}
+use Rattle.scc_base.specs.Tables.{ShowsGroup, ShowAll, HasKeys, no_table}
 use Rattle.scc_base.specs.Communicators.{rule_of, key_under, key_of, IsRule, AreRules}
 use Rattle.scc_base.specs.declared.communicators.CommRule.{CommRule}
 use Rattle.scc_base.specs.declared.communicators.CommRule.TheVariants.{Absent, World, Mod, Div}
@@ -32,7 +32,7 @@ pub place_within : (key : ℕ → ℕ) (r : ℕ) → place_in key r ≤ r
 place_within key r = count_within (is_with key r) r
 
 -- the tables of the labels are those of the keys that the labels tell
-pub shows_keys : (key : ℕ → ℕ) (labels : List ℕ) (table : Grouping) → HasKeys key labels → Shows (λ x. slice_index labels x) table → Shows key table
+pub shows_keys : (key : ℕ → ℕ) (labels : List ℕ) (table : Grouping) → HasKeys key labels → ShowsGroup (λ x. slice_index labels x) table → ShowsGroup key table
 shows_keys key labels table tells shown = record {
   roots = λ r h. shown.roots r h ∙ lowest_same (is_with (λ x. slice_index labels x) r) (is_with key r) r (λ x low. tells x r (omega (arith, h, low)) h);
   places = λ r h. shown.places r h ∙ count_same (is_with (λ x. slice_index labels x) r) (is_with key r) r (λ x low. tells x r (omega (arith, h, low)) h);
@@ -59,7 +59,7 @@ labels_tell key parent colour labels keyed labelled below r q hr hq =
 -- where a communicator is the world, or stands not, all labels equal tell its keys
 pub world_shows : (comms : List CommRule) → AreRules comms → (comm : ℕ) → comm < 16 → (rule_of comms comm ≡ Absent) ⊎ (rule_of comms comm ≡ World)
     → (labels : List ℕ) (table : Grouping) → ((r : ℕ) → r < 48 → slice_index labels r ≡ 0)
-    → Shows (λ x. slice_index labels x) table → Shows (key_of comms comm) table
+    → ShowsGroup (λ x. slice_index labels x) table → ShowsGroup (key_of comms comm) table
 world_shows comms rules comm top either labels table flat shown =
     let one : (r : ℕ) → key_of comms comm r ≡ 0 = λ r. key_of_is comms rules comm top r ∙ ⊎_elim
     (λ (is : rule_of comms comm ≡ Absent). ap (λ (rule : CommRule). key_under rule (key_of comms) r) is)
@@ -73,7 +73,7 @@ split_shows : (comms : List CommRule) (comm parent : ℕ) (groups : List Groupin
     → ((r : ℕ) → r < 48 → key_of comms comm r ≡ 48 * key_of comms parent r + colour (place_in (key_of comms parent) r))
     → (labels : List ℕ) (table : Grouping)
     → ((r : ℕ) → r < 48 → slice_index labels r ≡ 48 * slice_index (slice_index_or groups parent no_table).roots r + colour (slice_index (slice_index_or groups parent no_table).places r))
-    → Shows (λ x. slice_index labels x) table → Shows (key_of comms comm) table
+    → ShowsGroup (λ x. slice_index labels x) table → ShowsGroup (key_of comms comm) table
 split_shows comms comm parent groups below all colour small keyed labels table labelled shown =
     let up = all parent below in
     shows_keys (key_of comms comm) labels table
@@ -91,7 +91,7 @@ quotient_small k place some most = grind arith
 pub mod_shows : (comms : List CommRule) → AreRules comms → (comm : ℕ) → comm < 16 → (parent k : ℕ) → rule_of comms comm ≡ Mod parent k
     → (groups : List Grouping) → ShowAll comms comm groups → (labels : List ℕ) (table : Grouping)
     → ((r : ℕ) → r < 48 → slice_index labels r ≡ 48 * slice_index (slice_index_or groups parent no_table).roots r + slice_index (slice_index_or groups parent no_table).places r % k)
-    → Shows (λ x. slice_index labels x) table → Shows (key_of comms comm) table
+    → ShowsGroup (λ x. slice_index labels x) table → ShowsGroup (key_of comms comm) table
 mod_shows comms rules comm top parent k is groups all labels table labelled shown =
     let rule : IsRule comms comm (Mod parent k) = subst (λ (rule : CommRule). IsRule comms comm rule) is (rules comm top) in
     split_shows comms comm parent groups rule.0 all (λ place. place % k) (λ place h. remainder_small k place rule.2 rule.3)
@@ -100,7 +100,7 @@ mod_shows comms rules comm top parent k is groups all labels table labelled show
 pub div_shows : (comms : List CommRule) → AreRules comms → (comm : ℕ) → comm < 16 → (parent k : ℕ) → rule_of comms comm ≡ Div parent k
     → (groups : List Grouping) → ShowAll comms comm groups → (labels : List ℕ) (table : Grouping)
     → ((r : ℕ) → r < 48 → slice_index labels r ≡ 48 * slice_index (slice_index_or groups parent no_table).roots r + slice_index (slice_index_or groups parent no_table).places r / k)
-    → Shows (λ x. slice_index labels x) table → Shows (key_of comms comm) table
+    → ShowsGroup (λ x. slice_index labels x) table → ShowsGroup (key_of comms comm) table
 div_shows comms rules comm top parent k is groups all labels table labelled shown =
     let rule : IsRule comms comm (Div parent k) = subst (λ (rule : CommRule). IsRule comms comm rule) is (rules comm top) in
     split_shows comms comm parent groups rule.0 all (λ place. place / k) (λ place h. quotient_small k place rule.2 h)

@@ -3,7 +3,7 @@
 ghost use Rattle.std.specs.Prelude.{◌≡◌, ◌+◌, ◌*◌, ◌/◌, ◌%◌, ◌<◌, ◌≤◌, ◌↔◌, ℕ, IsTrue, slice_get, slice_index};
 ghost use Rattle.scc_base.specs.Groups.{members_in, place_in, root_in, size_in};
 ghost use Rattle.scc_base.specs.Communicators.{AreRules, IsRule, key_of, rule_of};
-ghost use Rattle.scc_base.specs.Tables.{Shows, ShowAll, no_table, HasKeys};
+ghost use Rattle.scc_base.specs.Tables.{ShowsGroup, ShowAll, no_table, HasKeys};
 
 use crate::names::Rank;
 
@@ -56,7 +56,7 @@ fn count_alike(labels: &[u16; 48], r: usize) -> u8
 
 // The groups of equal labels.
 fn group_alike(labels: &[u16; 48]) -> Grouping
-    ensures shows { Shows (λ x. slice_index labels.now x) result }
+    ensures shows { ShowsGroup (λ x. slice_index labels.now x) result }
 {
     let mut roots: [u8; 48] = [0; 48];
     let mut places: [u8; 48] = [0; 48];
@@ -98,7 +98,7 @@ fn group_of(comms: &[CommRule; 16], groups: &[Grouping; 16], comm: usize) -> Gro
     requires rules { AreRules comms.now }
     requires below { comm < 16 }
     requires shown { ShowAll comms.now comm groups.now }
-    ensures shows { Shows (key_of comms.now comm) result }
+    ensures shows { ShowsGroup (key_of comms.now comm) result }
 {
     match comms[comm] {
         CommRule::Absent | CommRule::World => group_alike(&[0; 48]),

@@ -39,7 +39,7 @@ pub none_beyond : (chip : ChipView) → KnowsHome chip → (r : ℕ) → (about_
 none_beyond None knows r out = refl
 none_beyond (Some scene) knows r out = list_past scene.home r (omega (arith, out, knows.1))
 
-pub known_if : (x : Option (List Event)) → scenes.is_known x ≡ true → x ≡ Some (list_or_none x)
+pub known_if : (x : Option (List Event)) → scenes.is_at_home x ≡ true → x ≡ Some (list_or_none x)
 known_if None t = absurd (cc (t))
 known_if (Some events) t = refl
 
@@ -50,8 +50,8 @@ pub port_is_sound : (chip : ChipView) (r hold : ℕ) → is_port_of chip r ≡ t
 unfolding record_in
 port_is_sound None r hold t knows = absurd (cc (t))
 port_is_sound (Some scene) r hold t knows =
-    let here = known_if (known scene.home r) (both_first (scenes.is_known (known scene.home r)) (nat_lt r scene.about.nue) t) in
-    let below : r < scene.about.nue = lt_tells r scene.about.nue (both_second (scenes.is_known (known scene.home r)) (nat_lt r scene.about.nue) t) in
+    let here = known_if (known scene.home r) (both_first (scenes.is_at_home (known scene.home r)) (nat_lt r scene.about.nue) t) in
+    let below : r < scene.about.nue = lt_tells r scene.about.nue (both_second (scenes.is_at_home (known scene.home r)) (nat_lt r scene.about.nue) t) in
     let list = knows.0.list r (list_at scene.home r) here in
     subst (λ (l : List Event). IsSound scene.about r (record_of scene.about r l)) list
     (sound_law scene.about knows.0.memory (records_by scene.about knows.0.lists) knows.0.together.agree r below)

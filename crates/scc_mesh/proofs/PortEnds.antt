@@ -8,7 +8,7 @@ use Rattle.scc_proto.specs.Ports.{Sight, Did}
 use Rattle.scc_proto.proofs.Tests.{both_first}
 use Rattle.scc_mesh.specs.SeatViews.{View, known, list_at, without}
 use Rattle.scc_mesh.specs.AwayRanks.{Ticket}
-use Rattle.scc_mesh.specs.Scenes.{ChipView, Scene, IsOpen, is_known, is_port_of, home_in, events_in, with_home, view_coded, sight_in, sight_away}
+use Rattle.scc_mesh.specs.Scenes.{ChipView, Scene, IsOpen, is_at_home, is_port_of, home_in, events_in, with_home, view_coded, sight_in, sight_away}
 use Rattle.scc_mesh.proofs.ViewLemmas.{set_twice}
 use Rattle.scc_mesh.proofs.HomeLaws.{known_if}
 
@@ -25,7 +25,7 @@ module _ (s t : SetupView) (old new : Ticket) (events : List Event) (did : Did (
 -- and so has a rank at home, where no other rank's list has changed
 module _ (old new : Scene) (r hold later : ℕ) (events : List Event) (port : is_port_of (Some new) r ≡ true) (did : Did (sight_in (Some old) r hold) events (sight_in (Some new) r later)) where
   new_known : known new.home r ≡ Some (list_at new.home r)
-  new_known = known_if (known new.home r) (both_first (is_known (known new.home r)) (nat_lt r new.about.nue) port)
+  new_known = known_if (known new.home r) (both_first (is_at_home (known new.home r)) (nat_lt r new.about.nue) port)
 
   same_others : without new.home r ≡ without old.home r
   same_others = view_coded.inj (without new.home r) (without old.home r) (ap (λ (x : Sight). x.seat.rest) did.continues)

@@ -9,7 +9,7 @@ use Rattle.scc_base.specs.Setups.{SetupView}
 use Rattle.scc_base.specs.declared.events.Event.{Event}
 use Rattle.scc_proto.specs.Tables.{put}
 use Rattle.scc_proto.proofs.Tests.{same_or_other, put_here, put_there}
-use Rattle.scc_mesh.specs.SeatViews.{View, known, list_at, IsKnown, without, alone, joined}
+use Rattle.scc_mesh.specs.SeatViews.{View, known, list_at, IsKnown, without, alone, joined_seats}
 use Rattle.scc_mesh.specs.Keeping.{IsSeatOf, Kept, Holds}
 use Rattle.scc_mesh.proofs.ViewLemmas.{known_within, known_here, known_there, elem_set, elem_push, alone_here, alone_there, joined_knows}
 
@@ -74,7 +74,7 @@ module _ (s : SetupView) (words : List ℕ) (views : List View) (kept : Kept s w
   owner_left : (q : ℕ) → kept.owner q ≢ other → join_owner q ≡ kept.owner q
   owner_left q ne = grind (arith, nat_tests)
 
-  joined_seat : (q : ℕ) (events : List Event) → known (joined v w) q ≡ Some events → IsSeatOf s join_owner kept.lists id q events
+  joined_seat : (q : ℕ) (events : List Event) → known (joined_seats v w) q ≡ Some events → IsSeatOf s join_owner kept.lists id q events
   joined_seat q events is = or (joined_knows v w q events is)
     where
       or : (known w q ≡ Some events) ⊎ (known v q ≡ Some events) → IsSeatOf s join_owner kept.lists id q events
@@ -83,11 +83,11 @@ module _ (s : SetupView) (words : List ℕ) (views : List View) (kept : Kept s w
           let old = kept.suits id v at_id q events own in
           record { owns = owner_left q (λ e. apart (sym e ∙ old.owns)) ∙ old.owns; list = old.list; below = old.below }
 
-  join_seats : (seat : ℕ) (x : View) → get_elem? (slice_set (slice_set views id (joined v w)) other []) seat ≡ some x → (q : ℕ) (events : List Event) → known x q ≡ Some events
+  join_seats : (seat : ℕ) (x : View) → get_elem? (slice_set (slice_set views id (joined_seats v w)) other []) seat ≡ some x → (q : ℕ) (events : List Event) → known x q ≡ Some events
       → IsSeatOf s join_owner kept.lists seat q events
-  join_seats seat x is_at q events is = or (elem_set (slice_set views id (joined v w)) other [] seat x is_at)
+  join_seats seat x is_at q events is = or (elem_set (slice_set views id (joined_seats v w)) other [] seat x is_at)
     where
-      old_seat : seat ≢ other → ((seat ≡ id) × (x ≡ joined v w)) ⊎ ((seat ≢ id) × (get_elem? views seat ≡ some x)) → IsSeatOf s join_owner kept.lists seat q events
+      old_seat : seat ≢ other → ((seat ≡ id) × (x ≡ joined_seats v w)) ⊎ ((seat ≢ id) × (get_elem? views seat ≡ some x)) → IsSeatOf s join_owner kept.lists seat q events
       old_seat ne (inl own) = subst (λ k. IsSeatOf s join_owner kept.lists k q events) (sym own.0) (joined_seat q events (subst (λ (y : View). known y q ≡ Some events) own.1 is))
       old_seat ne (inr third) =
           let old = kept.suits seat x third.1 q events is in
@@ -96,17 +96,17 @@ module _ (s : SetupView) (words : List ℕ) (views : List View) (kept : Kept s w
       spent : x ≡ [] → IsSeatOf s join_owner kept.lists seat q events
       spent none = absurd (cc (subst (λ (y : View). known y q ≡ Some events) none is))
 
-      or : ((seat ≡ other) × (x ≡ [])) ⊎ ((seat ≢ other) × (get_elem? (slice_set views id (joined v w)) seat ≡ some x)) → IsSeatOf s join_owner kept.lists seat q events
+      or : ((seat ≡ other) × (x ≡ [])) ⊎ ((seat ≢ other) × (get_elem? (slice_set views id (joined_seats v w)) seat ≡ some x)) → IsSeatOf s join_owner kept.lists seat q events
       or (inl gone) = spent gone.1
-      or (inr old) = old_seat old.0 (elem_set views id (joined v w) seat x old.1)
+      or (inr old) = old_seat old.0 (elem_set views id (joined_seats v w) seat x old.1)
 
-  kept_joined : Kept s words (slice_set (slice_set views id (joined v w)) other [])
+  kept_joined : Kept s words (slice_set (slice_set views id (joined_seats v w)) other [])
   kept_joined = record { valid = kept.valid; count = kept.count; owner = join_owner; lists = kept.lists; together = kept.together; suits = join_seats }
 
-pub join_keeps : {S : Type 0} (s : SetupView) (id : ℕ) (v : View) (other : ℕ) (w : View) → Joins {S = S} (Holds s) id v other w (joined v w) []
+pub join_keeps : {S : Type 0} (s : SetupView) (id : ℕ) (v : View) (other : ℕ) (w : View) → Joins {S = S} (Holds s) id v other w (joined_seats v w) []
 join_keeps s id v other w table kept at_id apart at_other = kept_joined s table.words table.views kept id v at_id other apart w
-    (or (elem_set table.views id (joined v w) other w at_other))
+    (or (elem_set table.views id (joined_seats v w) other w at_other))
   where
-    or : ((other ≡ id) × (w ≡ joined v w)) ⊎ ((other ≢ id) × (get_elem? table.views other ≡ some w)) → get_elem? table.views other ≡ some w
+    or : ((other ≡ id) × (w ≡ joined_seats v w)) ⊎ ((other ≢ id) × (get_elem? table.views other ≡ some w)) → get_elem? table.views other ≡ some w
     or (inl same) = absurd (apart same.0)
     or (inr is) = is.1

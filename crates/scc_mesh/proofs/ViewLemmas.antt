@@ -5,7 +5,7 @@ use lib.ListN.{get_elem?}
 use Rattle.std.proofs.lemmas.List.{get_or-set_same, get_or-set_other}
 use Rattle.scc_base.specs.Setups.{SetupView}
 use Rattle.scc_base.specs.declared.events.Event.{Event}
-use Rattle.scc_mesh.specs.SeatViews.{View, known, list_or_none, list_at, IsKnown, newcomer, alone, joined}
+use Rattle.scc_mesh.specs.SeatViews.{View, known, list_or_none, list_at, IsKnown, newcomer, alone, joined_seats}
 
 pub known_within : (v : View) (r : ℕ) (events : List Event) → known v r ≡ Some events → r < length v
 known_within [] r events is = absurd (cc (is))
@@ -100,24 +100,24 @@ pub alone_set : (r : ℕ) (x y : Option (List Event)) → slice_set (alone r x) 
 unfolding alone
 alone_set r x y = alone_change r x y
 
-pub joined_knows : (v w : View) (q : ℕ) (events : List Event) → known (joined v w) q ≡ Some events → (known w q ≡ Some events) ⊎ (known v q ≡ Some events)
+pub joined_knows : (v w : View) (q : ℕ) (events : List Event) → known (joined_seats v w) q ≡ Some events → (known w q ≡ Some events) ⊎ (known v q ≡ Some events)
 joined_knows [] w q events is = inl is
 joined_knows (x ∷ v) [] q events is = inr is
 joined_knows (x ∷ v) (None ∷ w) zero events is = inr is
 joined_knows (x ∷ v) (Some y ∷ w) zero events is = inl is
 joined_knows (x ∷ v) (y ∷ w) (suc q) events is = joined_knows v w q events is
 
-joined_from : (v : View) (r : ℕ) (events : List Event) → r < length v → joined v (replicate r None ++ Some events ∷ []) ≡ slice_set v r (Some events)
+joined_from : (v : View) (r : ℕ) (events : List Event) → r < length v → joined_seats v (replicate r None ++ Some events ∷ []) ≡ slice_set v r (Some events)
 joined_from [] r events lt = absurd (omega (arith, lt))
 joined_from (x ∷ []) zero events lt = refl
 joined_from (x ∷ y ∷ v) zero events lt = refl
 joined_from (x ∷ v) (suc r) events lt = ap (λ (z : View). x ∷ z) (joined_from v r events (omega (arith, lt)))
 
-pub joined_alone : (v : View) (r : ℕ) (events : List Event) → r < length v → joined v (alone r (Some events)) ≡ slice_set v r (Some events)
+pub joined_alone : (v : View) (r : ℕ) (events : List Event) → r < length v → joined_seats v (alone r (Some events)) ≡ slice_set v r (Some events)
 unfolding alone
 joined_alone v r events lt = joined_from v r events lt
 
-joined_own : (v : View) (r : ℕ) (x : Option (List Event)) (events : List Event) → x ≡ Some events → known (joined v (replicate r None ++ x ∷ [])) r ≡ Some events
+joined_own : (v : View) (r : ℕ) (x : Option (List Event)) (events : List Event) → x ≡ Some events → known (joined_seats v (replicate r None ++ x ∷ [])) r ≡ Some events
 joined_own [] r x events is = alone_own r x ∙ is
 joined_own (y ∷ v) zero (Some z) events is = is
 joined_own (y ∷ v) zero None events is = absurd (cc (is))
@@ -151,6 +151,6 @@ pub newcomer_list : (s : SetupView) (r : ℕ) → list_at (newcomer s) r ≡ []
 unfolding newcomer
 newcomer_list s r = newcomers_list s.nue r
 
-pub joined_here : (v : View) (r : ℕ) (events : List Event) → known (joined v (alone r (Some events))) r ≡ Some events
+pub joined_here : (v : View) (r : ℕ) (events : List Event) → known (joined_seats v (alone r (Some events))) r ≡ Some events
 unfolding alone
 joined_here v r events = joined_own v r (Some events) events refl

@@ -52,7 +52,8 @@ pub record Kept (s : SetupView) (words : List ℕ) (views : List View) : Type 0 
   pub owner : ℕ → ℕ
   pub lists : ℕ → List Event
   pub together : Together s (memory_of words) lists
-  pub suits : (seat : ℕ) (v : View) → get_elem? views seat ≡ some v → (r : ℕ) (events : List Event) → known v r ≡ Some events → IsSeatOf s owner lists seat r events
+  pub suits : (seat : ℕ) (v : View) → get_elem? views seat ≡ some v → (r : ℕ) (events : List Event) → known v r ≡ Some events
+      → IsSeatOf s owner lists seat r events
 
 -- a table keeps the rule
 abbrev pub Holds : {S : Type 0} → SetupView → State S View → Type 0

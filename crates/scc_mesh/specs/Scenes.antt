@@ -30,8 +30,8 @@ abbrev pub no_setup : SetupView
 no_setup = record { nue = 0; layout = LineFlags; hosts = []; comms = [] }
 
 -- the name of the table of a chip that is blank
-abbrev pub no_table : ChipId
-no_table = record { words = 0; slots = 0; views_name = 0; atom = 0; block = 0; offset = 0; slot_names = [] }
+abbrev pub blank_table : ChipId
+blank_table = record { words = 0; slots = 0; views_name = 0; atom = 0; block = 0; offset = 0; slot_names = [] }
 
 -- the chip's setup
 abbrev pub about_in : ChipView → SetupView
@@ -40,7 +40,7 @@ about_in (Some scene) = scene.about
 
 -- which chip it is
 abbrev pub table_in : ChipView → ChipId
-table_in None = no_table
+table_in None = blank_table
 table_in (Some scene) = scene.table
 
 -- the lists of the ranks at home
@@ -62,13 +62,13 @@ abbrev pub records_in : ChipView → ℕ → Record
 records_in chip = records_by (about_in chip) (events_in chip)
 
 -- whether a chip has words
-abbrev pub is_open : ChipView → Bool
-is_open None = false
-is_open (Some scene) = true
+abbrev pub is_chip_open : ChipView → Bool
+is_chip_open None = false
+is_chip_open (Some scene) = true
 
 -- the chip is open
 abbrev pub IsOpen : ChipView → Type 0
-IsOpen chip = is_open chip ≡ true
+IsOpen chip = is_chip_open chip ≡ true
 
 -- the chip is open, and the rank is at home
 abbrev pub IsHome : ChipView → ℕ → Type 0
@@ -92,13 +92,13 @@ pub record IsHomeBelow (chip : ChipView) (n : ℕ) : Type 0 where
   pub home : (r : ℕ) → r < n → IsHome chip r
 
 -- whether the rank is at home
-abbrev pub is_known : Option (List Event) → Bool
-is_known None = false
-is_known (Some events) = true
+abbrev pub is_at_home : Option (List Event) → Bool
+is_at_home None = false
+is_at_home (Some events) = true
 
 -- whether a port of the rank can be on the chip
 abbrev pub is_port_of : ChipView → ℕ → Bool
-is_port_of chip r = is_open chip && (is_known (known (home_in chip) r) && nat_lt r (about_in chip).nue)
+is_port_of chip r = is_chip_open chip && (is_at_home (known (home_in chip) r) && nat_lt r (about_in chip).nue)
 
 -- a chip that was just opened: all ranks are at home and have made no event
 pub record IsNew (s : SetupView) (chip : ChipView) : Type 0 where
@@ -120,20 +120,20 @@ abbrev pub mark_of : ChipId → Gv
 mark_of table = table_id_coded.code table
 
 -- the lists of the other ranks, where they rest at home meanwhile
-abbrev pub rest_of : View → ℕ → Gv
-rest_of home r = view_coded.code (without home r)
+abbrev pub rest_of_seats : View → ℕ → Gv
+rest_of_seats home r = view_coded.code (without home r)
 
 -- a port of a chip with the name of the chip that it holds, at a rank
 abbrev pub sight_in : ChipView → ℕ → ℕ → Sight
 sight_in chip r hold = record {
-  seat = record { setup = about_in chip; rank = r; mark = mark_of (table_in chip); rest = rest_of (home_in chip) r; hold = hold };
+  seat = record { setup = about_in chip; rank = r; mark = mark_of (table_in chip); rest = rest_of_seats (home_in chip) r; hold = hold };
   events = events_in chip r;
 }
 
 -- a port of a rank that is away
 abbrev pub sight_away : SetupView → Ticket → Sight
 sight_away s ticket = record {
-  seat = record { setup = s; rank = ticket.rank; mark = mark_of ticket.table; rest = rest_of [] ticket.rank; hold = 0 };
+  seat = record { setup = s; rank = ticket.rank; mark = mark_of ticket.table; rest = rest_of_seats [] ticket.rank; hold = 0 };
   events = ticket.events;
 }
 

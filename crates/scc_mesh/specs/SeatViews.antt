@@ -49,11 +49,11 @@ other_first one None = one
 other_first one (Some events) = Some events
 
 -- two seats in one
-abbrev pub joined : View → View → View
-joined [] w = w
-joined (x ∷ v) [] = x ∷ v
-joined (x ∷ v) (y ∷ w) = other_first x y ∷ joined v w
+abbrev pub joined_seats : View → View → View
+joined_seats [] w = w
+joined_seats (x ∷ v) [] = x ∷ v
+joined_seats (x ∷ v) (y ∷ w) = other_first x y ∷ joined_seats v w
 
 -- the seat stands for this rank alone, and holds nothing
-abbrev pub IsLone : {S : Type 0} → ℕ → Me S View → Type 0
-IsLone r me = me ≡ (alone r (Some (list_at me.0 r)), [])
+abbrev pub IsLoneSeat : {S : Type 0} → ℕ → Me S View → Type 0
+IsLoneSeat r me = me ≡ (alone r (Some (list_at me.0 r)), [])

@@ -37,7 +37,7 @@ impl Chip {
     ghost use Rattle.scc_proto.specs.Agreement.{Agrees};
     ghost use Rattle.scc_mesh.specs.SeatViews.{without};
     ghost use Rattle.scc_mesh.specs.Keeping.{Made, MayAccess, IsStoredAt, event_found};
-    ghost use Rattle.scc_mesh.specs.Scenes.{IsOpen, IsHome, IsWhole, IsNew, KnowsHome, is_open, about_in, home_in, table_in, events_in, records_in, with_home};
+    ghost use Rattle.scc_mesh.specs.Scenes.{IsOpen, IsHome, IsWhole, IsNew, KnowsHome, is_chip_open, about_in, home_in, table_in, events_in, records_in, with_home};
 
     /// A chip with no words yet.
     pub fn blank() -> Chip
@@ -58,7 +58,7 @@ impl Chip {
 
     /// Whether the chip has words.
     pub fn is_open(&self) -> bool
-        ensures tells { result ≡ is_open self.now }
+        ensures tells { result ≡ is_chip_open self.now }
     {
         self.board.is_some()
     }

@@ -3,7 +3,7 @@
 ghost use Rattle.std.specs.Prelude.{◌≡◌, ℕ, []};
 ghost use Rattle.scc_base.specs.Setups.{SetupView};
 ghost use Rattle.scc_base.specs.declared.events.Event.{Event};
-ghost use Rattle.scc_mesh.specs.SeatViews.{newcomer, known, without, alone, joined};
+ghost use Rattle.scc_mesh.specs.SeatViews.{newcomer, known, without, alone, joined_seats};
 ghost use Rattle.scc_mesh.specs.Scenes.{no_setup};
 ghost use Rattle.scc_mesh.specs.Keeping.{Holds, Made, Looked, no_event};
 
@@ -75,7 +75,7 @@ impl<N: Aim> Split<View> for HandsOut<N> {
 pub(crate) struct TakesIn;
 
 impl Join<View> for TakesIn {
-    ghost both = { joined };
+    ghost both = { joined_seats };
 
     ghost spent = { [] };
 }

@@ -1,7 +1,7 @@
 //! The shared words of an open chip, and the steps on them.
 
 ghost use Rattle.std.specs.Prelude.{◌≡◌, ℕ, [], length, slice_index, IfOk};
-ghost use Rattle.scc_mesh.specs.SeatViews.{IsKnown, list_at, known, newcomer, without, alone, joined};
+ghost use Rattle.scc_mesh.specs.SeatViews.{IsKnown, list_at, known, newcomer, without, alone, joined_seats};
 ghost use Rattle.scc_mesh.specs.Keeping.{Made, Looked, MayAccess, event_found};
 
 use crate::rule::{Agreement, Aim, Goes, HandsOut, Looks, TakesIn, View};
@@ -157,7 +157,7 @@ impl Space {
         requires table { (seat.old.table_id ≡ self.now.table) × (other.table_id ≡ self.now.table) }
         requires none { other.me.1 ≡ [] }
         ensures table { seat.new.table_id ≡ seat.old.table_id }
-        ensures both { seat.new.me ≡ (joined seat.old.me.0 other.me.0, seat.old.me.1) }
+        ensures both { seat.new.me ≡ (joined_seats seat.old.me.0 other.me.0, seat.old.me.1) }
     {
         self.table.shared.join_seat::<TakesIn>(seat, other);
     }

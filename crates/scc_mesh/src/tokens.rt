@@ -1,7 +1,7 @@
 //! A rank that is away from its chip.
 
 ghost use Rattle.std.specs.Prelude.{◌≡◌, Some, []};
-ghost use Rattle.scc_mesh.specs.SeatViews.{IsLone, alone, list_at};
+ghost use Rattle.scc_mesh.specs.SeatViews.{IsLoneSeat, alone, list_at};
 ghost use Rattle.scc_mesh.specs.Keeping.{MayAccess, event_found};
 ghost use Rattle.scc_mesh.specs.AwayRanks.{IsSoundAway, MadeAway};
 
@@ -20,19 +20,19 @@ pub struct Token {
 }
 
 impl Model for Token {
-    ghost use Rattle.scc_mesh.specs.SeatViews.{IsLone, list_at};
+    ghost use Rattle.scc_mesh.specs.SeatViews.{IsLoneSeat, list_at};
     ghost use Rattle.scc_mesh.specs.AwayRanks.{Ticket};
 
     ghost Value = { Ticket };
 
     ghost view = { λ t. record { table = t.seat.table_id; rank = t.rank; events = list_at t.seat.me.0 t.rank } };
 
-    ghost invariant = { λ t. IsLone t.rank t.seat.me };
+    ghost invariant = { λ t. IsLoneSeat t.rank t.seat.me };
 }
 
 impl Token {
     pub(crate) fn new(seat: Seat<(), View>, rank: Rank) -> Token
-        requires lone { IsLone rank seat.me }
+        requires lone { IsLoneSeat rank seat.me }
         ensures gives { result ≡ record { table = seat.table_id; rank = rank; events = list_at seat.me.0 rank } }
     {
         Token { seat, rank }

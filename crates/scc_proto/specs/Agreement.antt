@@ -20,7 +20,8 @@ RecordsAgree s records = ((r : ℕ) → r < s.nue → IsConsistent s r (records 
 
 -- each ordered pair of ranks is in one phase
 abbrev pub PairsAgree : SetupView → View → (ℕ → Record) → Type 0
-PairsAgree s view records = (from to : ℕ) → are_peers s from to ≡ true → Phase (chunk_of s) (pair_of from to view (records from) (records to))
+PairsAgree s view records =
+    (from to : ℕ) → are_peers s from to ≡ true → Phase (chunk_of s) (pair_of from to view (records from) (records to))
 
 -- each sender's buffer holds what it has drafted
 abbrev pub SendersAgree : SetupView → View → (ℕ → Record) → Type 0

@@ -172,15 +172,18 @@ drafts_head layout = stores 0 0 0 3 0 ∷ stores 0 0 0 2 (chunk_size layout + 1)
 
 -- rank 0 raises the first chunk of two at rank 1, which sees `sent`, loads the head and lowers `sent`
 abbrev pub begins_first : Layout → List RankEvent
-begins_first layout = raises_sent layout ++ loads 1 1 1 0 1 ∷ loads 1 0 0 0 0 ∷ loads 1 0 0 1 0 ∷ loads 1 0 0 2 (chunk_size layout + 1) ∷ lowers_sent layout
+begins_first layout =
+    raises_sent layout ++ loads 1 1 1 0 1 ∷ loads 1 0 0 0 0 ∷ loads 1 0 0 1 0 ∷ loads 1 0 0 2 (chunk_size layout + 1) ∷ lowers_sent layout
 
 -- rank 0 sees the answer and sends the second chunk, whose one byte is 07, and rank 1 takes it
 abbrev pub goes_second : Layout → List RankEvent
 goes_second layout = lowers_ready layout
-    ++ stores 0 0 (first_chunk layout) 3 0 ∷ stores 0 0 (first_chunk layout) 2 0 ∷ stores 0 0 (first_chunk layout) 1 0 ∷ stores 0 0 (first_chunk layout) 0 7
+    ++ stores 0 0 (first_chunk layout) 3 0 ∷ stores 0 0 (first_chunk layout) 2 0 ∷ stores 0 0 (first_chunk layout) 1 0
+    ∷ stores 0 0 (first_chunk layout) 0 7
     ∷ raises_sent layout
     ++ loads 1 1 1 0 1 ∷ lowers_sent layout
-    ++ loads 1 0 (first_chunk layout) 0 7 ∷ loads 1 0 (first_chunk layout) 1 0 ∷ loads 1 0 (first_chunk layout) 2 0 ∷ loads 1 0 (first_chunk layout) 3 0
+    ++ loads 1 0 (first_chunk layout) 0 7 ∷ loads 1 0 (first_chunk layout) 1 0 ∷ loads 1 0 (first_chunk layout) 2 0
+    ∷ loads 1 0 (first_chunk layout) 3 0
     ∷ raises_ready layout
     ++ lowers_ready layout
 

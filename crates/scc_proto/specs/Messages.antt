@@ -60,7 +60,8 @@ head_of notes = record { kind = unwrap_or (noted notes 0) 0; comm = unwrap_or (n
 
 -- a head that a message may have
 abbrev pub is_head : MessageHead → Bool
-is_head head = nat_lt head.kind 5 && (nat_lt head.comm 16 && (nat_le head.len most_message && (if head.kind == 0 then head.comm == 0 else true)))
+is_head head =
+    nat_lt head.kind 5 && (nat_lt head.comm 16 && (nat_le head.len most_message && (if head.kind == 0 then head.comm == 0 else true)))
 
 -- a head that a posted message may have
 abbrev pub is_post_head : MessageHead → Bool
@@ -98,7 +99,8 @@ is_padded size message chunk = is_zero_from chunk (chunk_bytes size message) (8 
 
 -- the message with the chunk in hand through
 abbrev pub with_chunk : ℕ → Progress → Notes → Progress
-with_chunk size message chunk = record message { chunks = suc message.chunks; bytes = message.bytes ++ bytes_from chunk 0 (chunk_bytes size message) }
+with_chunk size message chunk =
+    record message { chunks = suc message.chunks; bytes = message.bytes ++ bytes_from chunk 0 (chunk_bytes size message) }
 
 -- the message as it is when no chunk is left
 abbrev pub message_of : Progress → Message
@@ -119,8 +121,10 @@ post_to to message = Post to message.head message.bytes
 -- the messages of the finished sends and posts to one rank, in order
 abbrev pub sent_messages : ℕ → List DataCall → List Message
 sent_messages r [] = []
-sent_messages r (Send to head bytes ∷ calls) = if to == r then record { head = head; bytes = bytes } ∷ sent_messages r calls else sent_messages r calls
-sent_messages r (Post to head bytes ∷ calls) = if to == r then record { head = head; bytes = bytes } ∷ sent_messages r calls else sent_messages r calls
+sent_messages r (Send to head bytes ∷ calls) =
+    if to == r then record { head = head; bytes = bytes } ∷ sent_messages r calls else sent_messages r calls
+sent_messages r (Post to head bytes ∷ calls) =
+    if to == r then record { head = head; bytes = bytes } ∷ sent_messages r calls else sent_messages r calls
 sent_messages r (Recv from head bytes ∷ calls) = sent_messages r calls
 sent_messages r (Bar comm ∷ calls) = sent_messages r calls
 

@@ -70,12 +70,14 @@ raise_ready size stage = stage
 
 -- the sender sees that the raised chunk was taken
 abbrev pub look_ready : (ℕ → Bool) → Stage → Stage
-look_ready is_set (Sending to Raised message chunk) = if is_set to then Sending to Answered message chunk else Sending to Raised message chunk
+look_ready is_set (Sending to Raised message chunk) =
+    if is_set to then Sending to Answered message chunk else Sending to Raised message chunk
 look_ready is_set stage = stage
 
 -- the chunk is through: the message is sent with its last one, and else its next chunk may be drafted
 abbrev pub lower_ready : ℕ → Stage → Stage
-lower_ready size (Sending to part message chunk) = if is_last size message then Idle else Sending to Filling (with_chunk size message chunk) []
+lower_ready size (Sending to part message chunk) =
+    if is_last size message then Idle else Sending to Filling (with_chunk size message chunk) []
 lower_ready size stage = stage
 
 -- a group of one has no barrier open after its flip
@@ -161,12 +163,14 @@ calls_raised size to stage calls = calls
 
 -- the calls after a raise of `ready`: a receive is finished with its last chunk
 abbrev pub calls_received : ℕ → Stage → List DataCall → List DataCall
-calls_received size (Taking from message chunk) calls = finished_if (is_last size message) (recv_from from (message_of (with_chunk size message chunk))) calls
+calls_received size (Taking from message chunk) calls =
+    finished_if (is_last size message) (recv_from from (message_of (with_chunk size message chunk))) calls
 calls_received size stage calls = calls
 
 -- the calls after a lowering of `ready`: a send is finished with its last chunk
 abbrev pub calls_sent : ℕ → Stage → List DataCall → List DataCall
-calls_sent size (Sending to part message chunk) calls = finished_if (is_last size message) (send_to to (message_of (with_chunk size message chunk))) calls
+calls_sent size (Sending to part message chunk) calls =
+    finished_if (is_last size message) (send_to to (message_of (with_chunk size message chunk))) calls
 calls_sent size stage calls = calls
 
 -- the calls after a root wrote a release flag: with the last one its barrier is finished

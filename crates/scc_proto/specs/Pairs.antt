@@ -115,13 +115,19 @@ pub record IsTaken (size : ℕ) (x : Pair) (message : Progress) (is_post : Bool)
   pub loaded : StandsIn words x.chunk
   pub level : x.sent ≡ x.received ++ pending size is_post message chunk
 
--- what the receiver has once it took the chunk: the whole message, or its chunks up to this one
+-- what the receiver has once it took the chunk: the whole message, or its chunks up to this one. Eight parameters: the chunk
+-- (whether it is the last, the largest size, whether it is of a post, the message so far, its words), and what the receiver
+-- has: how far it is in a message, and the messages of the pair that were sent and received.
 abbrev pub HasArrived : Bool → ℕ → Bool → Progress → Notes → Option Progress → List Message → List Message → Type 0
-HasArrived true size is_post message chunk through sent received = (through ≡ None) × (received ≡ sent ++ settling size is_post message chunk)
+HasArrived true size is_post message chunk through sent received =
+    (through ≡ None) × (received ≡ sent ++ settling size is_post message chunk)
 HasArrived false size is_post message chunk through sent received = (through ≡ Some (with_chunk size message chunk)) × (received ≡ sent)
 
--- `ready` is raised, and the sender has not lowered it
-pub record IsReady (size : ℕ) (x : Pair) (through : Option Progress) (is_answered is_post : Bool) (message : Progress) (chunk : Notes) : Type 0 where
+-- `ready` is raised, and the sender has not lowered it. Seven parameters: the largest chunk, the pair, and what its two
+-- records must agree on: how far the receiver is, whether the sender saw `ready`, whether it is a post, the message so far
+-- and the chunk's words.
+pub record IsReady (size : ℕ) (x : Pair) (through : Option Progress) (is_answered is_post : Bool) (message : Progress)
+    (chunk : Notes) : Type 0 where
   pub sent_flag : x.sent_flag ≡ 0
   pub ready_flag : x.ready_flag ≡ 1
   pub sending : x.sending ≡ Offering is_answered is_post message chunk
@@ -132,7 +138,8 @@ pub record IsReady (size : ℕ) (x : Pair) (through : Option Progress) (is_answe
 -- each pair is in one of four phases
 pub data Phase (size : ℕ) (x : Pair) : Type 0 where
   InRest : (through : Option Progress) → AtRest x through → Phase size x
-  InRaised : (through : Option Progress) → (head : MessageHead) → (is_post : Bool) → (chunk : Notes) → IsRaised size x through head is_post chunk → Phase size x
+  InRaised : (through : Option Progress) → (head : MessageHead) → (is_post : Bool) → (chunk : Notes)
+      → IsRaised size x through head is_post chunk → Phase size x
   InTaken : (message : Progress) → (is_post : Bool) → (chunk words : Notes) → IsTaken size x message is_post chunk words → Phase size x
   InReady : (through : Option Progress) → (is_answered is_post : Bool) → (message : Progress) → (chunk : Notes)
       → IsReady size x through is_answered is_post message chunk → Phase size x

@@ -62,7 +62,8 @@ IsPassed finished current passed = (passed ≡ finished) ⊎ ((call : DataCall) 
 -- the message in a rank's slot, by its post on its way: none once the receiver has received as many messages as it was sent
 abbrev pub slot_by : ℕ → ℕ → Option OnItsWay → (ℕ → Record) → Option Outgoing
 slot_by size me None records = None
-slot_by size me (Some post) records = if length (received_messages me (records post.to).calls) == length (sent_messages post.to (records me).calls)
+slot_by size me (Some post) records =
+    if length (received_messages me (records post.to).calls) == length (sent_messages post.to (records me).calls)
     then None
     else Some (record { to = post.to; head = post.head; bytes = (with_chunk size (begun post.head) post.chunk).bytes })
 

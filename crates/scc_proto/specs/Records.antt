@@ -66,7 +66,8 @@ move_at move None = Misplaced
 move_at move (Some j) = move j
 
 -- the move that a change of a word of bit flags is: at the own core a bit of another rank is lowered, at
--- another core the own bit is raised
+-- another core the own bit is raised. Seven parameters: the moves of a bit that is lowered and of one that is raised, the
+-- rank in its setup, at whose core the word is, the new word, and the old one where it was read.
 abbrev pub change_at : (lower raise : ℕ → Move) → SetupView → (me owner new : ℕ) → Option ℕ → Move
 change_at lower raise s me owner new None = Misplaced
 change_at lower raise s me owner new (Some old) = if owner == me then move_at lower (lowered_below me old new s.nue)
@@ -87,7 +88,8 @@ store_by s me rec place value (HeaderWord owner k) = if owner == me then DraftHe
 store_by s me rec place value (ChunkWord owner k) = if owner == me then DraftChunk k value else Misplaced
 store_by s me rec place value (SignalFlag signal by at) = if (by == me) && (value == 1) then RaiseSignal signal at
     else (if (at == me) && (value == 0) then LowerSignal signal by else Misplaced)
-store_by s me rec place value (SignalFlags signal at) = change_at (LowerSignal signal) (RaiseSignal signal) s me at value (flags_noted signal rec place.core)
+store_by s me rec place value (SignalFlags signal at) =
+    change_at (LowerSignal signal) (RaiseSignal signal) s me at value (flags_noted signal rec place.core)
 store_by s me rec place value (GatherFlag comm owner) = if owner == me then FlipGather comm value (last_of s comm me) else Misplaced
 store_by s me rec place value (ReleaseFlag comm owner) =
     if leads s comm me owner then WriteRelease comm owner (place_of s comm owner) value (last_of s comm me) else Misplaced
@@ -111,7 +113,8 @@ load_act s me rec place value role = Moving (load_by s me value role)
 
 -- what a store is to the record: of bit flags it changes a noted word, else it is a move
 abbrev pub store_act : SetupView → ℕ → Record → WordAt → ℕ → Role → Act
-store_act s me rec place value (SignalFlags signal at) = ChangingSignal signal place.core (store_by s me rec place value (SignalFlags signal at))
+store_act s me rec place value (SignalFlags signal at) =
+    ChangingSignal signal place.core (store_by s me rec place value (SignalFlags signal at))
 store_act s me rec place value role = Moving (store_by s me rec place value role)
 
 -- what an access to a place is to the record

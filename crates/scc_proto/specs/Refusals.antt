@@ -25,7 +25,8 @@ Refuses moves next = stops_before 32 next blank moves ≡ true
 -- each of these events is one of rank `me` and is permitted in turn, and its next one is not
 abbrev pub stops_before_event : SetupView → ℕ → RankEvent → Record → List RankEvent → Bool
 stops_before_event s me next rec [] = (next.rank == me) && not (is_permitted s me rec next.event)
-stops_before_event s me next rec (e ∷ es) = (e.rank == me) && (is_permitted s me rec e.event && stops_before_event s me next (record_after s me rec e.event) es)
+stops_before_event s me next rec (e ∷ es) =
+    (e.rank == me) && (is_permitted s me rec e.event && stops_before_event s me next (record_after s me rec e.event) es)
 
 -- a rank at its start may make these events, one after the other, and then not the next one
 abbrev pub RefusesEvent : SetupView → ℕ → List RankEvent → RankEvent → Type 0

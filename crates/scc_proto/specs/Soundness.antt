@@ -46,5 +46,7 @@ pub record IsSound (s : SetupView) (me : ℕ) (rec : Record) : Type 0 where
   pub ready_clear : (j word : ℕ) → flags_noted Ready rec (host_of s.hosts j) ≡ Some word → is_taking j rec.stage ≡ true → bit_at word me ≡ 0
   -- in a word of bit flags that was noted under the register of the own core: the bits that this rank may lower next
   -- are set
-  pub sent_set : (j word : ℕ) (header : Notes) → flags_noted Sent rec (host_of s.hosts me) ≡ Some word → rec.notes j ≡ Some header → bit_at word j ≡ 1
-  pub ready_set : (j word : ℕ) → flags_noted Ready rec (host_of s.hosts me) ≡ Some word → is_answered j rec.stage rec.post ≡ true → bit_at word j ≡ 1
+  pub sent_set : (j word : ℕ) (header : Notes) → flags_noted Sent rec (host_of s.hosts me) ≡ Some word → rec.notes j ≡ Some header
+      → bit_at word j ≡ 1
+  pub ready_set : (j word : ℕ) → flags_noted Ready rec (host_of s.hosts me) ≡ Some word → is_answered j rec.stage rec.post ≡ true
+      → bit_at word j ≡ 1

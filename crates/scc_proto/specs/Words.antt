@@ -33,7 +33,8 @@ word_at memory place = memory.word place.core place.line place.word
 abbrev pub is_at : WordAt → ℕ → ℕ → ℕ → Bool
 is_at place core line word = (core == place.core) && ((line == place.line) && (word == place.word))
 
--- an access is a step: a load tells the word; a store and a free always are; a take has 1 where it found the register free, and 0 where it found it taken
+-- an access is a step: a load tells the word; a store and a free always are; a take has 1 where it found the register free,
+-- and 0 where it found it taken
 abbrev pub IsStepBy : Access → WordAt → ℕ → Memory → Type 0
 IsStepBy Load place value memory = word_at memory place ≡ value
 IsStepBy Store place value memory = Unit {0}
@@ -43,7 +44,8 @@ IsStepBy Free place value memory = Unit {0}
 -- the memory after an access of this kind
 abbrev pub memory_by : Access → WordAt → ℕ → Memory → Memory
 memory_by Load place value memory = memory
-memory_by Store place value memory = record memory { word = λ core line word. if is_at place core line word then value else memory.word core line word }
+memory_by Store place value memory =
+    record memory { word = λ core line word. if is_at place core line word then value else memory.word core line word }
 memory_by Take place value memory = record memory { register = if value == 1 then put memory.register place.core 1 else memory.register }
 memory_by Free place value memory = record memory { register = put memory.register place.core 0 }
 
@@ -121,15 +123,19 @@ if_present s word comm role = if nat_lt word 2 && is_present s comm then role el
 -- the role of a word among the lines of the barriers' flags
 abbrev pub barrier_role : SetupView → ℕ → ℕ → ℕ → Role
 barrier_role s owner line word = if nat_le (first_release s.layout) line
-    then if_present s word (barrier_comm (first_release s.layout) line word) (ReleaseFlag (barrier_comm (first_release s.layout) line word) owner)
-    else if_present s word (barrier_comm (first_gather s.layout) line word) (GatherFlag (barrier_comm (first_gather s.layout) line word) owner)
+    then if_present s word (barrier_comm (first_release s.layout) line word)
+    (ReleaseFlag (barrier_comm (first_release s.layout) line word) owner)
+    else if_present s word (barrier_comm (first_gather s.layout) line word)
+    (GatherFlag (barrier_comm (first_gather s.layout) line word) owner)
 
 -- the role of a word of the lines between the header line and the barriers' flags
 abbrev pub flag_role : Layout → SetupView → ℕ → ℕ → ℕ → Role
 flag_role LineFlags s owner line word = if word == 0
-    then (if nat_le line 48 then if_peers s (line - 1) owner (SignalFlag Sent (line - 1) owner) else if_peers s owner (line - 49) (SignalFlag Ready (line - 49) owner))
+    then (if nat_le line 48 then if_peers s (line - 1) owner (SignalFlag Sent (line - 1) owner)
+    else if_peers s owner (line - 49) (SignalFlag Ready (line - 49) owner))
     else IdleWord
-flag_role BitFlags s owner line word = if word == 0 then SignalFlags Sent owner else (if word == 1 then SignalFlags Ready owner else IdleWord)
+flag_role BitFlags s owner line word =
+    if word == 0 then SignalFlags Sent owner else (if word == 1 then SignalFlags Ready owner else IdleWord)
 
 -- the role of a word of the core of a rank
 abbrev pub role_at : SetupView → ℕ → ℕ → ℕ → Role

@@ -47,16 +47,20 @@ pub fn empty_message_arrives()
 pub fn two_chunks_arrive()
     ensures is_run { (word : ℕ → ℕ) → IsRun zeros (two_chunks word) }
     ensures permitted { (word : ℕ → ℕ) → ((k : ℕ) → word k < 2 ^ 64) → IsPermittedRun two_ranks (λ r. blank) (two_chunks word) }
-    ensures received { (word : ℕ → ℕ) → (records_of two_ranks (two_chunks word) 1).calls ≡ Recv 0 (plain_head 3585) (bytes_of word 3584 ++ 7 ∷ []) ∷ [] }
-    ensures sent { (word : ℕ → ℕ) → (records_of two_ranks (two_chunks word) 0).calls ≡ Send 1 (plain_head 3585) (bytes_of word 3584 ++ 7 ∷ []) ∷ [] }
+    ensures received { (word : ℕ → ℕ)
+        → (records_of two_ranks (two_chunks word) 1).calls ≡ Recv 0 (plain_head 3585) (bytes_of word 3584 ++ 7 ∷ []) ∷ [] }
+    ensures sent { (word : ℕ → ℕ)
+        → (records_of two_ranks (two_chunks word) 0).calls ≡ Send 1 (plain_head 3585) (bytes_of word 3584 ++ 7 ∷ []) ∷ [] }
 {}
 
 /// A message of 6,625 bytes by bit flags, each change under its register: a whole chunk has 6,624 bytes there.
 pub fn two_chunks_arrive_by_bits()
     ensures is_run { (word : ℕ → ℕ) → IsRun zeros (two_chunks_bits word) }
     ensures permitted { (word : ℕ → ℕ) → ((k : ℕ) → word k < 2 ^ 64) → IsPermittedRun two_ranks_bits (λ r. blank) (two_chunks_bits word) }
-    ensures received { (word : ℕ → ℕ) → (records_of two_ranks_bits (two_chunks_bits word) 1).calls ≡ Recv 0 (plain_head 6625) (bytes_of word 6624 ++ 7 ∷ []) ∷ [] }
-    ensures sent { (word : ℕ → ℕ) → (records_of two_ranks_bits (two_chunks_bits word) 0).calls ≡ Send 1 (plain_head 6625) (bytes_of word 6624 ++ 7 ∷ []) ∷ [] }
+    ensures received { (word : ℕ → ℕ)
+        → (records_of two_ranks_bits (two_chunks_bits word) 1).calls ≡ Recv 0 (plain_head 6625) (bytes_of word 6624 ++ 7 ∷ []) ∷ [] }
+    ensures sent { (word : ℕ → ℕ)
+        → (records_of two_ranks_bits (two_chunks_bits word) 0).calls ≡ Send 1 (plain_head 6625) (bytes_of word 6624 ++ 7 ∷ []) ∷ [] }
 {}
 
 /// A barrier of three ranks that are not on the cores of their numbers.
@@ -80,7 +84,8 @@ pub fn post_arrives()
     ensures is_run { IsRun zeros (posts_four ++ takes_four) }
     ensures permitted { IsPermittedRun two_ranks (λ r. blank) (posts_four ++ takes_four) }
     ensures posted { (records_of two_ranks posts_four 0).calls ≡ Post 1 (plain_head 4) (1 ∷ 2 ∷ 3 ∷ 4 ∷ []) ∷ [] }
-    ensures on_its_way { slot_of two_ranks (records_of two_ranks posts_four) 0 ≡ Some (record { to = 1; head = plain_head 4; bytes = 1 ∷ 2 ∷ 3 ∷ 4 ∷ [] }) }
+    ensures on_its_way { slot_of two_ranks (records_of two_ranks posts_four) 0
+        ≡ Some (record { to = 1; head = plain_head 4; bytes = 1 ∷ 2 ∷ 3 ∷ 4 ∷ [] }) }
     ensures received { (records_of two_ranks (posts_four ++ takes_four) 1).calls ≡ Recv 0 (plain_head 4) (1 ∷ 2 ∷ 3 ∷ 4 ∷ []) ∷ [] }
     ensures taken { slot_of two_ranks (records_of two_ranks (posts_four ++ takes_four)) 0 ≡ None }
 {}

@@ -109,7 +109,8 @@ pub fn flags_law()
 /// Records that are alike tell the same flags.
 pub fn likeness_law()
     ensures flags { (s : SetupView) (one other : Memory) (records recs : ℕ → Record)
-        → Agrees s one records → Agrees s other recs → ((k : ℕ) → Like (records k) (recs k)) → SameFlagWords s (view_of s one) (view_of s other) }
+        → Agrees s one records → Agrees s other recs → ((k : ℕ) → Like (records k) (recs k))
+        → SameFlagWords s (view_of s one) (view_of s other) }
 {}
 
 /// Looks are never undone: where a list of events that store nothing leaves a record alike, each front of it does.
@@ -147,16 +148,19 @@ pub fn heap_law()
 /// The passed calls of a rank are its finished calls, or these and its open call. Each stage has its open call: a send, a
 /// receive, between two chunks too, and a barrier; words that are drafted and not raised are no call yet.
 pub fn open_call_law()
-    ensures passed { (s : SetupView) (records : ℕ → Record) (me : ℕ) → IsPassed (records me).calls (open_call s (records me)) (passed_calls s records me) }
+    ensures passed { (s : SetupView) (records : ℕ → Record) (me : ℕ)
+        → IsPassed (records me).calls (open_call s (records me)) (passed_calls s records me) }
     ensures idle { (s : SetupView) (rec : Record) → rec.stage ≡ Idle → open_call s rec ≡ None }
     ensures drafting { (s : SetupView) (rec : Record) (header chunk : Notes) → rec.stage ≡ Drafting header chunk → open_call s rec ≡ None }
-    ensures sending { (s : SetupView) (rec : Record) (to : ℕ) (part : Part) (message : Progress) (chunk : Notes) → rec.stage ≡ Sending to part message chunk
+    ensures sending { (s : SetupView) (rec : Record) (to : ℕ) (part : Part) (message : Progress) (chunk : Notes)
+        → rec.stage ≡ Sending to part message chunk
         → open_call s rec ≡ Some (send_to to (message_of (in_hand (chunk_of s) part message chunk))) }
     ensures between { (s : SetupView) (rec : Record) (from : ℕ) (message : Progress) → rec.stage ≡ Between from message
         → open_call s rec ≡ Some (recv_from from (message_of message)) }
     ensures taking { (s : SetupView) (rec : Record) (from : ℕ) (message : Progress) (chunk : Notes) → rec.stage ≡ Taking from message chunk
         → open_call s rec ≡ Some (recv_from from (message_of message)) }
-    ensures barrier { (s : SetupView) (rec : Record) (comm seen released : ℕ) → rec.stage ≡ Barrier comm seen released → open_call s rec ≡ Some (Bar comm) }
+    ensures barrier { (s : SetupView) (rec : Record) (comm seen released : ℕ) → rec.stage ≡ Barrier comm seen released
+        → open_call s rec ≡ Some (Bar comm) }
 {}
 
 /// Each finished call of a rank is one that it can make, with all its bytes.
@@ -174,7 +178,8 @@ pub fn head_law()
 /// Where words and records agree, a take that finds a register taken tells that some rank holds it, one that takes it that nobody does.
 pub fn registers_law()
     ensures taken { (s : SetupView) (memory : Memory) (records : ℕ → Record) (core : ℕ)
-        → Agrees s memory records → IsStep memory (take_of core false) → (holder : ℕ) × (holder < s.nue) × (is_some ((records holder).held core) ≡ true) }
+        → Agrees s memory records → IsStep memory (take_of core false)
+        → (holder : ℕ) × (holder < s.nue) × (is_some ((records holder).held core) ≡ true) }
     ensures free { (s : SetupView) (memory : Memory) (records : ℕ → Record) (core k : ℕ)
         → Agrees s memory records → IsStep memory (take_of core true) → k < s.nue → (records k).held core ≡ None }
 {}

@@ -26,7 +26,8 @@ pub fn posted_and_received()
 /// Two ranks that receive from each other before they send have made no call.
 pub fn both_receive_first()
     ensures refused { (slots : ℕ → Option Outgoing) → IsLegal 3 one_group
-        (lists_of (receiving 1 (four_bytes 0) ∷ sending (four_bytes 1) ∷ []) (receiving 0 (four_bytes 1) ∷ sending (four_bytes 0) ∷ []) []) slots
+        (lists_of (receiving 1 (four_bytes 0) ∷ sending (four_bytes 1) ∷ []) (receiving 0 (four_bytes 1) ∷ sending (four_bytes 0)
+        ∷ []) []) slots
         → ⊥ }
 {}
 

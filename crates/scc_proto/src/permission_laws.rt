@@ -31,7 +31,8 @@ pub fn plain_words_law()
 
 /// A register is taken exactly where the rank does not hold it, and freed exactly where it does.
 pub fn register_law()
-    ensures take { (s : SetupView) (me core : ℕ) (rec : Record) (taken : Bool) → (IsPermitted s me rec (take_of core taken)) ↔ (rec.held core ≡ None) }
+    ensures take { (s : SetupView) (me core : ℕ) (rec : Record) (taken : Bool)
+        → (IsPermitted s me rec (take_of core taken)) ↔ (rec.held core ≡ None) }
     ensures free { (s : SetupView) (me core : ℕ) (rec : Record) → (IsPermitted s me rec (free_of core)) ↔ (is_some (rec.held core) ≡ true) }
 {}
 
@@ -42,7 +43,8 @@ pub fn bits_law()
     ensures stored { (signal : Signal) (s : SetupView) (me owner value : ℕ) (rec : Record) (place : WordAt)
         → role_of s place ≡ SignalFlags signal owner
         → (IsPermitted s me rec (store_of place value)) ↔ ((old : ℕ) × (flags_noted signal rec place.core ≡ Some old)
-        × (((owner ≡ me) × (j : ℕ) × (lowered_below me old value s.nue ≡ Some j) × (permits (chunk_of s) (LowerSignal signal j) rec ≡ true))
+        × (((owner ≡ me) × (j : ℕ) × (lowered_below me old value s.nue ≡ Some j)
+        × (permits (chunk_of s) (LowerSignal signal j) rec ≡ true))
         ⊎ ((owner ≢ me) × (raises_bit me old value ≡ true) × (permits (chunk_of s) (RaiseSignal signal owner) rec ≡ true)))) }
 {}
 
@@ -61,13 +63,15 @@ pub fn raise_sent_law()
     ensures law { (size to : ℕ) (rec : Record) → (permits size (RaiseSignal Sent to) rec ≡ true) ↔ ((rec.post ≡ None)
         × (((header chunk : Notes) × (rec.stage ≡ Drafting header chunk) × (is_whole_header header ≡ true)
         × (is_drafted size (begun (head_of header)) chunk ≡ true))
-        ⊎ ((message : Progress) × (chunk : Notes) × (rec.stage ≡ Sending to Filling message chunk) × (is_drafted size message chunk ≡ true)))) }
+        ⊎ ((message : Progress) × (chunk : Notes) × (rec.stage ≡ Sending to Filling message chunk)
+        × (is_drafted size message chunk ≡ true)))) }
 {}
 
 /// `sent` is lowered exactly where it was seen: of a first chunk once a head was read and nothing is open, of a later one
 /// between the chunks of the same rank.
 pub fn lower_sent_law()
-    ensures law { (size from : ℕ) (rec : Record) → (permits size (LowerSignal Sent from) rec ≡ true) ↔ ((header : Notes) × (rec.notes from ≡ Some header)
+    ensures law { (size from : ℕ) (rec : Record)
+        → (permits size (LowerSignal Sent from) rec ≡ true) ↔ ((header : Notes) × (rec.notes from ≡ Some header)
         × (((rec.stage ≡ Idle) × (says_head header ≡ true)) ⊎ ((message : Progress) × (rec.stage ≡ Between from message)))) }
 {}
 
@@ -94,6 +98,7 @@ pub fn flip_gather_law()
 
 /// A release flag is written exactly by a root that has seen all its members, to the next of them, with the barrier's value.
 pub fn write_release_law()
-    ensures law { (size comm to place value last : ℕ) (rec : Record) → (permits size (WriteRelease comm to place value last) rec ≡ true) ↔ ((released : ℕ)
+    ensures law { (size comm to place value last : ℕ) (rec : Record)
+        → (permits size (WriteRelease comm to place value last) rec ≡ true) ↔ ((released : ℕ)
         × (rec.stage ≡ Barrier comm last released) × (place ≡ suc released) × (value ≡ rec.flips comm % 2)) }
 {}

@@ -40,8 +40,10 @@ pub fn heads_are_free()
 
 /// A message is taken with each head that a message may have.
 pub fn heads_are_read()
-    ensures all_down { Permits (LookSignal Sent (look_at 0 1) ∷ ReadHeader 0 0 4 ∷ ReadHeader 0 1 15 ∷ ReadHeader 0 2 4 ∷ LowerSignal Sent 0 ∷ []) }
+    ensures all_down { Permits (LookSignal Sent (look_at 0 1) ∷ ReadHeader 0 0 4 ∷ ReadHeader 0 1 15 ∷ ReadHeader 0 2 4
+        ∷ LowerSignal Sent 0 ∷ []) }
     ensures longest { Permits (reads_plain 0 65536 ++ LowerSignal Sent 0 ∷ []) }
-    ensures unordered { Permits (LookSignal Sent (look_at 0 1) ∷ ReadHeader 0 2 4 ∷ ReadHeader 0 0 0 ∷ ReadHeader 0 1 0 ∷ LowerSignal Sent 0 ∷ []) }
+    ensures unordered { Permits (LookSignal Sent (look_at 0 1) ∷ ReadHeader 0 2 4 ∷ ReadHeader 0 0 0 ∷ ReadHeader 0 1 0
+        ∷ LowerSignal Sent 0 ∷ []) }
     ensures later { Permits (takes_first ++ LookSignal Sent (look_at 0 1) ∷ LowerSignal Sent 0 ∷ []) }
 {}

@@ -46,7 +46,8 @@ pub fn chunk_is_whole()
 /// The bytes of the chunk's last line past its end are zero.
 pub fn padding_is_zero()
     ensures word { Refuses (drafts_line 0 0 4 0 ++ drafts_words 4294967296) (RaiseSignal Sent 1) }
-    ensures line { Refuses (drafts_line 0 0 4 0 ++ DraftChunk 3 1 ∷ DraftChunk 2 0 ∷ DraftChunk 1 0 ∷ DraftChunk 0 7 ∷ []) (RaiseSignal Sent 1) }
+    ensures line { Refuses (drafts_line 0 0 4 0 ++ DraftChunk 3 1 ∷ DraftChunk 2 0 ∷ DraftChunk 1 0 ∷ DraftChunk 0 7
+        ∷ []) (RaiseSignal Sent 1) }
     ensures second { Refuses (sends_first ++ drafts_words 256) (RaiseSignal Sent 1) }
 {}
 
@@ -74,7 +75,8 @@ pub fn ready_is_seen()
 /// `sent` is lowered only where it was seen set, for each chunk anew.
 pub fn sent_is_seen()
     ensures never { Refuses [] (LowerSignal Sent 0) }
-    ensures clear { Refuses (LookSignal Sent (look_at 0 0) ∷ ReadHeader 0 0 0 ∷ ReadHeader 0 1 0 ∷ ReadHeader 0 2 4 ∷ []) (LowerSignal Sent 0) }
+    ensures clear { Refuses (LookSignal Sent (look_at 0 0) ∷ ReadHeader 0 0 0 ∷ ReadHeader 0 1 0 ∷ ReadHeader 0 2 4
+        ∷ []) (LowerSignal Sent 0) }
     ensures other { Refuses reads_head (LowerSignal Sent 1) }
     ensures twice { Refuses begins_taking (LowerSignal Sent 0) }
     ensures second { Refuses takes_first (LowerSignal Sent 0) }
@@ -85,11 +87,15 @@ pub fn head_is_read()
     ensures kind { Refuses (LookSignal Sent (look_at 0 1) ∷ ReadHeader 0 1 0 ∷ ReadHeader 0 2 4 ∷ []) (LowerSignal Sent 0) }
     ensures comm { Refuses (LookSignal Sent (look_at 0 1) ∷ ReadHeader 0 0 0 ∷ ReadHeader 0 2 4 ∷ []) (LowerSignal Sent 0) }
     ensures short { Refuses (LookSignal Sent (look_at 0 1) ∷ ReadHeader 0 0 0 ∷ ReadHeader 0 1 0 ∷ []) (LowerSignal Sent 0) }
-    ensures invalid_kind { Refuses (LookSignal Sent (look_at 0 1) ∷ ReadHeader 0 0 5 ∷ ReadHeader 0 1 0 ∷ ReadHeader 0 2 4 ∷ []) (LowerSignal Sent 0) }
-    ensures invalid_comm { Refuses (LookSignal Sent (look_at 0 1) ∷ ReadHeader 0 0 1 ∷ ReadHeader 0 1 16 ∷ ReadHeader 0 2 4 ∷ []) (LowerSignal Sent 0) }
-    ensures invalid_plain { Refuses (LookSignal Sent (look_at 0 1) ∷ ReadHeader 0 0 0 ∷ ReadHeader 0 1 1 ∷ ReadHeader 0 2 4 ∷ []) (LowerSignal Sent 0) }
+    ensures invalid_kind { Refuses (LookSignal Sent (look_at 0 1) ∷ ReadHeader 0 0 5 ∷ ReadHeader 0 1 0 ∷ ReadHeader 0 2 4
+        ∷ []) (LowerSignal Sent 0) }
+    ensures invalid_comm { Refuses (LookSignal Sent (look_at 0 1) ∷ ReadHeader 0 0 1 ∷ ReadHeader 0 1 16 ∷ ReadHeader 0 2 4
+        ∷ []) (LowerSignal Sent 0) }
+    ensures invalid_plain { Refuses (LookSignal Sent (look_at 0 1) ∷ ReadHeader 0 0 0 ∷ ReadHeader 0 1 1 ∷ ReadHeader 0 2 4
+        ∷ []) (LowerSignal Sent 0) }
     ensures invalid_len { Refuses (reads_plain 0 65537) (LowerSignal Sent 0) }
-    ensures before { Refuses (ReadHeader 0 0 0 ∷ ReadHeader 0 1 0 ∷ ReadHeader 0 2 4 ∷ LookSignal Sent (look_at 0 1) ∷ []) (LowerSignal Sent 0) }
+    ensures before { Refuses (ReadHeader 0 0 0 ∷ ReadHeader 0 1 0 ∷ ReadHeader 0 2 4 ∷ LookSignal Sent (look_at 0 1)
+        ∷ []) (LowerSignal Sent 0) }
     ensures anew { Refuses (reads_head ++ LookSignal Sent (look_at 0 1) ∷ []) (LowerSignal Sent 0) }
     ensures other { Refuses (LookSignal Sent (look_at 0 1) ∷ reads_plain 2 4) (LowerSignal Sent 0) }
 {}
@@ -250,10 +256,13 @@ pub fn bits_are_held()
 
 /// Under one hold a word of bit flags is stored once for each load of it, and by what it was at the last.
 pub fn bits_are_loaded_anew()
-    ensures sent { RefusesEvent two_ranks_bits 1 (sets_bit ++ loads 1 1 1 1 1 ∷ takes 1 1 ∷ loads 1 1 1 1 1 ∷ stores 1 1 1 1 0 ∷ drafts_empty 1 1) (stores 1 0 1 0 2) }
-    ensures ready { RefusesEvent two_ranks_bits 0 (takes_bit ++ takes 0 1 ∷ loads 0 1 1 1 0 ∷ stores 0 1 1 1 1 ∷ takes_bit) (stores 0 1 1 1 1) }
+    ensures sent { RefusesEvent two_ranks_bits 1 (sets_bit ++ loads 1 1 1 1 1 ∷ takes 1 1 ∷ loads 1 1 1 1 1 ∷ stores 1 1 1 1 0
+        ∷ drafts_empty 1 1) (stores 1 0 1 0 2) }
+    ensures ready { RefusesEvent two_ranks_bits 0 (takes_bit ++ takes 0 1 ∷ loads 0 1 1 1 0 ∷ stores 0 1 1 1 1
+        ∷ takes_bit) (stores 0 1 1 1 1) }
     ensures last_sent { RefusesEvent two_ranks_bits 1 (holds_draft ++ loads 1 0 1 0 0 ∷ loads 1 0 1 0 4 ∷ []) (stores 1 0 1 0 2) }
-    ensures last_ready { RefusesEvent two_ranks_bits 0 (takes_bit ++ takes 0 1 ∷ loads 0 1 1 1 0 ∷ loads 0 1 1 1 4 ∷ []) (stores 0 1 1 1 1) }
+    ensures last_ready { RefusesEvent two_ranks_bits 0 (takes_bit ++ takes 0 1 ∷ loads 0 1 1 1 0 ∷ loads 0 1 1 1 4
+        ∷ []) (stores 0 1 1 1 1) }
 {}
 
 /// A store of a word of bit flags changes one bit, which is the move's: the own one is set at another core.
@@ -273,19 +282,24 @@ pub fn one_bit_is_cleared()
     ensures more { RefusesEvent two_ranks_bits 0 (sees_bit ++ takes 0 0 ∷ loads 0 0 1 0 2 ∷ []) (stores 0 0 1 0 1) }
     ensures none { RefusesEvent two_ranks_bits 0 (sees_bit ++ takes 0 0 ∷ loads 0 0 1 0 2 ∷ []) (stores 0 0 1 0 2) }
     ensures is_clear { RefusesEvent two_ranks_bits 0 (sees_bit ++ takes 0 0 ∷ loads 0 0 1 0 4 ∷ []) (stores 0 0 1 0 2) }
-    ensures unseen { RefusesEvent three_ranks_bits 0 (loads 0 0 1 0 2 ∷ reads_empty 0 2 ++ takes 0 0 ∷ loads 0 0 1 0 6 ∷ []) (stores 0 0 1 0 2) }
+    ensures unseen { RefusesEvent three_ranks_bits 0 (loads 0 0 1 0 2 ∷ reads_empty 0 2 ++ takes 0 0 ∷ loads 0 0 1 0 6
+        ∷ []) (stores 0 0 1 0 2) }
     ensures other_core { RefusesEvent two_ranks_bits 0 (sees_bit ++ takes 0 1 ∷ loads 0 1 1 0 2 ∷ []) (stores 0 1 1 0 0) }
     ensures ready_two { RefusesEvent two_ranks_bits 1 (sets_bit ++ loads 1 1 1 1 1 ∷ takes 1 1 ∷ loads 1 1 1 1 5 ∷ []) (stores 1 1 1 1 0) }
-    ensures ready_is_clear { RefusesEvent two_ranks_bits 1 (sets_bit ++ loads 1 1 1 1 1 ∷ takes 1 1 ∷ loads 1 1 1 1 2 ∷ []) (stores 1 1 1 1 1) }
+    ensures ready_is_clear { RefusesEvent two_ranks_bits 1 (sets_bit ++ loads 1 1 1 1 1 ∷ takes 1 1 ∷ loads 1 1 1 1 2
+        ∷ []) (stores 1 1 1 1 1) }
 {}
 
 /// A look at bit flags is a load at the own core while its register is not held.
 pub fn bits_are_looked_at()
     ensures sent_held { RefusesEvent two_ranks_bits 0 (takes 0 0 ∷ loads 0 0 1 0 2 ∷ reads_empty 0 1) (stores 0 0 1 0 0) }
-    ensures sent_elsewhere { RefusesEvent two_ranks_bits 0 (loads 0 1 1 0 2 ∷ reads_empty 0 1 ++ takes 0 0 ∷ loads 0 0 1 0 2 ∷ []) (stores 0 0 1 0 0) }
+    ensures sent_elsewhere { RefusesEvent two_ranks_bits 0 (loads 0 1 1 0 2 ∷ reads_empty 0 1 ++ takes 0 0 ∷ loads 0 0 1 0 2
+        ∷ []) (stores 0 0 1 0 0) }
     ensures ready_held { RefusesEvent two_ranks_bits 1 (sets_bit ++ takes 1 1 ∷ loads 1 1 1 1 1 ∷ []) (stores 1 1 1 1 0) }
-    ensures ready_other { RefusesEvent two_ranks_bits 1 (sets_bit ++ loads 1 1 1 1 4 ∷ takes 1 1 ∷ loads 1 1 1 1 1 ∷ []) (stores 1 1 1 1 0) }
-    ensures ready_elsewhere { RefusesEvent two_ranks_bits 1 (sets_bit ++ frees 1 0 ∷ loads 1 0 1 1 1 ∷ takes 1 1 ∷ loads 1 1 1 1 1 ∷ []) (stores 1 1 1 1 0) }
+    ensures ready_other { RefusesEvent two_ranks_bits 1 (sets_bit ++ loads 1 1 1 1 4 ∷ takes 1 1 ∷ loads 1 1 1 1 1
+        ∷ []) (stores 1 1 1 1 0) }
+    ensures ready_elsewhere { RefusesEvent two_ranks_bits 1 (sets_bit ++ frees 1 0 ∷ loads 1 0 1 1 1 ∷ takes 1 1 ∷ loads 1 1 1 1 1
+        ∷ []) (stores 1 1 1 1 0) }
 {}
 
 /// A look at a line flag is a load of the own flag that answers 1.

@@ -15,7 +15,7 @@ use Rattle.sync_flags.specs.Flags.{FlagView, flag_of, flag_value}
 use Rattle.sync_flags.specs.Writes.{MayWrite, WritesFlag, vain_takes, change_events}
 use Rattle.sync_flags.proofs.HeapStores.{heap_store_may, heap_bit_may}
 use Rattle.sync_flags.proofs.WriteLemmas.{written_seat}
-use Rattle.scc_rows.specs.Rests.{IsAtRest}
+use Rattle.scc_rows.specs.Rests.{IsPortAtRest}
 use Rattle.scc_rows.specs.Writers.{MayTake}
 use Rattle.scc_rows.proofs.RestLemmas.{load_keeps, did_keeps, store_rests}
 
@@ -53,19 +53,19 @@ module _ (seat : Seat) (valid : IsSetup seat.setup) (r : ℕ) (lt : r < seat.set
       ∙ change_keeps (record_on seat rec (vain_takes (host_of seat.setup.hosts r) n)) b set words (vain_keep seat rec (host_of seat.setup.hosts r) n idle)
 
 pub flag_rests : (s t : Sight) (c d : Private) (r : ℕ) (f : FlagView) (set : Bool) (polls : ℕ) (result : Result Unit Stalled) → WritesFlag s c (flag_of s.seat.setup r f) f.bit set polls t d result
-    → IsAtRest s → r < 2 → 225 ≤ f.line → IsAtRest t
+    → IsPortAtRest s → r < 2 → 225 ≤ f.line → IsPortAtRest t
 flag_rests s t c d r f set polls result writes rest lt high = by f.bit result writes
   where
     below : r < s.seat.setup.nue
     below = subst (λ n. r < n) (sym rest.two) lt
 
-    by : (bit : Option ℕ) (x : Result Unit Stalled) → WritesFlag s c (flag_of s.seat.setup r f) bit set polls t d x → IsAtRest t
+    by : (bit : Option ℕ) (x : Result Unit Stalled) → WritesFlag s c (flag_of s.seat.setup r f) bit set polls t d x → IsPortAtRest t
     by None (Ok done) w = store_rests s (flag_of s.seat.setup r f) r (flag_value set) t w.did rest lt refl high
     by None (Err stalled) w = absurd w
     by (Some b) (Ok done) w = did_keeps s _ t w.did rest (tries_keep s.seat rest.valid r below f high (record_in s) w.vain b set w.words rest.idle)
     by (Some b) (Err stalled) w = did_keeps s _ t w.0.did rest (vain_keep s.seat (record_in s) (host_of s.seat.setup.hosts r) polls rest.idle)
 
-pub may_write_flag : (s : Sight) (r : ℕ) (f : FlagView) (set : Bool) → IsAtRest s → r < 2 → 225 ≤ f.line → MayTake s r f → MayWrite s.seat (record_in s) (flag_of s.seat.setup r f) f.bit set
+pub may_write_flag : (s : Sight) (r : ℕ) (f : FlagView) (set : Bool) → IsPortAtRest s → r < 2 → 225 ≤ f.line → MayTake s r f → MayWrite s.seat (record_in s) (flag_of s.seat.setup r f) f.bit set
 may_write_flag s r f set rest lt high free = by f.bit free
   where
     below : r < s.seat.setup.nue

@@ -13,9 +13,9 @@ use Rattle.scc_mesh.specs.SeatViews.{View, list_or_none, without}
 use Rattle.scc_mesh.specs.AwayRanks.{Ticket}
 use Rattle.scc_mesh.specs.Scenes.{ChipView, about_in, home_in, events_in, with_home, sight_away}
 use Rattle.scc_mesh.proofs.ViewLemmas.{known_there}
-use Rattle.scc_rows.specs.Rests.{IsNewPair, IsAtRest, IsWithout}
+use Rattle.scc_rows.specs.Rests.{IsNewPair, IsPortAtRest, IsWithout}
 
-none_rests : (s : Sight) → IsSetup s.seat.setup → s.seat.setup.nue ≡ 2 → s.events ≡ [] → IsAtRest s
+none_rests : (s : Sight) → IsSetup s.seat.setup → s.seat.setup.nue ≡ 2 → s.events ≡ [] → IsPortAtRest s
 unfolding record_in
 none_rests s valid two none = record {
   valid = valid;
@@ -23,7 +23,7 @@ none_rests s valid two none = record {
   idle = ap (λ (es : List Event). (record_of s.seat.setup s.seat.rank es).stage) none ∙ ap (λ (x : Record). x.stage) (record_of-nil s.seat.setup s.seat.rank);
 }
 
-pub away_rests : (chip : ChipView) (s : SetupView) (ticket : Ticket) → IsNewPair chip → s ≡ about_in chip → ticket.events ≡ [] → IsAtRest (sight_away s ticket)
+pub away_rests : (chip : ChipView) (s : SetupView) (ticket : Ticket) → IsNewPair chip → s ≡ about_in chip → ticket.events ≡ [] → IsPortAtRest (sight_away s ticket)
 away_rests chip s ticket pair about none = none_rests (sight_away s ticket)
     (subst (λ (x : SetupView). IsSetup x) (sym about) pair.valid) (ap (λ (x : SetupView). x.nue) about ∙ pair.two) none
 
@@ -50,6 +50,6 @@ second_list None r q zero one pair = pair.new.empty q
 second_list (Some scene) r q zero one pair = ap list_or_none (known_there scene.home r None q (λ e. one_not_zero (sym one ∙ e ∙ zero))) ∙ pair.new.empty q
 
 -- a call that is refused leaves the port as it was
-pub either_rests : {T E P : Type 0} (r : Result T E) (s t : Sight) → OnErr r (t ≡ s) → OnOk r P → (P → IsAtRest t) → IsAtRest s → IsAtRest t
+pub either_rests : {T E P : Type 0} (r : Result T E) (s t : Sight) → OnErr r (t ≡ s) → OnOk r P → (P → IsPortAtRest t) → IsPortAtRest s → IsPortAtRest t
 either_rests (Ok x) s t refused done rests rest = rests done
-either_rests (Err x) s t refused done rests rest = subst (λ (x : Sight). IsAtRest x) (sym refused) rest
+either_rests (Err x) s t refused done rests rest = subst (λ (x : Sight). IsPortAtRest x) (sym refused) rest

@@ -21,7 +21,7 @@ use Rattle.scc_proto.specs.Words.{Role, HeapWord, IdleWord, role_of, role_where,
 use Rattle.scc_proto.specs.Records.{Moving, Holding, flags_in, act_of, act_by, after_act, load_act, store_act, permits_act, permits_by, chunk_of, record_after, record_from, record_of}
 use Rattle.scc_proto.specs.Ports.{Sight, IsSoundPort, record_in}
 use Rattle.tas_lock.specs.Holds.{IsNotHolding}
-use Rattle.scc_rows.specs.Quiet.{is_quiet, are_quiet, IsQuietRecord}
+use Rattle.scc_rows.specs.Quiet.{is_quiet_access, are_quiet, IsQuietRecord}
 
 both : (a b : Bool) → (a && b) ≡ true → (a ≡ true) × (b ≡ true)
 both true b t = (refl, t)
@@ -97,7 +97,7 @@ heap_move size place value rec q = record { stage = q.stage; post = q.post; note
 take_quiet : (size core : ℕ) (rec : Record) → IsQuietRecord rec → IsQuietRecord (record rec { held = put rec.held core (Some (record { sent = None; ready = None })) })
 take_quiet size core rec q = held_quiet rec core (Some (record { sent = None; ready = None })) none_noted q
 
-quiet_by : (s : SetupView) (me : ℕ) (rec : Record) (access : Access) (place : WordAt) (value : ℕ) → is_quiet access place ≡ true → IsQuietRecord rec
+quiet_by : (s : SetupView) (me : ℕ) (rec : Record) (access : Access) (place : WordAt) (value : ℕ) → is_quiet_access access place ≡ true → IsQuietRecord rec
     → IsQuietRecord (if permits_by s me rec access place value then after_act (chunk_of s) (act_by s me rec access place value) rec else rec)
 quiet_by s me rec Load place value h q =
     by_role s place (λ (role : Role). IsQuietRecord (after_act (chunk_of s) (load_act s me rec place value role) rec)) h
@@ -114,14 +114,14 @@ quiet_by s me rec Take place value h q = either (is_none (rec.held place.core)) 
     taken false = no_move (chunk_of s) rec q
 quiet_by s me rec Free place value h q = either (is_some (rec.held place.core)) _ rec (held_quiet rec place.core None (λ signal. refl) q) q
 
-quiet_after : (s : SetupView) (me : ℕ) (rec : Record) (e : Event) → is_quiet e.access e.place ≡ true → IsQuietRecord rec → IsQuietRecord (record_after s me rec e)
+quiet_after : (s : SetupView) (me : ℕ) (rec : Record) (e : Event) → is_quiet_access e.access e.place ≡ true → IsQuietRecord rec → IsQuietRecord (record_after s me rec e)
 unfolding act_of
 quiet_after s me rec e h q = quiet_by s me rec e.access e.place e.value h q
 
 quiet_from : (s : SetupView) (me : ℕ) (rec : Record) (events : List Event) → are_quiet events ≡ true → IsQuietRecord rec → IsQuietRecord (record_from s me rec events)
 quiet_from s me rec [] h q = q
 quiet_from s me rec (e ∷ es) h q =
-    let each = both (is_quiet e.access e.place) (are_quiet es) h in
+    let each = both (is_quiet_access e.access e.place) (are_quiet es) h in
     quiet_from s me (record_after s me rec e) es each.1 (quiet_after s me rec e each.0 q)
 
 blank_quiet : IsQuietRecord blank
@@ -145,15 +145,15 @@ quiet_sound sight h = let q = quiet_record sight h in record {
     clash : {A : Type 0} {o : Option A} {x : A} → o ≡ None → o ≡ Some x → ⊥
     clash none some = absurd (cc)
 
-pub quiet_push : (events : List Event) (e : Event) → are_quiet events ≡ true → is_quiet e.access e.place ≡ true → are_quiet (events ++ e ∷ []) ≡ true
+pub quiet_push : (events : List Event) (e : Event) → are_quiet events ≡ true → is_quiet_access e.access e.place ≡ true → are_quiet (events ++ e ∷ []) ≡ true
 quiet_push [] e h one = λ i. one i && true
 quiet_push (first ∷ rest) e h one =
-    let each = both (is_quiet first.access first.place) (are_quiet rest) h in
+    let each = both (is_quiet_access first.access first.place) (are_quiet rest) h in
     λ i. each.0 i && quiet_push rest e each.1 one i
 
 -- a list to which an event was pushed, or for which there was no memory
 pub quiet_pushed : (events new : List Event) (ok : Bool) (e : Event) → new ≡ (if ok then events ++ e ∷ [] else events) → are_quiet events ≡ true
-    → is_quiet e.access e.place ≡ true → are_quiet new ≡ true
+    → is_quiet_access e.access e.place ≡ true → are_quiet new ≡ true
 quiet_pushed events new true e is h one = ap (λ (es : List Event). are_quiet es) is ∙ quiet_push events e h one
 quiet_pushed events new false e is h one = ap (λ (es : List Event). are_quiet es) is ∙ h
 

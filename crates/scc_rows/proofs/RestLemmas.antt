@@ -20,7 +20,7 @@ use Rattle.put_get.specs.Cores.{Private, Fetch, Held, Loaded, ReadsWord, ReadsLi
 use Rattle.put_get.specs.Transfers.{line_at, put_stores, Puts, Gets, ReadsLines}
 use Rattle.put_get.specs.HeapStores.{IsHeapLine, AwaitsHeap, LeavesStage}
 use Rattle.put_get.proofs.HeapLemmas.{law, store_leaves}
-use Rattle.scc_rows.specs.Rests.{IsAtRest}
+use Rattle.scc_rows.specs.Rests.{IsPortAtRest}
 
 either : (size : ℕ) (rec : Record) (b : Bool) (m n : Move) → stage_after size m rec ≡ Idle → stage_after size n rec ≡ Idle → stage_after size (if b then m else n) rec ≡ Idle
 either size rec true m n x y = x
@@ -56,44 +56,44 @@ module _ (seat : Seat) (rec : Record) (place : WordAt) (value : ℕ) (idle : rec
   load_keeps = by_role (role_of seat.setup place)
 
 -- events leave a port at rest where its stage stays idle
-pub did_keeps : (s : Sight) (es : List Event) (t : Sight) → Did s es t → IsAtRest s → (record_on s.seat (record_in s) es).stage ≡ Idle → IsAtRest t
+pub did_keeps : (s : Sight) (es : List Event) (t : Sight) → Did s es t → IsPortAtRest s → (record_on s.seat (record_in s) es).stage ≡ Idle → IsPortAtRest t
 did_keeps s es t did rest idle = record {
   valid = subst (λ (x : Seat). IsSetup x.setup) (sym (seat_kept s es t did)) rest.valid;
   two = ap (λ (x : Seat). x.setup.nue) (seat_kept s es t did) ∙ rest.two;
   idle = ap (λ (x : Record). x.stage) (record_did s es t did) ∙ idle;
 }
 
-line_loaded : (s : Sight) (line : LineAt) (words : List ℕ) (t : Sight) → Did s (loads_of line words) t → IsAtRest s → IsAtRest t
+line_loaded : (s : Sight) (line : LineAt) (words : List ℕ) (t : Sight) → Did s (loads_of line words) t → IsPortAtRest s → IsPortAtRest t
 line_loaded s line words t did rest =
     did_keeps s (loads_of line words) t did rest
     (load_keeps s.seat _ _ _ (load_keeps s.seat _ _ _ (load_keeps s.seat _ _ _ (load_keeps s.seat (record_in s) _ _ rest.idle))))
 
-fetch_rests : (s : Sight) (c : Private) (line : LineAt) (words : List ℕ) (t : Sight) (d : Private) → Fetch s c line words t d → IsAtRest s → IsAtRest t
-fetch_rests s c line words t d (Held h e f) rest = subst (λ (x : Sight). IsAtRest x) (sym e) rest
+fetch_rests : (s : Sight) (c : Private) (line : LineAt) (words : List ℕ) (t : Sight) (d : Private) → Fetch s c line words t d → IsPortAtRest s → IsPortAtRest t
+fetch_rests s c line words t d (Held h e f) rest = subst (λ (x : Sight). IsPortAtRest x) (sym e) rest
 fetch_rests s c line words t d (Loaded h len did fills) rest = line_loaded s line words t did rest
 
-pub word_rests : (s : Sight) (c : Private) (p : WordAt) (v : ℕ) (t : Sight) (d : Private) → ReadsWord s c p v t d → IsAtRest s → IsAtRest t
+pub word_rests : (s : Sight) (c : Private) (p : WordAt) (v : ℕ) (t : Sight) (d : Private) → ReadsWord s c p v t d → IsPortAtRest s → IsPortAtRest t
 word_rests s c p v t d reads rest = fetch_rests s c _ reads.words t d reads.fetch rest
 
-line_rests : (s : Sight) (c : Private) (line : LineAt) (words : List ℕ) (t : Sight) (d : Private) → ReadsLine s c line words t d → IsAtRest s → IsAtRest t
+line_rests : (s : Sight) (c : Private) (line : LineAt) (words : List ℕ) (t : Sight) (d : Private) → ReadsLine s c line words t d → IsPortAtRest s → IsPortAtRest t
 line_rests s c line words t d reads rest =
     word_rests reads.s3 reads.c3 _ _ t d reads.word3
     (word_rests reads.s2 reads.c2 _ _ reads.s3 reads.c3 reads.word2
     (word_rests reads.s1 reads.c1 _ _ reads.s2 reads.c2 reads.word1
     (word_rests s c _ _ reads.s1 reads.c1 reads.word0 rest)))
 
-lines_rest : (s : Sight) (c : Private) (core line : ℕ) (dst : List (List ℕ)) (t : Sight) (d : Private) → ReadsLines s c core line dst t d → IsAtRest s → IsAtRest t
-lines_rest s c core line [] t d reads rest = subst (λ (x : Sight). IsAtRest x) (sym reads.0) rest
+lines_rest : (s : Sight) (c : Private) (core line : ℕ) (dst : List (List ℕ)) (t : Sight) (d : Private) → ReadsLines s c core line dst t d → IsPortAtRest s → IsPortAtRest t
+lines_rest s c core line [] t d reads rest = subst (λ (x : Sight). IsPortAtRest x) (sym reads.0) rest
 lines_rest s c core line (words ∷ dst) t d reads rest =
     let (s1, c1, first, others) = reads in
     lines_rest s1 c1 core (line + 1) dst t d others (line_rests s c (line_at core line) words s1 c1 first rest)
 
-pub gets_rest : (s : Sight) (c : Private) (core line : ℕ) (dst : List (List ℕ)) (t : Sight) (d : Private) → Gets s c core line dst t d → IsAtRest s → IsAtRest t
+pub gets_rest : (s : Sight) (c : Private) (core line : ℕ) (dst : List (List ℕ)) (t : Sight) (d : Private) → Gets s c core line dst t d → IsPortAtRest s → IsPortAtRest t
 gets_rest s c core line dst t d gets rest = lines_rest s _ core line dst t d gets.reads rest
 
 -- ---- stores into the heap
 
-module _ (s : Sight) (rest : IsAtRest s) where
+module _ (s : Sight) (rest : IsPortAtRest s) where
   leaves : leaves_heap (record_in s).stage ≡ true
   leaves = ap leaves_heap rest.idle
 
@@ -101,7 +101,7 @@ module _ (s : Sight) (rest : IsAtRest s) where
   below r lt = subst (λ n. r < n) (sym rest.two) lt
 
   -- events that leave the stage leave the port at rest
-  stage_kept : (es : List Event) (t : Sight) → Did s es t → LeavesStage s.seat (record_in s) es → IsAtRest t
+  stage_kept : (es : List Event) (t : Sight) → Did s es t → LeavesStage s.seat (record_in s) es → IsPortAtRest t
   stage_kept es t did kept = did_keeps s es t did rest (kept.stage ∙ rest.idle)
 
   heap_line : (line : LineAt) (r : ℕ) → r < 2 → line.core ≡ host_of s.seat.setup.hosts r → 225 ≤ line.line → IsHeapLine s.seat.setup line
@@ -116,36 +116,36 @@ module _ (s : Sight) (rest : IsAtRest s) where
   flush_kept : (out : Option Out) → AwaitsHeap s.seat.setup out → LeavesStage s.seat (record_in s) (stores_of out)
   flush_kept out awaits = law.flush s.seat (record_in s) out rest.valid leaves awaits
 
-pub may_put : (s : Sight) (r line : ℕ) (src : List (List ℕ)) → IsAtRest s → r < 2 → 225 ≤ line
+pub may_put : (s : Sight) (r line : ℕ) (src : List (List ℕ)) → IsPortAtRest s → r < 2 → 225 ≤ line
     → MayMakeAll s.seat (record_in s) (put_stores (host_of s.seat.setup.hosts r) line src)
 may_put s r line src rest lt high = (put_kept s rest r line src lt high).permitted
 
 pub put_rests : (s : Sight) (c : Private) (r line : ℕ) (src : List (List ℕ)) (t : Sight) (d : Private)
-    → Puts s c (host_of s.seat.setup.hosts r) line src t d → IsAtRest s → r < 2 → 225 ≤ line → IsAtRest t
+    → Puts s c (host_of s.seat.setup.hosts r) line src t d → IsPortAtRest s → r < 2 → 225 ≤ line → IsPortAtRest t
 put_rests s c r line src t d puts rest lt high = stage_kept s rest _ t puts.did (put_kept s rest r line src lt high)
 
-pub may_hand_out : (s : Sight) (out : Option Out) (line : LineAt) → IsAtRest s → AwaitsHeap s.seat.setup out
+pub may_hand_out : (s : Sight) (out : Option Out) (line : LineAt) → IsPortAtRest s → AwaitsHeap s.seat.setup out
     → MayMakeAll s.seat (record_in s) (stores_of (handed_out out line))
 may_hand_out s out line rest awaits = (write_kept s rest out line awaits).permitted
 
-pub may_flush : (s : Sight) (out : Option Out) → IsAtRest s → AwaitsHeap s.seat.setup out → MayMakeAll s.seat (record_in s) (stores_of out)
+pub may_flush : (s : Sight) (out : Option Out) → IsPortAtRest s → AwaitsHeap s.seat.setup out → MayMakeAll s.seat (record_in s) (stores_of out)
 may_flush s out rest awaits = (flush_kept s rest out awaits).permitted
 
-pub write_rests : (s : Sight) (c : Private) (p : WordAt) (v : ℕ) (t : Sight) (d : Private) → Writes s c p v t d → IsAtRest s
-    → AwaitsHeap s.seat.setup c.out → IsAtRest t
+pub write_rests : (s : Sight) (c : Private) (p : WordAt) (v : ℕ) (t : Sight) (d : Private) → Writes s c p v t d → IsPortAtRest s
+    → AwaitsHeap s.seat.setup c.out → IsPortAtRest t
 write_rests s c p v t d writes rest awaits = stage_kept s rest _ t writes.did (write_kept s rest c.out (line_of_word p) awaits)
 
-pub write_awaits : (s : Sight) (c : Private) (p : WordAt) (v r : ℕ) (t : Sight) (d : Private) → Writes s c p v t d → IsAtRest s
+pub write_awaits : (s : Sight) (c : Private) (p : WordAt) (v r : ℕ) (t : Sight) (d : Private) → Writes s c p v t d → IsPortAtRest s
     → AwaitsHeap s.seat.setup c.out → r < 2 → p.core ≡ host_of s.seat.setup.hosts r → 225 ≤ p.line → AwaitsHeap t.seat.setup d.out
 write_awaits s c p v r t d writes rest awaits lt on high =
     subst (λ (x : Seat). AwaitsHeap x.setup d.out) (sym (seat_kept s _ t writes.did))
     (subst (λ (x : Option Out). AwaitsHeap s.seat.setup x) (sym (ap (λ (x : Private). x.out) writes.is))
     (law.word_held s.seat.setup c.out p v awaits (heap_line s rest (line_of_word p) r lt on high)))
 
-pub flush_rests : (s : Sight) (c : Private) (t : Sight) (d : Private) → Flushes s c t d → IsAtRest s → AwaitsHeap s.seat.setup c.out → IsAtRest t
+pub flush_rests : (s : Sight) (c : Private) (t : Sight) (d : Private) → Flushes s c t d → IsPortAtRest s → AwaitsHeap s.seat.setup c.out → IsPortAtRest t
 flush_rests s c t d flushes rest awaits = stage_kept s rest _ t flushes.did (flush_kept s rest c.out awaits)
 
-pub store_rests : (s : Sight) (p : WordAt) (r value : ℕ) (t : Sight) → Did s (store_of p value ∷ []) t → IsAtRest s → r < 2
-    → p.core ≡ host_of s.seat.setup.hosts r → 225 ≤ p.line → IsAtRest t
+pub store_rests : (s : Sight) (p : WordAt) (r value : ℕ) (t : Sight) → Did s (store_of p value ∷ []) t → IsPortAtRest s → r < 2
+    → p.core ≡ host_of s.seat.setup.hosts r → 225 ≤ p.line → IsPortAtRest t
 store_rests s p r value t did rest lt on high =
     stage_kept s rest _ t did (store_leaves s.seat rest.valid (record_in s) p value (leaves s rest) (heap_line s rest (line_of_word p) r lt on high))

@@ -9,16 +9,16 @@ use Rattle.scc_proto.specs.Stages.{Idle, Record}
 use Rattle.scc_proto.specs.Records.{flags_noted}
 
 -- an access is of a register, or of a word of the heap's lines
-abbrev pub is_quiet : Access → WordAt → Bool
-is_quiet Load place = nat_le first_heap place.line
-is_quiet Store place = nat_le first_heap place.line
-is_quiet Take place = true
-is_quiet Free place = true
+abbrev pub is_quiet_access : Access → WordAt → Bool
+is_quiet_access Load place = nat_le first_heap place.line
+is_quiet_access Store place = nat_le first_heap place.line
+is_quiet_access Take place = true
+is_quiet_access Free place = true
 
 -- each event is an access to a register, or to a word of the heap's lines
 abbrev pub are_quiet : List Event → Bool
 are_quiet [] = true
-are_quiet (e ∷ es) = is_quiet e.access e.place && are_quiet es
+are_quiet (e ∷ es) = is_quiet_access e.access e.place && are_quiet es
 
 -- the record of such events: nothing is open, no rank was seen, and no flag word was noted
 pub record IsQuietRecord (rec : Record) : Type 0 where

@@ -12,7 +12,7 @@ pub record IsNewPair (chip : ChipView) : Type 0 where
   pub two : (about_in chip).nue ≡ 2
 
 -- a port of one of two ranks, with no message and no barrier under way
-pub record IsAtRest (s : Sight) : Type 0 where
+pub record IsPortAtRest (s : Sight) : Type 0 where
   pub valid : IsSetup s.seat.setup
   pub two : s.seat.setup.nue ≡ 2
   pub idle : (record_in s).stage ≡ Idle

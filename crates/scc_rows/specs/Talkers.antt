@@ -14,7 +14,9 @@ IsAtCall s core slot bytes (Some op) receive = SendStands s core op slot bytes
 IsAtCall s core slot bytes None (Some op) = RecvStands s core op bytes × SlotStands s.seat (record_in s) slot
 IsAtCall s core slot bytes None None = IsBetweenMessages s core slot
 
--- the calls of a rank with its peer stand where its events stand
-pub record IsTalking (s : Sight) (core : Private) (slot : SlotAt) (peer : ℕ) (bytes : List ℕ) (send : Option SendAt) (receive : Option RecvAt) : Type 0 where
+-- the calls of a rank with its peer stand where its events stand. Seven parameters: all that such a rank has: its sight, its
+-- core, its slot, its peer, its bytes, and the send and the receive that are open.
+pub record IsTalking (s : Sight) (core : Private) (slot : SlotAt) (peer : ℕ) (bytes : List ℕ) (send : Option SendAt)
+    (receive : Option RecvAt) : Type 0 where
   pub peers : are_peers s.seat.setup s.seat.rank peer ≡ true
   pub at : IsAtCall s core slot bytes send receive

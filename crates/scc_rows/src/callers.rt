@@ -95,7 +95,8 @@ impl Caller {
         requires stands { SendStands (P.sight port.old) self.old.core op self.old.slot self.old.bytes.items }
         requires not_sending { self.old.sending ≡ None }
         requires not_receiving { self.old.receiving ≡ None }
-        ensures talks { IsTalking (P.sight port.new) self.new.core self.new.slot self.new.peer self.new.bytes.items self.new.sending self.new.receiving }
+        ensures talks { IsTalking (P.sight port.new) self.new.core self.new.slot self.new.peer self.new.bytes.items self.new.sending
+            self.new.receiving }
         ensures did { (events : List Event) × Did (P.sight port.old) events (P.sight port.new) }
     {
         match send(&mut self.core, port, &mut self.slot, op, &self.bytes, POLLS) {
@@ -116,7 +117,8 @@ impl Caller {
         requires slot_stands { SlotStands (P.sight port.old).seat (record_in (P.sight port.old)) self.old.slot }
         requires not_sending { self.old.sending ≡ None }
         requires not_receiving { self.old.receiving ≡ None }
-        ensures talks { IsTalking (P.sight port.new) self.new.core self.new.slot self.new.peer self.new.bytes.items self.new.sending self.new.receiving }
+        ensures talks { IsTalking (P.sight port.new) self.new.core self.new.slot self.new.peer self.new.bytes.items self.new.sending
+            self.new.receiving }
         ensures did { (events : List Event) × Did (P.sight port.old) events (P.sight port.new) }
     {
         match recv(&mut self.core, port, op, &mut self.bytes, POLLS) {
@@ -140,7 +142,8 @@ impl Caller {
         requires talks { IsTalking (P.sight port.old) self.old.core self.old.slot self.old.peer self.old.bytes.items None None }
         requires not_sending { self.old.sending ≡ None }
         requires not_receiving { self.old.receiving ≡ None }
-        ensures talks { IsTalking (P.sight port.new) self.new.core self.new.slot self.new.peer self.new.bytes.items self.new.sending self.new.receiving }
+        ensures talks { IsTalking (P.sight port.new) self.new.core self.new.slot self.new.peer self.new.bytes.items self.new.sending
+            self.new.receiving }
         ensures did { (events : List Event) × Did (P.sight port.old) events (P.sight port.new) }
     {
         if let Some(head) = head_of(&self.bytes) {
@@ -153,7 +156,8 @@ impl Caller {
         requires talks { IsTalking (P.sight port.old) self.old.core self.old.slot self.old.peer self.old.bytes.items None None }
         requires not_sending { self.old.sending ≡ None }
         requires not_receiving { self.old.receiving ≡ None }
-        ensures talks { IsTalking (P.sight port.new) self.new.core self.new.slot self.new.peer self.new.bytes.items self.new.sending self.new.receiving }
+        ensures talks { IsTalking (P.sight port.new) self.new.core self.new.slot self.new.peer self.new.bytes.items self.new.sending
+            self.new.receiving }
         ensures did { (events : List Event) × Did (P.sight port.old) events (P.sight port.new) }
     {
         if let Some(head) = post_head_of(&self.bytes) {
@@ -166,7 +170,8 @@ impl Caller {
         requires talks { IsTalking (P.sight port.old) self.old.core self.old.slot self.old.peer self.old.bytes.items None None }
         requires not_sending { self.old.sending ≡ None }
         requires not_receiving { self.old.receiving ≡ None }
-        ensures talks { IsTalking (P.sight port.new) self.new.core self.new.slot self.new.peer self.new.bytes.items self.new.sending self.new.receiving }
+        ensures talks { IsTalking (P.sight port.new) self.new.core self.new.slot self.new.peer self.new.bytes.items self.new.sending
+            self.new.receiving }
         ensures did { (events : List Event) × Did (P.sight port.old) events (P.sight port.new) }
     {
         if let Some(head) = head_of(&self.bytes) {
@@ -179,7 +184,8 @@ impl Caller {
         requires talks { IsTalking (P.sight port.old) self.old.core self.old.slot self.old.peer self.old.bytes.items None None }
         requires not_sending { self.old.sending ≡ None }
         requires not_receiving { self.old.receiving ≡ None }
-        ensures talks { IsTalking (P.sight port.new) self.new.core self.new.slot self.new.peer self.new.bytes.items self.new.sending self.new.receiving }
+        ensures talks { IsTalking (P.sight port.new) self.new.core self.new.slot self.new.peer self.new.bytes.items self.new.sending
+            self.new.receiving }
         ensures did { (events : List Event) × Did (P.sight port.old) events (P.sight port.new) }
     {
         let Some(head) = head_of(&self.bytes) else {

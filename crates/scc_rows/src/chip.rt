@@ -1,6 +1,6 @@
 //! A chip with its ports.
 
-ghost use Rattle.scc_rows.specs.Rests.{IsAtRest, IsWithout};
+ghost use Rattle.scc_rows.specs.Rests.{IsPortAtRest, IsWithout};
 
 use crate::fixtures::{Meeting, acquire, free, give_back, shows, store, take};
 use scc_base::{CoreId, Place, Rank};
@@ -36,8 +36,8 @@ fn every_word_is_zero_after_open(rt: HostRuntime) -> Result<(), Fail> {
 
 // Whether a word is 0 for a rank until another stores it, and the word beside it changes nothing.
 fn sees_the_store<P: Port, Q: Port>(port: &mut P, other: &mut Q) -> bool
-    requires rests { IsAtRest (P.sight port.old) }
-    requires other_rests { IsAtRest (Q.sight other.old) }
+    requires rests { IsPortAtRest (P.sight port.old) }
+    requires other_rests { IsPortAtRest (Q.sight other.old) }
 {
     let place = Place::new(CoreId::of(1), 255, 3);
     let early = port.load(place);

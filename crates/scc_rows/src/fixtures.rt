@@ -4,7 +4,7 @@ ghost use Rattle.std.specs.Prelude.{◌≡◌, ◌<◌, ◌≤◌, ℕ, true, fa
 ghost use Rattle.scc_base.specs.Setups.{host_of};
 ghost use Rattle.scc_mesh.specs.Scenes.{sight_away};
 ghost use Rattle.put_get.specs.HeapStores.{AwaitsHeap};
-ghost use Rattle.scc_rows.specs.Rests.{IsNewPair, IsAtRest, IsFresh, IsWithout, Holds};
+ghost use Rattle.scc_rows.specs.Rests.{IsNewPair, IsPortAtRest, IsFresh, IsWithout, Holds};
 
 use line_cache::Evict;
 use put_get::{Core, RangeFault};
@@ -65,8 +65,8 @@ struct Pair<'w> {
 
 fn spread_pair(chip: &mut Chip) -> Pair<'_>
     requires pair { IsNewPair chip.old }
-    ensures first_rests { IsAtRest (sight_away result.first.port.about result.first.port.ticket) }
-    ensures second_rests { IsAtRest (sight_away result.second.port.about result.second.port.ticket) }
+    ensures first_rests { IsPortAtRest (sight_away result.first.port.about result.first.port.ticket) }
+    ensures second_rests { IsPortAtRest (sight_away result.second.port.about result.second.port.ticket) }
     ensures first_fresh { IsFresh (sight_away result.first.port.about result.first.port.ticket) 0 }
     ensures second_fresh { IsFresh (sight_away result.second.port.about result.second.port.ticket) 1 }
     ensures first_without { (core : ℕ) → IsWithout (sight_away result.first.port.about result.first.port.ticket) core }
@@ -84,12 +84,12 @@ fn spread_pair(chip: &mut Chip) -> Pair<'_>
 /// What the two ranks of a new chip do, with no message and no barrier under way before it.
 pub(crate) trait Meeting {
     ghost use Rattle.std.specs.Prelude.{ℕ};
-    ghost use Rattle.scc_rows.specs.Rests.{IsAtRest, IsFresh, IsWithout};
+    ghost use Rattle.scc_rows.specs.Rests.{IsPortAtRest, IsFresh, IsWithout};
 
     /// Whether it goes as it is named.
     fn holds<P: Port, Q: Port>(first: &mut CountingPort<P>, second: &mut CountingPort<Q>) -> bool
-        requires first_rests { IsAtRest (P.sight first.old.port) }
-        requires second_rests { IsAtRest (Q.sight second.old.port) }
+        requires first_rests { IsPortAtRest (P.sight first.old.port) }
+        requires second_rests { IsPortAtRest (Q.sight second.old.port) }
         requires first_fresh { IsFresh (P.sight first.old.port) 0 }
         requires second_fresh { IsFresh (Q.sight second.old.port) 1 }
         requires first_without { (core : ℕ) → IsWithout (P.sight first.old.port) core }
@@ -153,10 +153,10 @@ pub(crate) fn put<P: Port, V: Evict>(
     at: Buf,
     src: &[[u64; 4]],
 ) -> Result<(), RangeFault>
-    requires rests { IsAtRest (P.sight port.old) }
+    requires rests { IsPortAtRest (P.sight port.old) }
     requires empty { core.old.out ≡ None }
     requires below { to < 2 }
-    ensures rests { IsAtRest (P.sight port.new) }
+    ensures rests { IsPortAtRest (P.sight port.new) }
     ensures empty { core.new.out ≡ None }
 {
     let _first = at.first();
@@ -171,10 +171,10 @@ pub(crate) fn get<P: Port, V: Evict>(
     at: Buf,
     dst: &mut [[u64; 4]],
 ) -> Result<(), RangeFault>
-    requires rests { IsAtRest (P.sight port.old) }
+    requires rests { IsPortAtRest (P.sight port.old) }
     requires empty { core.old.out ≡ None }
     requires below { from < 2 }
-    ensures rests { IsAtRest (P.sight port.new) }
+    ensures rests { IsPortAtRest (P.sight port.new) }
     ensures empty { core.new.out ≡ None }
 {
     core.get(port, from, at, dst)
@@ -182,9 +182,9 @@ pub(crate) fn get<P: Port, V: Evict>(
 
 /// Reads a word, by a rank with no message and no barrier under way.
 pub(crate) fn read<P: Port, V: Evict>(core: &mut Core<V>, port: &mut P, place: Place) -> u64
-    requires rests { IsAtRest (P.sight port.old) }
+    requires rests { IsPortAtRest (P.sight port.old) }
     requires empty { core.old.out ≡ None }
-    ensures rests { IsAtRest (P.sight port.new) }
+    ensures rests { IsPortAtRest (P.sight port.new) }
     ensures empty { core.new.out ≡ None }
 {
     core.word_read(port, place)
@@ -192,7 +192,7 @@ pub(crate) fn read<P: Port, V: Evict>(core: &mut Core<V>, port: &mut P, place: P
 
 /// A heap word at a rank's core.
 pub(crate) fn heap_word<P: Port>(port: &P, at: Rank, line: u8, word: u8) -> Place
-    requires rests { IsAtRest (P.sight port.now) }
+    requires rests { IsPortAtRest (P.sight port.now) }
     requires rank_below { at < 2 }
     requires word_below { word < 4 }
     ensures core { result.core ≡ host_of (P.sight port.now).seat.setup.hosts at }
@@ -204,11 +204,11 @@ pub(crate) fn heap_word<P: Port>(port: &P, at: Rank, line: u8, word: u8) -> Plac
 
 /// Stores a heap word, by a rank with no message and no barrier under way.
 pub(crate) fn store<P: Port>(port: &mut P, at: Rank, line: u8, word: u8, value: u64)
-    requires rests { IsAtRest (P.sight port.old) }
+    requires rests { IsPortAtRest (P.sight port.old) }
     requires rank_below { at < 2 }
     requires heap { 225 ≤ line }
     requires word_below { word < 4 }
-    ensures rests { IsAtRest (P.sight port.new) }
+    ensures rests { IsPortAtRest (P.sight port.new) }
 {
     let place = heap_word(port, at, line, word);
     port.store(place, value);
@@ -223,12 +223,12 @@ pub(crate) fn write<P: Port, V: Evict>(
     word: u8,
     value: u64,
 )
-    requires rests { IsAtRest (P.sight port.old) }
+    requires rests { IsPortAtRest (P.sight port.old) }
     requires awaits { AwaitsHeap (P.sight port.old).seat.setup core.old.out }
     requires rank_below { at < 2 }
     requires heap { 225 ≤ line }
     requires word_below { word < 4 }
-    ensures rests { IsAtRest (P.sight port.new) }
+    ensures rests { IsPortAtRest (P.sight port.new) }
     ensures awaits { AwaitsHeap (P.sight port.new).seat.setup core.new.out }
 {
     let place = heap_word(port, at, line, word);
@@ -237,9 +237,9 @@ pub(crate) fn write<P: Port, V: Evict>(
 
 /// Stores what a core's write-combining buffer holds.
 pub(crate) fn flush<P: Port, V: Evict>(core: &mut Core<V>, port: &mut P)
-    requires rests { IsAtRest (P.sight port.old) }
+    requires rests { IsPortAtRest (P.sight port.old) }
     requires awaits { AwaitsHeap (P.sight port.old).seat.setup core.old.out }
-    ensures rests { IsAtRest (P.sight port.new) }
+    ensures rests { IsPortAtRest (P.sight port.new) }
     ensures empty { core.new.out ≡ None }
 {
     core.flush(port);

@@ -1,7 +1,7 @@
 //! Heap flags between the two ranks of a chip.
 
 ghost use Rattle.std.specs.Prelude.{◌≡◌, ◌<◌, ◌≤◌, None};
-ghost use Rattle.scc_rows.specs.Rests.{IsAtRest};
+ghost use Rattle.scc_rows.specs.Rests.{IsPortAtRest};
 ghost use Rattle.scc_rows.specs.Writers.{MayTake};
 
 use crate::fixtures::{Meeting, free, shows, shows_in, take};
@@ -21,13 +21,13 @@ fn write<P: Port, V: Evict>(
     set: bool,
     polls: u32,
 ) -> Result<(), Stalled>
-    requires rests { IsAtRest (P.sight port.old) }
+    requires rests { IsPortAtRest (P.sight port.old) }
     requires free { MayTake (P.sight port.old) at flag }
     requires empty { core.old.out ≡ None }
     requires below { at < 2 }
     requires heap { 225 ≤ flag.line }
     requires some { 1 ≤ polls }
-    ensures rests { IsAtRest (P.sight port.new) }
+    ensures rests { IsPortAtRest (P.sight port.new) }
     ensures free { MayTake (P.sight port.new) at flag }
     ensures empty { core.new.out ≡ None }
 {
@@ -36,7 +36,7 @@ fn write<P: Port, V: Evict>(
 
 /// Whether a flag at a rank is set.
 fn read<P: Port, V: Evict>(core: &mut Core<V>, port: &mut P, at: Rank, flag: Flag) -> bool
-    requires rests { IsAtRest (P.sight port.old) }
+    requires rests { IsPortAtRest (P.sight port.old) }
     requires empty { core.old.out ≡ None }
     requires below { at < 2 }
     ensures empty { core.new.out ≡ None }
@@ -52,7 +52,7 @@ pub(crate) fn stalls(answer: Result<(), Stalled>, spot: Spot, polls: u32) -> boo
 // Whether rank 1 waits in vain for its flag, with this bit of word 0 in line 230, and then sees that rank 0 sets it
 // and clears it again.
 fn is_seen<P: Port, Q: Port>(first: &mut P, second: &mut Q, flag: Flag, bit: u8) -> bool
-    requires rests { IsAtRest (P.sight first.old) }
+    requires rests { IsPortAtRest (P.sight first.old) }
     requires free { MayTake (P.sight first.old) 1 flag }
     requires heap { 225 ≤ flag.line }
 {

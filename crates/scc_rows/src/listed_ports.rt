@@ -1,7 +1,7 @@
 //! A port that keeps its events in a list.
 
 ghost use Rattle.std.specs.Prelude.{◌≡◌, ◌<◌, ◌≤◌, true, [], ◌∷◌, ◌++◌};
-ghost use Rattle.scc_rows.specs.Quiet.{are_quiet, is_quiet};
+ghost use Rattle.scc_rows.specs.Quiet.{are_quiet, is_quiet_access};
 
 use crate::fixtures::world_of;
 use scc_base::{Buf, CoreId, Event, Layout, Place, Rank, Setup};
@@ -30,7 +30,7 @@ fn index_of(p: Place) -> usize
 // Keeps one more event. It ends the test where memory is short.
 fn keep<R: Abort>(rt: &R, events: &mut Vec<Event>, event: Event)
     requires events { are_quiet events.old.items ≡ true }
-    requires event { is_quiet event.access event.place ≡ true }
+    requires event { is_quiet_access event.access event.place ≡ true }
     ensures kept { events.new.items ≡ events.old.items ++ event ∷ [] }
     ensures quiet { are_quiet events.new.items ≡ true }
 {

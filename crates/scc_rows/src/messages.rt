@@ -148,7 +148,8 @@ impl<V: Evict + Drop> Talker<V> {
         requires stands { SendStands (P.sight port.old) self.old.core op self.old.slot self.old.bytes.items }
         requires not_sending { self.old.sending ≡ None }
         requires not_receiving { self.old.receiving ≡ None }
-        ensures talks { IsTalking (P.sight port.new) self.new.core self.new.slot self.new.peer self.new.bytes.items self.new.sending self.new.receiving }
+        ensures talks { IsTalking (P.sight port.new) self.new.core self.new.slot self.new.peer self.new.bytes.items self.new.sending
+            self.new.receiving }
         ensures did { (events : List Event) × Did (P.sight port.old) events (P.sight port.new) }
     {
         match op.turn(&mut self.core, port, &mut self.slot, &self.bytes) {
@@ -171,7 +172,8 @@ impl<V: Evict + Drop> Talker<V> {
         requires slot_stands { SlotStands (P.sight port.old).seat (record_in (P.sight port.old)) self.old.slot }
         requires not_sending { self.old.sending ≡ None }
         requires not_receiving { self.old.receiving ≡ None }
-        ensures talks { IsTalking (P.sight port.new) self.new.core self.new.slot self.new.peer self.new.bytes.items self.new.sending self.new.receiving }
+        ensures talks { IsTalking (P.sight port.new) self.new.core self.new.slot self.new.peer self.new.bytes.items self.new.sending
+            self.new.receiving }
         ensures did { (events : List Event) × Did (P.sight port.old) events (P.sight port.new) }
     {
         match op.turn(&mut self.core, port, &mut self.bytes) {

@@ -1,7 +1,7 @@
 //! What a core keeps for itself, and put and get, over the ports of a chip.
 
 ghost use Rattle.std.specs.Prelude.{◌≡◌, None};
-ghost use Rattle.scc_rows.specs.Rests.{IsAtRest};
+ghost use Rattle.scc_rows.specs.Rests.{IsPortAtRest};
 
 use crate::fixtures::{Meeting, Watched, flush, get, put, read, shows, store, write};
 use line_cache::{Always, Evict, Never};
@@ -45,9 +45,9 @@ fn reads<P: Port, V: Evict>(
     value: u64,
     loads: u64,
 ) -> bool
-    requires rests { IsAtRest (P.sight port.old.port) }
+    requires rests { IsPortAtRest (P.sight port.old.port) }
     requires empty { core.old.out ≡ None }
-    ensures rests { IsAtRest (P.sight port.new.port) }
+    ensures rests { IsPortAtRest (P.sight port.new.port) }
     ensures empty { core.new.out ≡ None }
 {
     let found = read(core, port, place);
@@ -56,7 +56,7 @@ fn reads<P: Port, V: Evict>(
 
 // Whether a get of two lines of rank 1 finds zeros.
 fn gets_zeros<P: Port, V: Evict + Drop>(port: &mut P, evict: V) -> bool
-    requires rests { IsAtRest (P.sight port.old) }
+    requires rests { IsPortAtRest (P.sight port.old) }
 {
     let Some(at) = Buf::new(225, 2) else {
         return false;
@@ -75,7 +75,7 @@ fn gets_counted<P: Port, V: Evict + Drop>(
     questions: u64,
     drops: u64,
 ) -> bool
-    requires rests { IsAtRest (P.sight port.old.port) }
+    requires rests { IsPortAtRest (P.sight port.old.port) }
 {
     let asked = Cell::new(0);
     let dropped = Cell::new(0);
@@ -110,8 +110,8 @@ fn a_get_of_more_lines_than_the_buffer_has_makes_no_event(rt: HostRuntime) -> Re
 
 // Whether lines of rank 0 that one rank puts are what the other then gets.
 fn gets_what_was_put<P: Port, Q: Port>(port: &mut P, other: &mut Q) -> bool
-    requires rests { IsAtRest (P.sight port.old) }
-    requires other_rests { IsAtRest (Q.sight other.old) }
+    requires rests { IsPortAtRest (P.sight port.old) }
+    requires other_rests { IsPortAtRest (Q.sight other.old) }
 {
     let Some(at) = Buf::new(240, 3) else {
         return false;
@@ -219,8 +219,8 @@ fn the_evictor_is_not_asked_where_the_line_is_held(rt: HostRuntime) -> Result<()
 
 // Whether another rank loads a written word once the next line is written, and that line's once it is flushed.
 fn stores_when_next_is_written<P: Port, Q: Port>(port: &mut P, other: &mut Q) -> bool
-    requires rests { IsAtRest (P.sight port.old) }
-    requires other_rests { IsAtRest (Q.sight other.old) }
+    requires rests { IsPortAtRest (P.sight port.old) }
+    requires other_rests { IsPortAtRest (Q.sight other.old) }
 {
     let mut core = Core::new(Never);
     let first = Place::new(CoreId::of(0), 225, 1);
@@ -251,8 +251,8 @@ fn a_written_word_is_stored_when_another_line_is_written(rt: HostRuntime) -> Res
 
 // The word that another rank stored between flushes of a core of which only the second has something to store.
 fn flushes_beside<P: Port, Q: Port>(port: &mut P, other: &mut Q) -> u64
-    requires rests { IsAtRest (P.sight port.old) }
-    requires other_rests { IsAtRest (Q.sight other.old) }
+    requires rests { IsPortAtRest (P.sight port.old) }
+    requires other_rests { IsPortAtRest (Q.sight other.old) }
 {
     let mut core = Core::new(Never);
     flush(&mut core, port);
@@ -284,10 +284,10 @@ fn are_refused<P: Port, Q: Port, V: Evict>(
     other: &mut Q,
     at: Buf,
 ) -> bool
-    requires rests { IsAtRest (P.sight port.old) }
-    requires other_rests { IsAtRest (Q.sight other.old) }
+    requires rests { IsPortAtRest (P.sight port.old) }
+    requires other_rests { IsPortAtRest (Q.sight other.old) }
     requires empty { core.old.out ≡ None }
-    ensures rests { IsAtRest (P.sight port.new) }
+    ensures rests { IsPortAtRest (P.sight port.new) }
     ensures empty { core.new.out ≡ None }
 {
     let put_three = put(core, port, Rank::of(1), at, SEVENS);
@@ -299,7 +299,7 @@ fn are_refused<P: Port, Q: Port, V: Evict>(
 
 // Whether a get of two lines fills the first two of three with what another rank stored.
 fn gets_the_store<P: Port, V: Evict>(core: &mut Core<V>, port: &mut P, at: Buf) -> bool
-    requires rests { IsAtRest (P.sight port.old) }
+    requires rests { IsPortAtRest (P.sight port.old) }
     requires empty { core.old.out ≡ None }
 {
     let mut lines = [[9; 4]; 3];

@@ -33,8 +33,8 @@ finished printed = record { end = ue_end.Finished; printed = printed; on_its_way
 abbrev pub waits : ℕ → Call → List Printed → Ended
 waits line call printed = record { end = ue_end.Waits line call; printed = printed; on_its_way = None }
 
--- a rank that printed nothing and was stopped at the receive of a line: by the sender's rank, the head of its message, and the head that the
--- receive asks for
+-- a rank that printed nothing and was stopped at the receive of a line: by the sender's rank, the head of its message, and
+-- the head that the receive asks for
 abbrev pub stopped : ℕ → ℕ → MessageHead → MessageHead → Ended
 stopped line from sent asked = record { end = ue_end.Mismatch line from sent asked; printed = []; on_its_way = None }
 

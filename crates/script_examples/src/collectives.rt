@@ -18,8 +18,10 @@ pub fn barriers_meet()
 
 /// The barrier of a group is passed by its members. Where one of them does not come the other waits.
 pub fn groups_meet()
-    ensures both { ends_of_text (codes "all\nsplit 1 mod 2\nue 0\nbarrier 1\nue 2\nbarrier 1\n") 3 ≡ Ok (finished [] ∷ finished [] ∷ finished [] ∷ []) }
-    ensures one { ends_of_text (codes "all\nsplit 1 mod 2\nue 0\nbarrier 1\nue 2\n") 3 ≡ Ok (waits 4 (Bar 1) [] ∷ finished [] ∷ finished [] ∷ []) }
+    ensures both { ends_of_text (codes "all\nsplit 1 mod 2\nue 0\nbarrier 1\nue 2\nbarrier 1\n") 3
+        ≡ Ok (finished [] ∷ finished [] ∷ finished [] ∷ []) }
+    ensures one { ends_of_text (codes "all\nsplit 1 mod 2\nue 0\nbarrier 1\nue 2\n") 3
+        ≡ Ok (waits 4 (Bar 1) [] ∷ finished [] ∷ finished [] ∷ []) }
 {}
 
 /// A message of a broadcast stops a receiver that asks for a plain one.
@@ -30,25 +32,29 @@ pub fn kinds_differ()
 
 /// A member leaves a broadcast before the others have come, and sends to one that enters it later.
 pub fn a_member_leaves_early()
-    ensures arrives { ends_of_text (codes "ue 0\nbytes x 11\nbcast 0 0 x 1\nue 1\nbcast 0 0 x 1\nsend 2 x\nue 2\nrecv 1 y 1\nbcast 0 0 x 1\nprint x\nprint y\n") 3
+    ensures arrives { ends_of_text
+        (codes "ue 0\nbytes x 11\nbcast 0 0 x 1\nue 1\nbcast 0 0 x 1\nsend 2 x\nue 2\nrecv 1 y 1\nbcast 0 0 x 1\nprint x\nprint y\n") 3
         ≡ Ok (finished [] ∷ finished [] ∷ finished (shows 0 (17 ∷ []) ∷ shows 1 (17 ∷ []) ∷ []) ∷ []) }
 {}
 
 /// A sum wraps.
 pub fn a_sum_wraps()
     ensures wraps { ends_of_text (codes "ue 0\nints x 2147483647\nue 1\nints x 1\nall\nallreduce 0 sum int y x\nprint int y\n") 2
-        ≡ Ok (finished (shows_value Int 1 (neg_ℤ (pos 2147483648)) ∷ []) ∷ finished (shows_value Int 1 (neg_ℤ (pos 2147483648)) ∷ []) ∷ []) }
+        ≡ Ok (finished (shows_value Int 1 (neg_ℤ (pos 2147483648)) ∷ [])
+        ∷ finished (shows_value Int 1 (neg_ℤ (pos 2147483648)) ∷ []) ∷ []) }
 {}
 
 /// The groups of a split: 0, 2 and 4, and 1 and 3. The second member of each gets the greatest rank.
 pub fn groups_reduce()
     ensures greatest { ends_of_text (codes "all\nsplit 1 mod 2\nrank x long\nreduce 1 1 max long y x\nue 2-3\nprint long y\n") 5
-        ≡ Ok (finished [] ∷ finished [] ∷ finished (shows_value Long 1 (pos 4) ∷ []) ∷ finished (shows_value Long 1 (pos 3) ∷ []) ∷ finished [] ∷ []) }
+        ≡ Ok (finished [] ∷ finished [] ∷ finished (shows_value Long 1 (pos 4) ∷ []) ∷ finished (shows_value Long 1 (pos 3) ∷ [])
+        ∷ finished [] ∷ []) }
 {}
 
 /// The groups of a split inside a split: 0 and 2, 1 and 3, 4 and 6, 5 and 7.
 pub fn splits_nest()
     ensures sums { ends_of_text (codes "rcce 2\nall\nsplit 1 div 4\nsplit 9 of 1 mod 2\nrank x long\nallreduce 9 sum long y x\nue 0-1\nprint long y\nue 6\nprint long y\n") 8
-        ≡ Ok (finished (shows_value Long 1 (pos 2) ∷ []) ∷ finished (shows_value Long 1 (pos 4) ∷ []) ∷ finished [] ∷ finished [] ∷ finished [] ∷ finished []
+        ≡ Ok (finished (shows_value Long 1 (pos 2) ∷ []) ∷ finished (shows_value Long 1 (pos 4) ∷ []) ∷ finished [] ∷ finished []
+        ∷ finished [] ∷ finished []
         ∷ finished (shows_value Long 1 (pos 10) ∷ []) ∷ finished [] ∷ []) }
 {}

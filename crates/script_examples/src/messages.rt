@@ -38,8 +38,10 @@ pub fn all_send_first()
 
 /// In a ring of four in which the odd ranks receive first each rank gets the number of the rank before it.
 pub fn a_ring_goes_round()
-    ensures arrives { ends_of_text (codes "all\nrank x int\neven\nsend +1 x\nrecv -1 y 4\nodd\nrecv -1 y 4\nsend +1 x\nall\nprint int y\n") 4
-        ≡ Ok (finished (shows_value Int 1 (pos 3) ∷ []) ∷ finished (shows_value Int 1 (pos 0) ∷ []) ∷ finished (shows_value Int 1 (pos 1) ∷ [])
+    ensures arrives { ends_of_text
+        (codes "all\nrank x int\neven\nsend +1 x\nrecv -1 y 4\nodd\nrecv -1 y 4\nsend +1 x\nall\nprint int y\n") 4
+        ≡ Ok (finished (shows_value Int 1 (pos 3) ∷ []) ∷ finished (shows_value Int 1 (pos 0) ∷ [])
+        ∷ finished (shows_value Int 1 (pos 1) ∷ [])
         ∷ finished (shows_value Int 1 (pos 2) ∷ []) ∷ []) }
 {}
 

@@ -9,7 +9,8 @@ ghost use Rattle.script_reader.specs.declared.fault.FaultKind.TheVariants.{BadHe
 pub fn lines_are_refused()
     ensures hex { parse_script (codes "bytes x 0\n") 2 ≡ Err (record { line = 1; kind = BadHex }) }
     ensures number { parse_script (codes "rcce 3\n") 2 ≡ Err (record { line = 1; kind = BadNumber }) }
-    ensures count { parse_script (codes "rcce 1\nall\nsplit 1 div 4\nsplit 9 of 1 mod 2\n") 8 ≡ Err (record { line = 4; kind = WrongCount }) }
+    ensures count { parse_script (codes "rcce 1\nall\nsplit 1 div 4\nsplit 9 of 1 mod 2\n") 8
+        ≡ Err (record { line = 4; kind = WrongCount }) }
     ensures section { parse_script (codes "bytes x 00\n") 2 ≡ Err (record { line = 1; kind = NoSection }) }
 {}
 

@@ -30,7 +30,7 @@ use Rattle.script_plain.proofs.Runs.RunLaws.{stands_there}
 use Rattle.script_plain.proofs.Runs.StepLaws as steps
 use Rattle.script_plain.proofs.Runs.StepLaws.Takes.{Alone, Left, Met, Fetched, RefusedPost, RefusedSend, Passed}
 use Rattle.script_plain.proofs.Runs.ViewLaws.{sum_by-map}
-use Rattle.script_gen.specs.Outcome.{all_sends, all_sent_bytes, message_bytes, sends_of, sent_bytes_of}
+use Rattle.script_gen.specs.Outcome.{all_sends, all_sent_bytes, message_bytes, sends_of_call, sent_bytes_of}
 use Rattle.script_gen.proofs.Usual.{AreQuiet, AreUsual, IsQuiet, quiet_program}
 
 -- ---- a rank that posts nothing goes on so, and what it sends has the length that its head says
@@ -235,7 +235,7 @@ start_quiet script usual = record {
 }
 
 -- the messages themselves, and their bytes
-counts_sends : Measures sends_of (λ head. 1)
+counts_sends : Measures sends_of_call (λ head. 1)
 counts_sends = record { sends = λ to head bytes long. refl; gets = λ from head bytes. refl; meets = λ comm. refl }
 
 counts_bytes : Measures sent_bytes_of (λ head. head.len)
@@ -251,9 +251,9 @@ ones (x ∷ matches) = let rest = ones matches in omega (arith, rest, sum_by-con
 -- at the plain end all that was sent has come
 pub sends_came : (script : Script) → AreUsual script.items → all_sends (plain_end script) ≡ length (plain_matches script)
 sends_came script usual =
-    let none : all_sends (start_of script) ≡ 0 = start_none sends_of (λ head. 1) counts_sends at_line script in
+    let none : all_sends (start_of script) ≡ 0 = start_none sends_of_call (λ head. 1) counts_sends at_line script in
     let all : all_sends (plain_end script) ≡ all_sends (start_of script) + sum_by (λ (x : Match). 1) (plain_matches script) =
-    run_adds sends_of (λ head. 1) counts_sends at_line (keys_of script) (steps_left (start_of script)) (start_of script) (start_quiet script usual) in
+    run_adds sends_of_call (λ head. 1) counts_sends at_line (keys_of script) (steps_left (start_of script)) (start_of script) (start_quiet script usual) in
     let many = ones (plain_matches script) in
     omega (arith, none, all, many)
 

@@ -13,10 +13,10 @@ use Rattle.script_reader.specs.Script.{Script}
 use Rattle.script_gen.specs.Scripts.{gen_script_of}
 
 -- how many messages a call has sent: a send or a post one, another call none
-abbrev pub sends_of : DataCall → ℕ
-sends_of (Send to head bytes) = 1
-sends_of (Post to head bytes) = 1
-sends_of _ = 0
+abbrev pub sends_of_call : DataCall → ℕ
+sends_of_call (Send to head bytes) = 1
+sends_of_call (Post to head bytes) = 1
+sends_of_call _ = 0
 
 -- how many bytes a call has sent
 abbrev pub sent_bytes_of : DataCall → ℕ
@@ -26,7 +26,7 @@ sent_bytes_of _ = 0
 
 -- how many messages all ranks have sent
 abbrev pub all_sends : Configuration State → ℕ
-all_sends c = sum_by (λ u. sum_by sends_of u.matched) c.cells
+all_sends c = sum_by (λ u. sum_by sends_of_call u.matched) c.cells
 
 -- how many bytes all ranks have sent
 abbrev pub all_sent_bytes : Configuration State → ℕ
@@ -47,12 +47,14 @@ printed_sum ends = sum_by item_bytes ends % 2 ^ 32
 -- the line, by its numbers
 abbrev pub counts_line : ℕ → ℕ → ℕ → ℕ → ℕ → List ℕ
 counts_line nue s sends bytes sum =
-    joined (codes "gen " ∷ decimal s ∷ codes " ues " ∷ decimal nue ∷ codes " sends " ∷ decimal sends ∷ codes " bytes " ∷ decimal bytes ∷ codes " sum " ∷ decimal sum ∷ codes "\n" ∷ [])
+    joined (codes "gen " ∷ decimal s ∷ codes " ues " ∷ decimal nue ∷ codes " sends " ∷ decimal sends ∷ codes " bytes " ∷ decimal bytes
+    ∷ codes " sum " ∷ decimal sum ∷ codes "\n" ∷ [])
 
 -- the line of a run of a script that was made of a number: how many messages came, with how many bytes, and the sum of what was
 -- printed
 abbrev pub script_line : ℕ → Script → List ℕ
-script_line s script = counts_line script.nue s (length (plain_matches script)) (message_bytes (plain_matches script)) (printed_sum (plain_ends script))
+script_line s script =
+    counts_line script.nue s (length (plain_matches script)) (message_bytes (plain_matches script)) (printed_sum (plain_ends script))
 
 -- the line of the script of a number s for nue ranks
 abbrev pub gen_line : ℕ → ℕ → List ℕ

@@ -2,7 +2,7 @@
 
 ghost use Rattle.std.specs.Prelude.{◌≡◌, ◌≤◌, ◌++◌, IfOk, OnOk, map};
 ghost use Rattle.rcce_io.specs.Sending.{joined};
-ghost use Rattle.script_gen.specs.Pieces.{piece_text, section_text};
+ghost use Rattle.script_gen.specs.Pieces.{gen_piece_text, section_text};
 ghost use Rattle.script_gen.specs.Texts.{gen_text};
 
 use crate::pieces::Piece::{Number, Text};
@@ -40,7 +40,8 @@ fn push_section(
     exchange: &[Piece],
     shown: &'static str,
 ) -> Result<(), AllocError>
-    ensures { OnOk result (text.new.items ≡ text.old.items ++ section_text ranks.now s (joined (map piece_text exchange.now)) shown.now) }
+    ensures { OnOk result (text.new.items
+        ≡ text.old.items ++ section_text ranks.now s (joined (map gen_piece_text exchange.now)) shown.now) }
 {
     let turns = 1 + s % 10;
     push_all(

@@ -2,7 +2,7 @@
 
 ghost use Rattle.std.specs.Prelude.{◌≡◌, ◌++◌, OnOk, map};
 ghost use Rattle.rcce_io.specs.Sending.{joined};
-ghost use Rattle.script_gen.specs.Pieces.{piece_text};
+ghost use Rattle.script_gen.specs.Pieces.{gen_piece_text};
 
 use std::alloc::AllocError;
 
@@ -14,7 +14,7 @@ pub enum Piece {
 }
 
 fn push(text: &mut Vec<u8>, piece: &Piece) -> Result<(), AllocError>
-    ensures { OnOk result (text.new.items ≡ text.old.items ++ piece_text piece.now) }
+    ensures { OnOk result (text.new.items ≡ text.old.items ++ gen_piece_text piece.now) }
 {
     match piece {
         Piece::Text(part) => text.extend_from_slice(part.as_bytes()),
@@ -27,7 +27,7 @@ fn push(text: &mut Vec<u8>, piece: &Piece) -> Result<(), AllocError>
 
 /// Puts the pieces behind a text.
 pub(crate) fn push_all(text: &mut Vec<u8>, pieces: &[Piece]) -> Result<(), AllocError>
-    ensures { OnOk result (text.new.items ≡ text.old.items ++ joined (map piece_text pieces.now)) }
+    ensures { OnOk result (text.new.items ≡ text.old.items ++ joined (map gen_piece_text pieces.now)) }
 {
     for piece in pieces {
         push(text, piece)?;

@@ -208,7 +208,8 @@ abbrev pub Sweeps : (ℕ → ℕ → ℕ) → Bool → ℕ → Configuration Loc
 Sweeps keys true n old new = IsOnTheWay keys old new
 Sweeps keys false n old new = ((k : ℕ) → k < n → step_of keys local_next old k ≡ None) × (new ≡ old)
 
--- rank i's step was taken, and what it brings stands behind what came before; or it owns none
+-- rank i's step was taken, and what it brings stands behind what came before; or it owns none. Seven parameters: the keys of
+-- the groups, whether there was a step, whose it was, and the states and the matches before and after.
 abbrev pub BringsAt : (ℕ → ℕ → ℕ) → Bool → ℕ → Configuration Local → Configuration Local → List Match → List Match → Type 0
 BringsAt keys true i old new before after =
     (step_of keys local_next old i ≡ Some new) × (after ≡ before ++ brought local_next line_of old i)

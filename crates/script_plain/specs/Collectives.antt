@@ -46,7 +46,8 @@ started script rank = record { local = local_start script rank; matched = [] }
 -- the calls that each rank has done are those that it makes by itself from its start, with the bytes that it received
 abbrev pub AreOwnWays : Script → Configuration State → Type 0
 AreOwnWays script c =
-    (rank : ℕ) (u : State) → slice_get c.cells rank ≡ Some u → (path : List (List ℕ)) × (u.matched ≡ (gone_through path (started script rank)).matched)
+    (rank : ℕ) (u : State) → slice_get c.cells rank ≡ Some u
+    → (path : List (List ℕ)) × (u.matched ≡ (gone_through path (started script rank)).matched)
 
 -- an item of the script which is one of this rank's
 pub record IsOfRank (items : List Item) (rank : ℕ) (item : Item) : Type 0 where
@@ -61,7 +62,8 @@ made_by s rank item = map (λ act. record { line = item.line; act = act }) (acts
 -- primitives that items of a rank make, one item after another
 pub data Made (s : SetupView) (rank : ℕ) (items : List Item) : List Prim → Type 0 where
   Done : Made s rank items []
-  Then : (item : Item) → IsOfRank items rank item → (rest : List Prim) → Made s rank items rest → Made s rank items (made_by s rank item ++ rest)
+  Then : (item : Item) → IsOfRank items rank item → (rest : List Prim) → Made s rank items rest
+      → Made s rank items (made_by s rank item ++ rest)
 
 -- a rank stands at a statement of its own: by itself it came there from its start, what the statement makes comes next, and
 -- then what others of its statements make
@@ -137,7 +139,9 @@ AreBroadcast script c =
     → sends_of kind.Bcast comm rank begun ≡ receipts_of kind.Bcast comm root before
     → after.local.registers ≡ slice_set before.local.registers dst (register_at begun.local reg)
 
--- the root came to the broadcast that a rank came to when it held `before`, and sent it these bytes
+-- the root came to the broadcast that a rank came to when it held `before`, and sent it these bytes. Eight parameters: the
+-- script and where its run stands, which broadcast it is (the communicator, the root's place in the group and its rank), and
+-- of the other its rank, its state and its bytes.
 pub record Casts (script : Script) (c : Configuration State) (comm place root rank : ℕ) (before : State) (bytes : List ℕ) : Type 0 where
   pub reg : ℕ
   pub len : ℕ
@@ -156,10 +160,14 @@ RootCame script c =
     → slice_get c.cells rank ≡ Some v
     → IsOther (setup_of script) comm place root rank
     → HasDone script rank (stmt.Bcast comm place dst size) v before after
-    → (bytes : List ℕ) × Casts script c comm place root rank before bytes × (after.local.registers ≡ slice_set before.local.registers dst bytes)
+    → (bytes : List ℕ) × Casts script c comm place root rank before bytes
+    × (after.local.registers ≡ slice_set before.local.registers dst bytes)
 
--- one of the others came to its part in the fold that the root began when it held `begun`, with these bytes
-pub record Gives (script : Script) (c : Configuration State) (call : Op → Ty → ℕ → ℕ → Stmt) (kind : Kind) (comm root : ℕ) (begun : State) (rank : ℕ) (bytes : List ℕ) : Type 0 where
+-- one of the others came to its part in the fold that the root began when it held `begun`, with these bytes. Nine
+-- parameters: the script and where its run stands, which fold it is (its statement, the kind of its messages, the
+-- communicator, the root, the root's state when it began), and of the other its rank and its bytes.
+pub record Gives (script : Script) (c : Configuration State) (call : Op → Ty → ℕ → ℕ → Stmt) (kind : Kind) (comm root : ℕ)
+    (begun : State) (rank : ℕ) (bytes : List ℕ) : Type 0 where
   pub op : Op
   pub ty : Ty
   pub dst : ℕ
@@ -171,14 +179,15 @@ pub record Gives (script : Script) (c : Configuration State) (call : Op → Ty �
   pub same : sends_of kind comm root before ≡ receipts_of kind comm rank begun
   pub given : register_at before.local src ≡ bytes
 
--- each of the others came to its part in the root's fold, with these bytes by rank
+-- each of the others came to its part in the root's fold, with these bytes by rank. Nine parameters: those of `Gives` with
+-- the root's place in the group, by which the others are known, in place of the one rank.
 abbrev pub AllGive : Script → Configuration State → (Op → Ty → ℕ → ℕ → Stmt) → Kind → ℕ → ℕ → ℕ → State → (ℕ → List ℕ) → Type 0
 AllGive script c call kind comm place root begun bytes =
     (rank : ℕ) → IsOther (setup_of script) comm place root rank → Gives script c call kind comm root begun rank (bytes rank)
 
--- the fold of the root's bytes with those of the others, in rank order
-abbrev pub fold_at : SetupView → ℕ → ℕ → ℕ → Op → Ty → List ℕ → (ℕ → List ℕ) → List ℕ
-fold_at s comm place root op ty own bytes = fold_of op ty own (map bytes (others_of s comm root place))
+-- the fold of a rank's own bytes with those of others, in the order in which they are named
+abbrev pub fold_with : Op → Ty → List ℕ → (ℕ → List ℕ) → List ℕ → List ℕ
+fold_with op ty own bytes others = fold_of op ty own (map bytes others)
 
 -- the n-th reduction of a communicator and root: the root that has done it holds the fold that starts with its own bytes
 -- and goes on with those of the others, by its own operation and type, and its other registers are as they were
@@ -188,7 +197,8 @@ AreReduced script c =
     → slice_get c.cells root ≡ Some u → place_of (setup_of script) comm root ≡ place
     → HasDone script root (stmt.Reduce comm place op ty dst src) u begun after
     → AllGive script c (stmt.Reduce comm place) kind.Reduce comm place root begun bytes
-    → after.local.registers ≡ slice_set begun.local.registers dst (fold_at (setup_of script) comm place root op ty (register_at begun.local src) bytes)
+    → after.local.registers ≡ slice_set begun.local.registers dst
+    (fold_with op ty (register_at begun.local src) bytes (others_of (setup_of script) comm root place))
 
 -- where the root has done its n-th reduction of a communicator, each of the others came to its n-th, and the root holds the
 -- fold of what they gave then
@@ -198,7 +208,9 @@ OthersGave script c =
     → slice_get c.cells root ≡ Some u → place_of (setup_of script) comm root ≡ place
     → HasDone script root (stmt.Reduce comm place op ty dst src) u begun after
     → (bytes : ℕ → List ℕ) × AllGive script c (stmt.Reduce comm place) kind.Reduce comm place root begun bytes
-    × (after.local.registers ≡ slice_set begun.local.registers dst (fold_at (setup_of script) comm place root op ty (register_at begun.local src) bytes))
+    × (after.local.registers
+    ≡ slice_set begun.local.registers dst
+    (fold_with op ty (register_at begun.local src) bytes (others_of (setup_of script) comm root place)))
 
 -- the n-th reduction to all of a communicator: member 0 that has done it holds the fold of all members' bytes in rank
 -- order, by its own operation and type
@@ -208,7 +220,8 @@ AreReducedToAll script c =
     → slice_get c.cells root ≡ Some u → place_of (setup_of script) comm root ≡ 0
     → HasDone script root (stmt.Allreduce comm op ty dst src) u begun after
     → AllGive script c (stmt.Allreduce comm) kind.AllUp comm 0 root begun bytes
-    → after.local.registers ≡ slice_set begun.local.registers dst (fold_at (setup_of script) comm 0 root op ty (register_at begun.local src) bytes)
+    → after.local.registers ≡ slice_set begun.local.registers dst
+    (fold_with op ty (register_at begun.local src) bytes (others_of (setup_of script) comm root 0))
 
 -- where member 0 has done its n-th reduction to all of a communicator, each of the others came to its n-th
 abbrev pub OthersGaveToAll : Script → Configuration State → Type 0
@@ -217,7 +230,9 @@ OthersGaveToAll script c =
     → slice_get c.cells root ≡ Some u → place_of (setup_of script) comm root ≡ 0
     → HasDone script root (stmt.Allreduce comm op ty dst src) u begun after
     → (bytes : ℕ → List ℕ) × AllGive script c (stmt.Allreduce comm) kind.AllUp comm 0 root begun bytes
-    × (after.local.registers ≡ slice_set begun.local.registers dst (fold_at (setup_of script) comm 0 root op ty (register_at begun.local src) bytes))
+    × (after.local.registers
+    ≡ slice_set begun.local.registers dst
+    (fold_with op ty (register_at begun.local src) bytes (others_of (setup_of script) comm root 0)))
 
 -- each of the others that has done the n-th reduction to all holds that fold too, whatever operation and type it names
 abbrev pub AreToldAll : Script → Configuration State → Type 0
@@ -229,10 +244,12 @@ AreToldAll script c =
     → AllGive script c (stmt.Allreduce comm) kind.AllUp comm 0 root begun bytes
     → HasDone script rank (stmt.Allreduce comm other width to from) v before after
     → sends_of kind.AllDown comm rank begun ≡ receipts_of kind.AllDown comm root before
-    → after.local.registers ≡ slice_set before.local.registers to (fold_at (setup_of script) comm 0 root op ty (register_at begun.local src) bytes)
+    → after.local.registers ≡ slice_set before.local.registers to
+    (fold_with op ty (register_at begun.local src) bytes (others_of (setup_of script) comm root 0))
 
 -- member 0 came to the reduction to all that a rank came to when it held `before`, and so did each of the others; what the
--- rank gave itself is `own`, and `told` is the fold of what all gave
+-- rank gave itself is `own`, and `told` is the fold of what all gave. Eight parameters: the script and where its run stands,
+-- the communicator and its member 0, and of the other its rank, its state, what it gave and what it was told.
 pub record Tells (script : Script) (c : Configuration State) (comm root rank : ℕ) (before : State) (own told : List ℕ) : Type 0 where
   pub op : Op
   pub ty : Ty
@@ -246,7 +263,7 @@ pub record Tells (script : Script) (c : Configuration State) (comm root rank : �
   pub same : sends_of kind.AllDown comm rank begun ≡ receipts_of kind.AllDown comm root before
   pub given : AllGive script c (stmt.Allreduce comm) kind.AllUp comm 0 root begun bytes
   pub mine : bytes rank ≡ own
-  pub result : fold_at (setup_of script) comm 0 root op ty (register_at begun.local src) bytes ≡ told
+  pub result : fold_with op ty (register_at begun.local src) bytes (others_of (setup_of script) comm root 0) ≡ told
 
 -- where one of the others has done the n-th reduction to all of a communicator, member 0 came to its n-th, and so did each
 -- of the others
@@ -256,7 +273,8 @@ AllCame script c =
     → slice_get c.cells rank ≡ Some v
     → IsOther (setup_of script) comm 0 root rank
     → HasDone script rank (stmt.Allreduce comm op ty to from) v before after
-    → (told : List ℕ) × Tells script c comm root rank before (register_at before.local from) told × (after.local.registers ≡ slice_set before.local.registers to told)
+    → (told : List ℕ) × Tells script c comm root rank before (register_at before.local from) told
+    × (after.local.registers ≡ slice_set before.local.registers to told)
 
 -- How many calls of a kind a rank has made is told by any of their messages, wherever it stands at a statement: a root has as
 -- many with one of the others as with another, and each of the others has sent as many as it has received.

@@ -35,7 +35,8 @@ empty room =
 
 -- the rooms are great enough for what a statement brings
 abbrev pub HasRoomFor : Action → Held → Type 0
-HasRoomFor (action.Set reg content) h = reg < length h.registers.rooms → length (content_of content) ≤ slice_index_or h.registers.rooms reg 0
+HasRoomFor (action.Set reg content) h =
+    reg < length h.registers.rooms → length (content_of content) ≤ slice_index_or h.registers.rooms reg 0
 HasRoomFor (action.Own (own.Apply op ty dst src)) h = length (held_at h src) ≤ h.spare.room
 HasRoomFor (action.Own (own.Print reg form)) h =
     (length h.prints.items < h.prints.room) × (printed_bytes h.prints.items + length (held_at h reg) ≤ h.prints.bytes)
@@ -57,9 +58,20 @@ held_with h reg bytes = record h { registers = record { registers = slice_set h.
 abbrev pub worked : Action → Held → Held
 worked (action.Set reg content) h = held_with h reg (content_of content)
 worked (action.Own (own.Apply op ty dst src)) h =
-    record (held_with h dst (folded op ty (held_at h dst) (held_at h src))) { spare = record { bytes = held_at h src; room = h.spare.room } }
+    record (held_with h dst (folded op ty (held_at h dst) (held_at h src))) {
+      spare = record {
+        bytes = held_at h src;
+        room = h.spare.room;
+      };
+    }
 worked (action.Own (own.Print reg form)) h =
-    record h { prints = record { items = h.prints.items ++ record { reg = reg; form = form; bytes = held_at h reg } ∷ []; room = h.prints.room; bytes = h.prints.bytes } }
+    record h {
+      prints = record {
+        items = h.prints.items ++ record { reg = reg; form = form; bytes = held_at h reg } ∷ [];
+        room = h.prints.room;
+        bytes = h.prints.bytes;
+      };
+    }
 worked (action.Send to head source) h = h
 worked (action.Post to reg) h = h
 worked (action.Recv from reg head) h = h

@@ -84,5 +84,6 @@ FitsNext had Ends = Unit {0}
 FitsNext had (Goes after) = Fits had after
 FitsNext had (Posts message after) = Fits had after × (length message.bytes ≡ message.head.len)
 FitsNext had (Sends to head bytes after) = Fits had after × (length bytes ≡ head.len)
-FitsNext had (Recvs from head take refuse) = ((bytes : List ℕ) → length bytes ≡ head.len → Fits had (take bytes)) × ((sent : MessageHead) → Fits had (refuse sent))
+FitsNext had (Recvs from head take refuse) =
+    ((bytes : List ℕ) → length bytes ≡ head.len → Fits had (take bytes)) × ((sent : MessageHead) → Fits had (refuse sent))
 FitsNext had (Bars comm after) = Fits had after

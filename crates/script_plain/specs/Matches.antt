@@ -45,7 +45,8 @@ brought next line c i = brought_by line c i (next_at next c i)
 -- what the enabled step with the lowest owner brings, among n ranks from i on
 abbrev pub lowest_brought : {U : Type 0} → (ℕ → ℕ → ℕ) → (U → Next U) → (U → ℕ) → Configuration U → ℕ → ℕ → List Match
 lowest_brought keys next line c zero i = []
-lowest_brought keys next line c (suc n) i = if is_some (step_of keys next c i) then brought next line c i else lowest_brought keys next line c n (i + 1)
+lowest_brought keys next line c (suc n) i =
+    if is_some (step_of keys next c i) then brought next line c i else lowest_brought keys next line c n (i + 1)
 
 -- what the step with the lowest owner brings
 abbrev pub step_brought : {U : Type 0} → (ℕ → ℕ → ℕ) → (U → Next U) → (U → ℕ) → Configuration U → List Match

@@ -12,12 +12,14 @@ use Rattle.script_plain.specs.declared.posts.Posted.{Posted}
 -- last
 pub data Did {U : Type 0} (next : U → Next U) (v : U) (end : Option Posted) : U → Option Posted → List DataCall → Type 0 where
   Here : Did next v end v end []
-  Own : (u w : U) → (last : Option Posted) → (calls : List DataCall) → next u ≡ Goes w → Did next v end w last calls → Did next v end u last calls
+  Own : (u w : U) → (last : Option Posted) → (calls : List DataCall) → next u ≡ Goes w → Did next v end w last calls
+      → Did next v end u last calls
   Left : (u w : U) → (last : Option Posted) → (message : Posted) → (calls : List DataCall) → next u ≡ Posts message w
       → Did next v end w (Some message) calls → Did next v end u last (Post message.to message.head message.bytes ∷ calls)
   Sent : (u w : U) → (last : Option Posted) → (to : ℕ) → (head : MessageHead) → (bytes : List ℕ) → (calls : List DataCall)
       → next u ≡ Sends to head bytes w → Did next v end w last calls → Did next v end u last (Send to head bytes ∷ calls)
-  Got : (u : U) → (last : Option Posted) → (from : ℕ) → (head : MessageHead) → (bytes : List ℕ) → (take : List ℕ → U) → (refuse : MessageHead → U)
+  Got : (u : U) → (last : Option Posted) → (from : ℕ) → (head : MessageHead) → (bytes : List ℕ) → (take : List ℕ → U)
+      → (refuse : MessageHead → U)
       → (calls : List DataCall) → length bytes ≡ head.len → next u ≡ Recvs from head take refuse
       → Did next v end (take bytes) last calls → Did next v end u last (Recv from head bytes ∷ calls)
   Met : (u w : U) → (last : Option Posted) → (comm : ℕ) → (calls : List DataCall) → next u ≡ Bars comm w
@@ -28,9 +30,11 @@ pub data Did {U : Type 0} (next : U → Next U) (v : U) (end : Option Posted) : 
 pub data Came {U : Type 0} (next : U → Next U) (start : U) : U → Option Posted → Type 0 where
   Began : Came next start start None
   Went : (u v : U) → (last : Option Posted) → Came next start u last → next u ≡ Goes v → Came next start v last
-  Leaves : (u v : U) → (last : Option Posted) → (message : Posted) → Came next start u last → next u ≡ Posts message v → Came next start v (Some message)
+  Leaves : (u v : U) → (last : Option Posted) → (message : Posted) → Came next start u last → next u ≡ Posts message v
+      → Came next start v (Some message)
   Passed : (u v : U) → (last : Option Posted) → (to : ℕ) → (head : MessageHead) → (bytes : List ℕ) → Came next start u last
       → next u ≡ Sends to head bytes v → Came next start v last
-  Took : (u : U) → (last : Option Posted) → (from : ℕ) → (head : MessageHead) → (bytes : List ℕ) → (take : List ℕ → U) → (refuse : MessageHead → U)
+  Took : (u : U) → (last : Option Posted) → (from : ℕ) → (head : MessageHead) → (bytes : List ℕ) → (take : List ℕ → U)
+      → (refuse : MessageHead → U)
       → length bytes ≡ head.len → Came next start u last → next u ≡ Recvs from head take refuse → Came next start (take bytes) last
   Joined : (u v : U) → (last : Option Posted) → (comm : ℕ) → Came next start u last → next u ≡ Bars comm v → Came next start v last

@@ -105,7 +105,8 @@ collective_of (stmt.End start) = None
 -- a collective call that rank r may make. (A script that was read has no others.)
 abbrev pub can_call : SetupView → ℕ → Coll → Bool
 can_call s r c =
-    nat_lt (comm_of c) 16 && not (is_absent (rule_of s.comms (comm_of c))) && nat_le (len_of c) most_message && nat_lt r s.nue && has_root s r c
+    nat_lt (comm_of c) 16 && not (is_absent (rule_of s.comms (comm_of c))) && nat_le (len_of c) most_message && nat_lt r s.nue
+    && has_root s r c
 
 -- a step of a collective call: a send is one of the accumulator where the call has begun, else of the source
 abbrev pub part_of : Operands → Bool → Step → Act

@@ -14,7 +14,8 @@ use Rattle.script_plain.specs.Next.Next.{Ends, Goes, Posts, Sends, Recvs, Bars}
 abbrev pub IsReady : {U : Type 0} → Script → ℕ → Next U → Type 0
 IsReady script rank Ends = Unit {0}
 IsReady script rank (Goes after) = Unit {0}
-IsReady script rank (Posts message after) = IsPeer script.nue rank message.to × IsPostHead message.head × (length message.bytes ≡ message.head.len)
+IsReady script rank (Posts message after) =
+    IsPeer script.nue rank message.to × IsPostHead message.head × (length message.bytes ≡ message.head.len)
 IsReady script rank (Sends to head bytes after) = IsPeer script.nue rank to × IsHead head × (length bytes ≡ head.len)
 IsReady script rank (Recvs from head take refuse) = IsPeer script.nue rank from × IsHead head
 IsReady script rank (Bars comm after) = (comm < 16) × (rule_of (rules_of script.items) comm ≢ Absent)

@@ -86,7 +86,13 @@ pub record IsWider (old new : Rooms) : Type 0 where
 abbrev pub rooms_of : Needs → Rooms
 rooms_of needs =
     record {
-      lengths = record { registers = needs.registers.items; accumulator = needs.accumulator; received = needs.received; items = needs.items; printed = needs.printed };
+      lengths = record {
+        registers = needs.registers.items;
+        accumulator = needs.accumulator;
+        received = needs.received;
+        items = needs.items;
+        printed = needs.printed;
+      };
       spare = needs.spare;
     }
 
@@ -119,6 +125,12 @@ local_by contents folded taken walk prints state =
 abbrev pub rooms_by : RegistersView → RoomView → RoomView → RoomView → PrintsView → Rooms
 rooms_by contents folded taken spare prints =
     record {
-      lengths = record { registers = contents.rooms; accumulator = folded.room; received = taken.room; items = prints.room; printed = prints.bytes };
+      lengths = record {
+        registers = contents.rooms;
+        accumulator = folded.room;
+        received = taken.room;
+        items = prints.room;
+        printed = prints.bytes;
+      };
       spare = spare.room;
     }

@@ -40,8 +40,10 @@ post_step c i message after None = Some (with_slot (with_cell c i after) i (Some
 post_step c i message after (Some earlier) = None
 
 -- a match: rank i stands at a send to j, its slot is empty, and j stands at a receive from i that asks for the same
--- head. j takes the bytes, and both go on. Its owner is the sender.
-abbrev pub match_step : {U : Type 0} → Configuration U → ℕ → ℕ → MessageHead → List ℕ → U → Option Posted → Next U → Option (Configuration U)
+-- head. j takes the bytes, and both go on. Its owner is the sender. Eight parameters, since both ends are looked at: the
+-- configuration, the two ranks, what i sends (the head, the bytes, its state after), i's slot, and what is next at j.
+abbrev pub match_step : {U : Type 0} → Configuration U → ℕ → ℕ → MessageHead → List ℕ → U → Option Posted → Next U
+    → Option (Configuration U)
 match_step c i j head bytes after None (Recvs from asked take refuse) =
     if (from == i) && same_head head asked then Some (with_cell (with_cell c i after) j (take bytes)) else None
 match_step c i j head bytes after None Ends = None
@@ -53,8 +55,11 @@ match_step c i j head bytes after (Some earlier) next = None
 
 -- a take: rank j stands at a receive from i, and the slot of i holds a message to j with the head that j asks for. j
 -- takes the bytes and goes on, and the slot is empty. A mismatch: the message in the slot of i, or the one that i
--- stands at sending while its slot is empty, has another head. j refuses it and is stopped, and i and its slot stay.
-abbrev pub receive_step : {U : Type 0} → Configuration U → ℕ → ℕ → MessageHead → (List ℕ → U) → (MessageHead → U) → Option Posted → Next U → Option (Configuration U)
+-- stands at sending while its slot is empty, has another head. j refuses it and is stopped, and i and its slot stay. Eight
+-- parameters, since both ends are looked at: the configuration, the two ranks, what j asks for and its states after a take
+-- and after a refusal, i's slot, and what is next at i.
+abbrev pub receive_step : {U : Type 0} → Configuration U → ℕ → ℕ → MessageHead → (List ℕ → U) → (MessageHead → U) → Option Posted
+    → Next U → Option (Configuration U)
 receive_step c j i asked take refuse (Some message) next =
     if message.to == j
     then (if same_head message.head asked

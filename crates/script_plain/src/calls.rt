@@ -106,8 +106,7 @@ impl<'s> Machine<'s> {
             Action::Send { source, .. } => self.source(*source),
             Action::Post { reg, .. } => self.source(Source::Own { reg: *reg }),
             Action::Set { .. }
-            | Action::Apply { .. }
-            | Action::Print { .. }
+            | Action::Own(_)
             | Action::Recv { .. }
             | Action::Gather { .. }
             | Action::Bar { .. }
@@ -142,8 +141,7 @@ impl<'s> Machine<'s> {
                 head: self.post_head(*reg),
             }),
             Action::Set { .. }
-            | Action::Apply { .. }
-            | Action::Print { .. }
+            | Action::Own(_)
             | Action::Send { .. }
             | Action::Recv { .. }
             | Action::Gather { .. }
@@ -165,8 +163,7 @@ impl<'s> Machine<'s> {
         match &prim.action {
             Action::Post { .. } => prim.line,
             Action::Set { .. }
-            | Action::Apply { .. }
-            | Action::Print { .. }
+            | Action::Own(_)
             | Action::Send { .. }
             | Action::Recv { .. }
             | Action::Gather { .. }
@@ -189,8 +186,7 @@ impl<'s> Machine<'s> {
             Action::Recv { head, .. } => head.len() as usize,
             Action::Gather { head, sized, .. } => self.asked_head(*head, *sized).len() as usize,
             Action::Set { .. }
-            | Action::Apply { .. }
-            | Action::Print { .. }
+            | Action::Own(_)
             | Action::Send { .. }
             | Action::Post { .. }
             | Action::Bar { .. }

@@ -18,8 +18,10 @@ pub fn messages_arrive_as_sent()
 /// Wherever steps lead from the start, whoever has done the n-th broadcast of a communicator and root holds the bytes that
 /// the root sent then, and the root came to its n-th. The root of a broadcast has no register changed.
 pub fn broadcasts_arrive()
-    ensures law { (script : Script) → IsWhole script.nue script.items → (c : Configuration State) → IsReached script c → AreBroadcast script c }
-    ensures root_came { (script : Script) → IsWhole script.nue script.items → (c : Configuration State) → IsReached script c → RootCame script c }
+    ensures law { (script : Script) → IsWhole script.nue script.items → (c : Configuration State) → IsReached script c
+        → AreBroadcast script c }
+    ensures root_came { (script : Script) → IsWhole script.nue script.items → (c : Configuration State) → IsReached script c
+        → RootCame script c }
     ensures untouched { (script : Script) → IsWhole script.nue script.items → AreUntouched script }
 {}
 
@@ -29,12 +31,18 @@ pub fn broadcasts_arrive()
 /// operation and type of member 0. The others came to their n-th: each of them where the root has done it, and where one
 /// of the others has done a reduction to all, member 0 and each of the others.
 pub fn reductions_fold()
-    ensures root { (script : Script) → IsWhole script.nue script.items → (c : Configuration State) → IsReached script c → AreReduced script c }
-    ensures first { (script : Script) → IsWhole script.nue script.items → (c : Configuration State) → IsReached script c → AreReducedToAll script c }
-    ensures others { (script : Script) → IsWhole script.nue script.items → (c : Configuration State) → IsReached script c → AreToldAll script c }
-    ensures others_gave { (script : Script) → IsWhole script.nue script.items → (c : Configuration State) → IsReached script c → OthersGave script c }
-    ensures others_gave_to_all { (script : Script) → IsWhole script.nue script.items → (c : Configuration State) → IsReached script c → OthersGaveToAll script c }
-    ensures all_came { (script : Script) → IsWhole script.nue script.items → (c : Configuration State) → IsReached script c → AllCame script c }
+    ensures root { (script : Script) → IsWhole script.nue script.items → (c : Configuration State) → IsReached script c
+        → AreReduced script c }
+    ensures first { (script : Script) → IsWhole script.nue script.items → (c : Configuration State) → IsReached script c
+        → AreReducedToAll script c }
+    ensures others { (script : Script) → IsWhole script.nue script.items → (c : Configuration State) → IsReached script c
+        → AreToldAll script c }
+    ensures others_gave { (script : Script) → IsWhole script.nue script.items → (c : Configuration State) → IsReached script c
+        → OthersGave script c }
+    ensures others_gave_to_all { (script : Script) → IsWhole script.nue script.items → (c : Configuration State) → IsReached script c
+        → OthersGaveToAll script c }
+    ensures all_came { (script : Script) → IsWhole script.nue script.items → (c : Configuration State) → IsReached script c
+        → AllCame script c }
     ensures untouched { (script : Script) → IsWhole script.nue script.items → AreUntouched script }
 {}
 

@@ -82,7 +82,11 @@ impl Buffers {
     ghost use Rattle.std.specs.Prelude.{◌≡◌, [], IfOk};
 
     fn new(alloc: Global, needs: &Needs) -> Result<Buffers, AllocError>
-        ensures { IfOk result (λ b. b ≡ record { folded = record { bytes = []; room = needs.now.accumulator }; taken = record { bytes = []; room = needs.now.received }; spare = record { bytes = []; room = needs.now.spare } }) }
+        ensures { IfOk result (λ b. b ≡ record {
+          folded = record { bytes = []; room = needs.now.accumulator };
+          taken = record { bytes = []; room = needs.now.received };
+          spare = record { bytes = []; room = needs.now.spare };
+        }) }
     {
         let folded = Room::new(alloc, needs.accumulator)?;
         let taken = Room::new(alloc, needs.received)?;

@@ -21,13 +21,15 @@ pub fn every_order_has_one_end()
     ensures law { (keys : ℕ → ℕ → ℕ) (n m : ℕ) (c e f : Configuration State) → Runs (IsPlainStep keys) (EndsAt (IsPlainStep keys) e) n c
         → Runs (IsPlainStep keys) (EndsAt (IsPlainStep keys) f) m c → (n ≡ m) × (e ≡ f) }
     // The plain end is one that steps come to from the start, and so it is the only one.
-    ensures reached { (script : Script) → (n : ℕ) × Runs (IsPlainStep (keys_of script)) (EndsAt (IsPlainStep (keys_of script)) (plain_end script)) n (start_of script) }
+    ensures reached { (script : Script)
+        → (n : ℕ) × Runs (IsPlainStep (keys_of script)) (EndsAt (IsPlainStep (keys_of script)) (plain_end script)) n (start_of script) }
 {}
 
 /// Every order of steps is finite: each step lowers what is left.
 pub fn every_order_is_finite()
     ensures lowers { (keys : ℕ → ℕ → ℕ) (a : ℕ) (c d : Configuration State) → IsPlainStep keys a c d → steps_left d < steps_left c }
-    ensures most { (keys : ℕ → ℕ → ℕ) (n : ℕ) (c d : Configuration State) → Runs (IsPlainStep keys) (λ e. e ≡ d) n c → n + steps_left d ≤ steps_left c }
+    ensures most { (keys : ℕ → ℕ → ℕ) (n : ℕ) (c d : Configuration State) → Runs (IsPlainStep keys) (λ e. e ≡ d) n c
+        → n + steps_left d ≤ steps_left c }
 {}
 
 /// The plain step is the enabled one with the lowest owner, and there is none exactly where no rank's step is enabled.
@@ -46,5 +48,6 @@ pub fn barriers_meet()
 /// A state that a rank has come to by itself, from a start at which nothing is done, has the calls of its way, in order and
 /// with their bytes.
 pub fn ways_tell_calls()
-    ensures law { (start u : State) (last : Option Posted) → start.matched ≡ [] → Came next_of start u last → Did next_of u last start None u.matched }
+    ensures law { (start u : State) (last : Option Posted) → start.matched ≡ [] → Came next_of start u last
+        → Did next_of u last start None u.matched }
 {}

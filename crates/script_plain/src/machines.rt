@@ -45,7 +45,8 @@ impl<'s> Model for Machine<'s> {
     } };
 
     ghost invariant = { λ m.
-        AreWithin (rooms_by m.held.registers m.held.folded m.held.taken m.held.spare m.held.prints) (lengths_of (local_by m.held.registers m.held.folded m.held.taken m.walk m.held.prints m.state)) m.walk.left };
+        AreWithin (rooms_by m.held.registers m.held.folded m.held.taken m.held.spare m.held.prints)
+        (lengths_of (local_by m.held.registers m.held.folded m.held.taken m.walk m.held.prints m.state)) m.walk.left };
 }
 
 impl<'s> Machine<'s> {
@@ -84,7 +85,13 @@ impl<'s> Machine<'s> {
     /// The machine of a walk that was reckoned, before its first statement.
     fn at_start(alloc: Global, reckoned: Reckoned<'s>) -> Result<Machine<'s>, AllocError>
         requires { AreWithin (rooms_of reckoned.needs) (nothing_held (length reckoned.needs.registers.items)) reckoned.walk.left }
-        ensures { IfOk result (λ m. m ≡ record { script = reckoned.entry.walk.script; setup = reckoned.entry.walk.setup; rank = reckoned.entry.walk.rank; local = local_with (empty (rooms_of reckoned.entry.needs)) reckoned.entry.walk standing.Running }) }
+        ensures { IfOk result (λ m. m
+            ≡ record {
+              script = reckoned.entry.walk.script;
+              setup = reckoned.entry.walk.setup;
+              rank = reckoned.entry.walk.rank;
+              local = local_with (empty (rooms_of reckoned.entry.needs)) reckoned.entry.walk standing.Running;
+            }) }
     {
         let Reckoned { needs, walk } = reckoned;
         let held = Held::new(alloc, &needs)?;

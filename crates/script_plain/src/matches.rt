@@ -120,8 +120,10 @@ fn history_of(
     slots: &mut [Option<Left>],
 ) -> Result<History, AllocError>
     requires run { IsRun setup.now ues.old slots.old }
-    ensures matches { IfOk result (λ h. h.matches ≡ matches_on (setup_key setup.now) local_next line_of (sum_by cost_of ues.old) (config ues.old slots.old)) }
-    ensures end { IfOk result (λ h. h.end ≡ ends_at (run_on (setup_key setup.now) local_next (sum_by cost_of ues.old) (config ues.old slots.old))) }
+    ensures matches { IfOk result (λ h. h.matches
+        ≡ matches_on (setup_key setup.now) local_next line_of (sum_by cost_of ues.old) (config ues.old slots.old)) }
+    ensures end { IfOk result (λ h. h.end
+        ≡ ends_at (run_on (setup_key setup.now) local_next (sum_by cost_of ues.old) (config ues.old slots.old))) }
 {
     let matches = match_on(alloc, setup, ues, slots)?;
     let end = end_all(alloc, ues, slots)?;
@@ -145,8 +147,10 @@ fn match_on(
     slots: &mut [Option<Left>],
 ) -> Result<Matches, AllocError>
     requires run { IsRun setup.now ues.old slots.old }
-    ensures matches { IfOk result (λ matches. matches ≡ matches_on (setup_key setup.now) local_next line_of (sum_by cost_of ues.old) (config ues.old slots.old)) }
-    ensures end { OnOk result (config ues.new slots.new ≡ run_on (setup_key setup.now) local_next (sum_by cost_of ues.old) (config ues.old slots.old)) }
+    ensures matches { IfOk result (λ matches. matches
+        ≡ matches_on (setup_key setup.now) local_next line_of (sum_by cost_of ues.old) (config ues.old slots.old)) }
+    ensures end { OnOk result (config ues.new slots.new
+        ≡ run_on (setup_key setup.now) local_next (sum_by cost_of ues.old) (config ues.old slots.old)) }
     ensures still { OnOk result (lowest_step (setup_key setup.now) local_next (config ues.new slots.new) ≡ None) }
 {
     let mut matches = Matches::new(alloc);
@@ -169,7 +173,8 @@ fn step_lowest(
 ) -> Result<Option<u8>, AllocError>
     requires run { IsRun setup.now ues.old slots.old }
     requires still { IsStillTo (setup_key setup.now) from (config ues.old slots.old) }
-    ensures brings { IfOk result (λ next. BringsLowest (setup_key setup.now) (is_some next) (config ues.old slots.old) (config ues.new slots.new) matches.old matches.new) }
+    ensures brings { IfOk result (λ next. BringsLowest (setup_key setup.now) (is_some next) (config ues.old slots.old)
+        (config ues.new slots.new) matches.old matches.new) }
     ensures still { IfOk result (λ next. IfSome next (λ n. IsStillTo (setup_key setup.now) n (config ues.new slots.new))) }
 {
     for number in from..setup.nue() {
@@ -193,7 +198,8 @@ fn step_by(
 ) -> Result<bool, AllocError>
     requires rank { rank < setup.now.nue }
     requires run { IsRun setup.now ues.old slots.old }
-    ensures { IfOk result (λ moved. BringsAt (setup_key setup.now) moved rank (config ues.old slots.old) (config ues.new slots.new) matches.old matches.new) }
+    ensures { IfOk result
+        (λ moved. BringsAt (setup_key setup.now) moved rank (config ues.old slots.old) (config ues.new slots.new) matches.old matches.new) }
 {
     match decide(setup, ues, slots, rank) {
         Step::Stays => Ok(false),

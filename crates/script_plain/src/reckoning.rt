@@ -27,7 +27,8 @@ impl Model for Lengths {
 
     ghost Value = { Lengths };
 
-    ghost view = { λ l. record { registers = l.registers.items; accumulator = l.accumulator; received = l.received; items = l.items; printed = l.printed } };
+    ghost view = { λ l.
+        record { registers = l.registers.items; accumulator = l.accumulator; received = l.received; items = l.items; printed = l.printed } };
 }
 
 /// The lengths at a point of a program, and the greatest so far.
@@ -38,8 +39,7 @@ pub(crate) struct Reckoning {
     spare: Length,
 }
 
-/// How much room the program of a rank needs: for each register, for each work buffer, for the items that it prints and
-/// for their bytes.
+/// How much room the program of a rank needs: for each register and work buffer, for the items that it prints and their bytes.
 #[derive(Drop)]
 pub struct Needs {
     pub registers: Vec<Length>,
@@ -154,7 +154,8 @@ impl Lengths {
 
     /// A register is printed.
     fn print_register(&mut self, reg: u8) -> Result<(), AllocError>
-        ensures { OnOk result (self.new ≡ record self.old { items = self.old.items + 1; printed = self.old.printed + length_at self.old reg }) }
+        ensures { OnOk result
+            (self.new ≡ record self.old { items = self.old.items + 1; printed = self.old.printed + length_at self.old reg }) }
     {
         let len = self.len(reg).get() as usize;
         let items = self.items().checked_add(1).ok_or(AllocError)?;
@@ -279,7 +280,10 @@ impl Reckoning {
 
     /// A register is printed.
     fn print(&mut self, reg: u8) -> Result<(), AllocError>
-        ensures after { OnOk result (self.new.lengths ≡ record self.old.lengths { items = self.old.lengths.items + 1; printed = self.old.lengths.printed + length_at self.old.lengths reg }) }
+        ensures after { OnOk result (self.new.lengths ≡ record self.old.lengths {
+          items = self.old.lengths.items + 1;
+          printed = self.old.lengths.printed + length_at self.old.lengths reg;
+        }) }
         ensures wider { OnOk result (IsWider self.old.most self.new.most) }
     {
         let len = self.here.len(reg).get() as usize;

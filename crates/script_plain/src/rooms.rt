@@ -203,7 +203,11 @@ impl Registers {
 
     /// A register becomes `register op more`, value by value, where the two fit.
     pub fn fold(&mut self, op: Op, ty: Ty, reg: u8, more: &[u8])
-        ensures { self.new ≡ record self.old { registers = slice_set self.old.registers reg (folded op ty (slice_index_or self.old.registers reg []) more.now) } }
+        ensures { self.new
+            ≡ record self.old {
+              registers = slice_set self.old.registers reg
+                  (folded op ty (slice_index_or self.old.registers reg []) more.now);
+            } }
     {
         if (reg as usize) < self.rooms.len() {
             self.rooms[reg as usize].fold(op, ty, more);

@@ -76,7 +76,8 @@ fn run_to_end(
     slots: &mut [Option<Left>],
 ) -> Result<End, AllocError>
     requires run { IsRun setup.now ues.old slots.old }
-    ensures { IfOk result (λ end. end ≡ ends_at (run_on (setup_key setup.now) local_next (sum_by cost_of ues.old) (config ues.old slots.old))) }
+    ensures { IfOk result (λ end. end
+        ≡ ends_at (run_on (setup_key setup.now) local_next (sum_by cost_of ues.old) (config ues.old slots.old))) }
 {
     run_on(alloc, setup, ues, slots)?;
     let end = end_all(alloc, ues, slots)?;
@@ -143,7 +144,8 @@ fn run_on(
     slots: &mut [Option<Left>],
 ) -> Result<(), AllocError>
     requires run { IsRun setup.now ues.old slots.old }
-    ensures end { OnOk result (config ues.new slots.new ≡ run_on (setup_key setup.now) local_next (sum_by cost_of ues.old) (config ues.old slots.old)) }
+    ensures end { OnOk result (config ues.new slots.new
+        ≡ run_on (setup_key setup.now) local_next (sum_by cost_of ues.old) (config ues.old slots.old)) }
     ensures still { OnOk result (lowest_step (setup_key setup.now) local_next (config ues.new slots.new) ≡ None) }
 {
     while sweep(alloc, setup, ues, slots)? {}
@@ -158,7 +160,8 @@ fn sweep(
     slots: &mut [Option<Left>],
 ) -> Result<bool, AllocError>
     requires run { IsRun setup.now ues.old slots.old }
-    ensures { IfOk result (λ moved. Sweeps (setup_key setup.now) moved setup.now.nue (config ues.old slots.old) (config ues.new slots.new)) }
+    ensures { IfOk result
+        (λ moved. Sweeps (setup_key setup.now) moved setup.now.nue (config ues.old slots.old) (config ues.new slots.new)) }
 {
     let mut moved = false;
     for number in 0..setup.nue() {

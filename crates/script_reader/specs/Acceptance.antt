@@ -19,7 +19,8 @@ use Rattle.scc_base.specs.Heads.{most_post}
 
 -- a fact holds for each statement, by its place and its effect, and for each rank that runs it
 abbrev pub ForEachRun : Script → (ℕ → Effect → ℕ → Type 0) → Type 0
-ForEachRun script P = (place : ℕ) (item : Item) → slice_get script.items place ≡ Some item → (rank : ℕ) → rank < script.nue → has_rank item.who rank ≡ true → P place (effect_of item.stmt) rank
+ForEachRun script P = (place : ℕ) (item : Item) → slice_get script.items place ≡ Some item → (rank : ℕ) → rank < script.nue
+    → has_rank item.who rank ≡ true → P place (effect_of item.stmt) rank
 
 -- the run of a script, with the groups that its splits make
 abbrev pub groups_of : Script → SetupView

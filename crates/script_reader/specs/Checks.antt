@@ -167,7 +167,8 @@ sets_to (Some set) reg = if set.reg == reg then Some set.len else None
 abbrev pub length_at : ℕ → List Item → ℕ → ℕ → Option ℕ
 length_at nue [] rank reg = None
 length_at nue (item ∷ past) rank reg =
-    option_or (length_at nue past rank reg) (if has_rank item.who rank then sets_to (set_by (run_of nue past) (length_at nue past rank) (effect_of item.stmt) rank) reg else None)
+    option_or (length_at nue past rank reg) (if has_rank item.who rank
+    then sets_to (set_by (run_of nue past) (length_at nue past rank) (effect_of item.stmt) rank) reg else None)
 
 -- Unset: a statement that reads a register which the rank has not set
 abbrev pub is_unset : SetupView → (ℕ → Option ℕ) → Effect → ℕ → Bool
@@ -259,7 +260,8 @@ cost_of run (cost.Steps call) rank = steps_in run rank (of_no_bytes call)
 -- how many operations a rank has: each statement counts once for each time that it runs
 abbrev pub operations : ℕ → List Item → ℕ → ℕ
 operations nue [] rank = 0
-operations nue (item ∷ past) rank = operations nue past rank + (if has_rank item.who rank then turns_in (open_of past) * cost_of (run_of nue past) (effect_of item.stmt).cost rank else 0)
+operations nue (item ∷ past) rank = operations nue past rank
+    + (if has_rank item.who rank then turns_in (open_of past) * cost_of (run_of nue past) (effect_of item.stmt).cost rank else 0)
 
 -- TooManyOps: at a repeat, the statements in it would run more often than a rank has operations
 abbrev pub turns_too_often : ℕ → Nesting → Bool
@@ -278,7 +280,8 @@ prints had e = option_map_or (λ reg. unwrap_or (had reg) 0) e.prints 0
 -- how many bytes of registers a rank prints in these statements, each as often as its repeats say
 abbrev pub printed : ℕ → List Item → ℕ → ℕ
 printed nue [] rank = 0
-printed nue (item ∷ past) rank = printed nue past rank + (if has_rank item.who rank then turns_in (open_of past) * prints (length_at nue past rank) (effect_of item.stmt) else 0)
+printed nue (item ∷ past) rank = printed nue past rank
+    + (if has_rank item.who rank then turns_in (open_of past) * prints (length_at nue past rank) (effect_of item.stmt) else 0)
 
 -- a length that a statement says is more than a message has
 abbrev pub is_past_most : Size → Bool
@@ -306,7 +309,8 @@ refuses kind.Unset nue past e rank = is_unset (run_of nue past) (length_at nue p
 refuses kind.Shape nue past e rank = is_misshapen (run_of nue past) (length_at nue past rank) e rank
 refuses kind.TooManyOps nue past e rank = is_overworked (run_of nue past) (operations nue past rank) (turns_in (open_of past)) e.cost rank
 refuses kind.TooLong nue past e rank =
-    posts_too_much (length_at nue past rank) e || prints_too_much (length_at nue past rank) (printed nue past rank) (turns_in (open_of past)) e
+    posts_too_much (length_at nue past rank) e
+    || prints_too_much (length_at nue past rank) (printed nue past rank) (turns_in (open_of past)) e
 refuses kind.NotText nue past e rank = false
 refuses kind.UnknownStatement nue past e rank = false
 refuses kind.WrongCount nue past e rank = false

@@ -29,7 +29,8 @@ stmt_at items place = option_map (λ item. item.stmt) (slice_get items place)
 
 -- each repeat has the place of an end that stands behind it and names it
 abbrev pub HaveEnds : List Item → Type 0
-HaveEnds items = (place times end : ℕ) → stmt_at items place ≡ Some (stmt.Repeat times end) → (place < end) × (stmt_at items end ≡ Some (stmt.End place))
+HaveEnds items =
+    (place times end : ℕ) → stmt_at items place ≡ Some (stmt.Repeat times end) → (place < end) × (stmt_at items end ≡ Some (stmt.End place))
 
 -- the section of the latest statement
 abbrev pub latest_section : List Item → Option Who

@@ -15,7 +15,8 @@ with_end items start place item nesting.Stays = items
 
 -- a repeat's `end` is told to its `repeat`, if the item there is one
 abbrev pub ended : List Item → ℕ → ℕ → List Item
-ended items start place = option_map_or (λ item. with_end items start place item (effect_of item.stmt).nesting) (slice_get items start) items
+ended items start place =
+    option_map_or (λ item. with_end items start place item (effect_of item.stmt).nesting) (slice_get items start) items
 
 -- a statement tells its repeat its place, if it is an end
 abbrev pub told : List Item → ℕ → Nesting → List Item

@@ -193,9 +193,11 @@ after_message line p (message.Recv peer name len) = do
 abbrev pub after_group : ℕ → Progress → Collective → Result Progress FaultKind
 after_group line p (group.Barrier comm) = place line p (stmt.Barrier (small comm))
 after_group line p (group.Split comm parent colour parts) = place line p (stmt.Split (small comm) (rule_said colour (small parent) parts))
-after_group line p (group.Bcast comm root name len) = place line (named p name) (stmt.Bcast (small comm) (small root) (register_of p.names name) len)
+after_group line p (group.Bcast comm root name len) =
+    place line (named p name) (stmt.Bcast (small comm) (small root) (register_of p.names name) len)
 after_group line p (group.Reduce comm root op ty dst src) =
-    place line (named (named p dst) src) (stmt.Reduce (small comm) (small root) op ty (register_of p.names dst) (register_of (named p dst).names src))
+    place line (named (named p dst) src)
+    (stmt.Reduce (small comm) (small root) op ty (register_of p.names dst) (register_of (named p dst).names src))
 after_group line p (group.Allreduce comm op ty dst src) =
     place line (named (named p dst) src) (stmt.Allreduce (small comm) op ty (register_of p.names dst) (register_of (named p dst).names src))
 

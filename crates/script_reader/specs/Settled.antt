@@ -27,7 +27,8 @@ HasPeer nue e rank = IfSome e.peer (λ peer. peer_of nue peer rank < nue)
 pub record IsSettled (nue : ℕ) (comms : List CommRule) (item : Item) : Type 0 where
   pub below : (rank : ℕ) → rank < nue → has_rank item.who rank ≡ true → HasPeer nue (effect_of item.stmt) rank
   pub other : (rank : ℕ) → rank < nue → has_rank item.who rank ≡ true → is_to_self nue (effect_of item.stmt) rank ≡ false
-  pub present : (rank : ℕ) → rank < nue → has_rank item.who rank ≡ true → rule_of comms (comm_needed (effect_of item.stmt).group) ≢ rule.Absent
+  pub present : (rank : ℕ) → rank < nue → has_rank item.who rank ≡ true
+      → rule_of comms (comm_needed (effect_of item.stmt).group) ≢ rule.Absent
   pub rooted : (rank : ℕ) → rank < nue → has_rank item.who rank ≡ true → has_no_root (run_with nue comms) (effect_of item.stmt) rank ≡ false
 
 -- a split has a rule
@@ -45,13 +46,15 @@ HaveRules (item ∷ past) = HaveRules past × HasRule (effect_of item.stmt).grou
 abbrev pub ArePassed : ℕ → List Item → Type 0
 ArePassed nue [] = Unit {0}
 ArePassed nue (item ∷ past) =
-    ArePassed nue past × ((kind : FaultKind) (rank : ℕ) → rank < nue → has_rank item.who rank ≡ true → refuses kind nue past (effect_of item.stmt) rank ≡ false)
+    ArePassed nue past × ((kind : FaultKind) (rank : ℕ) → rank < nue → has_rank item.who rank ≡ true
+    → refuses kind nue past (effect_of item.stmt) rank ≡ false)
 
 -- a statement that the checks of its line let pass behind others: the splits so far are rules that a setup may have, the
 -- communicator that it needs has one, a length that it sets is one of a message, and it opens no repeat too many
 pub record IsInLine (nue : ℕ) (past : List Item) (item : Item) : Type 0 where
   pub rules : AreRules (rules_of (reverse past))
-  pub present : (rank : ℕ) → rank < nue → has_rank item.who rank ≡ true → rule_of (rules_of (reverse past)) (comm_needed (effect_of item.stmt).group) ≢ rule.Absent
+  pub present : (rank : ℕ) → rank < nue → has_rank item.who rank ≡ true
+      → rule_of (rules_of (reverse past)) (comm_needed (effect_of item.stmt).group) ≢ rule.Absent
   pub sized : IsSized item.stmt
   pub flat : is_too_deep (open_of past) (effect_of item.stmt).nesting ≡ false
 

@@ -50,8 +50,10 @@ abbrev pub AreTallies : List Tally → ℕ → List Item → Type 0
 AreTallies tallies nue past = (rank : ℕ) (d : Tally) → rank < nue → IsTally (slice_index_or tallies rank d) nue past rank
 
 -- what is kept of the statements so far: their groups, the open repeats and the tallies are those of the statements, and
--- their lengths and registers fit
-pub record IsKept (version : Version) (nue : ℕ) (items : List Item) (names : List (List ℕ)) (run : SetupView) (repeats : List Open) (tallies : List Tally) : Type 0 where
+-- their lengths and registers fit. Seven parameters: what the reader is told (the version, the number of ranks), what was
+-- read (the statements, the names of registers), and the three that it keeps of them.
+pub record IsKept (version : Version) (nue : ℕ) (items : List Item) (names : List (List ℕ)) (run : SetupView) (repeats : List Open)
+    (tallies : List Tally) : Type 0 where
   pub some : 1 ≤ nue
   pub most : nue ≤ 48
   pub sized : All (λ item. IsSized item.stmt) items
@@ -131,7 +133,8 @@ refuses_by kind.NotSplit run tally turns e rank = is_not_split (split_in tally) 
 refuses_by kind.Unset run tally turns e rank = is_unset run (length_in tally) e rank
 refuses_by kind.Shape run tally turns e rank = is_misshapen run (length_in tally) e rank
 refuses_by kind.TooManyOps run tally turns e rank = is_overworked run tally.operations turns e.cost rank
-refuses_by kind.TooLong run tally turns e rank = posts_too_much (length_in tally) e || prints_too_much (length_in tally) tally.printed turns e
+refuses_by kind.TooLong run tally turns e rank =
+    posts_too_much (length_in tally) e || prints_too_much (length_in tally) tally.printed turns e
 refuses_by kind.NotText run tally turns e rank = false
 refuses_by kind.UnknownStatement run tally turns e rank = false
 refuses_by kind.WrongCount run tally turns e rank = false
@@ -164,5 +167,5 @@ pub record IsUpTo (version : Version) (line : ℕ) (p : Progress) : Type 0 where
   pub counted : length p.items ≤ line
 
 -- the numbers of two registers, of which the first is named first
-abbrev pub pair_of : Progress → List ℕ → List ℕ → Pair
-pair_of p dst src = record { dst = register_of p.names dst; src = register_of (named p dst).names src }
+abbrev pub register_pair : Progress → List ℕ → List ℕ → Pair
+register_pair p dst src = record { dst = register_of p.names dst; src = register_of (named p dst).names src }

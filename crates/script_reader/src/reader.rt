@@ -68,7 +68,7 @@ impl Reader {
     ghost use Rattle.script_reader.specs.Settled.{HasCommsTo, IsNamed};
     ghost use Rattle.script_reader.specs.Reading.{script_of};
     ghost use Rattle.script_reader.specs.Script.{has_rank};
-    ghost use Rattle.script_reader.specs.Tally.{IsAimed, IsMade, IsUpTo, pair_of};
+    ghost use Rattle.script_reader.specs.Tally.{IsAimed, IsMade, IsUpTo, register_pair};
     ghost use Rattle.script_reader.specs.Limits.{most_names};
 
     /// Before the first line.
@@ -172,7 +172,8 @@ impl Reader {
 
     /// Whether the statement has the fault for some of these ranks.
     fn is_refused_by(&self, who: &Who, kind: FaultKind, effect: &Effect) -> bool
-        ensures { result ≡ some_below self.now.nue (λ rank. has_rank who.now rank && refuses kind self.now.nue (past self.now) effect.now rank) }
+        ensures { result ≡ some_below self.now.nue (λ rank. has_rank who.now rank
+            && refuses kind self.now.nue (past self.now) effect.now rank) }
     {
         for rank in 0..self.nue {
             if who.has(rank) && self.refuses(kind, effect, rank) {
@@ -273,7 +274,7 @@ impl Reader {
     /// The numbers of two registers, of which the first is named first.
     pub(crate) fn registers(&mut self, dst: Name, src: Name) -> Result<Pair, AllocError>
         requires { length self.old.names ≤ most_names }
-        ensures gives { IfOk result (λ pair. pair ≡ pair_of self.old dst src) }
+        ensures gives { IfOk result (λ pair. pair ≡ register_pair self.old dst src) }
         ensures dst { IfOk result (λ pair. pair.dst < length self.new.names) }
         ensures src { IfOk result (λ pair. pair.src < length self.new.names) }
         ensures named { OnOk result (self.new ≡ named (named self.old dst) src) }

@@ -287,9 +287,11 @@ impl Scripts {
         // A message has another rank of the run, a communicator that is used has a rule, a root is a place of the group.
         ensures settled { All (IsSettled self.now.nue (rules_of self.now.items)) self.now.items }
         // A register that is read has been set by the rank in an earlier line.
-        ensures set { ForEachRun self.now (λ place effect rank. IsReadable (groups_of self.now) (length_before self.now place rank) effect rank) }
+        ensures set { ForEachRun self.now
+            (λ place effect rank. IsReadable (groups_of self.now) (length_before self.now place rank) effect rank) }
         // A register of a rank has one length in the whole script.
-        ensures stays { (place rank reg len : ℕ) → length_before self.now place rank reg ≡ Some len → length_of self.now rank reg ≡ Some len }
+        ensures stays { (place rank reg len : ℕ) → length_before self.now place rank reg ≡ Some len
+            → length_of self.now rank reg ≡ Some len }
         // It is the one that each statement gives it or needs; those of a fold are equal, and whole values.
         ensures fitting { ForEachRun self.now (λ place effect rank. IsFitting (groups_of self.now) (length_of self.now rank) effect rank) }
         ensures postable { ForEachRun self.now (λ place effect rank. IsPostable (length_of self.now rank) effect) }

@@ -62,7 +62,8 @@ fn rule_said(colour: Colour, parent: u8, parts: Parts) -> CommRule
 
 /// A section line from one rank to another.
 fn take_span(reader: &mut Reader, first: u32, last: u32) -> Result<(), FaultKind>
-    ensures gives { MatchResult result (λ _. after_section reader.old (Span first last) ≡ Ok reader.new) (λ kind. after_section reader.old (Span first last) ≡ Err kind) }
+    ensures gives { MatchResult result (λ _. after_section reader.old (Span first last)
+        ≡ Ok reader.new) (λ kind. after_section reader.old (Span first last) ≡ Err kind) }
     ensures names { OnOk result (reader.new.names ≡ reader.old.names) }
     ensures items { OnOk result (reader.new.items ≡ reader.old.items) }
     ensures version { OnOk result (reader.new.version ≡ reader.old.version) }
@@ -76,7 +77,8 @@ fn take_span(reader: &mut Reader, first: u32, last: u32) -> Result<(), FaultKind
 }
 
 fn take_section(reader: &mut Reader, section: Section) -> Result<(), FaultKind>
-    ensures gives { MatchResult result (λ _. after_section reader.old section ≡ Ok reader.new) (λ kind. after_section reader.old section ≡ Err kind) }
+    ensures gives { MatchResult result (λ _. after_section reader.old section ≡ Ok reader.new) (λ kind. after_section reader.old section
+        ≡ Err kind) }
     ensures names { OnOk result (reader.new.names ≡ reader.old.names) }
     ensures items { OnOk result (reader.new.items ≡ reader.old.items) }
     ensures version { OnOk result (reader.new.version ≡ reader.old.version) }

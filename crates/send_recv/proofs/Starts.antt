@@ -20,7 +20,7 @@ use Rattle.send_recv.specs.declared.stages.RecvStage.TheVariants as receive
 use Rattle.send_recv.specs.declared.stages.SendStage.{SendStage}
 use Rattle.send_recv.specs.declared.stages.SendStage.TheVariants as stages
 use Rattle.send_recv.specs.declared.answers.RecvTurn.TheVariants as recv_turn
-use Rattle.send_recv.specs.Chunks.{chunk_count, lines_of, lines_from}
+use Rattle.send_recv.specs.Chunks.{chunk_count, lines_of_bytes, lines_from}
 use Rattle.send_recv.specs.Ops.{RecvAt, SendAt, SlotAt, new_receive, new_send, empty_slot, slot_left, slot_left_by}
 use Rattle.send_recv.specs.Receiving.{RecvStands, RecvTurned, IsReceiving, IsAtStage, recv_left}
 use Rattle.send_recv.specs.Sending.{SlotStands, SlotTurned, SendStands, SendTurned, IsSending, IsAtSendStage, was_answered, send_left, of_chunk}
@@ -175,8 +175,8 @@ each_most LineFlags false = omega arith
 each_most BitFlags true = omega arith
 each_most BitFlags false = omega arith
 
-lines_all : (size len : ℕ) → lines_from size len 0 ≡ lines_of len
-lines_all size len = let none : len - size * 0 ≡ len = omega arith in ap (λ (n : ℕ). lines_of n) none
+lines_all : (size len : ℕ) → lines_from size len 0 ≡ lines_of_bytes len
+lines_all size len = let none : len - size * 0 ≡ len = omega arith in ap (λ (n : ℕ). lines_of_bytes n) none
 
 within : (lines chunks : ℕ) → 1 + lines + 3 * (chunks - 0) ≤ 4 + 5 * chunks + lines
 within lines chunks = omega arith
@@ -187,13 +187,13 @@ product_most each chunks le = mul-le-mul_right chunks le
 few_slot_turns : (slot lines product chunks : ℕ) → slot ≤ 2 → product ≤ 4 * (chunks - 0) → slot + 1 + lines + product ≤ 4 + 5 * chunks + lines
 few_slot_turns slot lines product chunks few le = omega (arith, few, le)
 
-pub new_receive_left : (size from : ℕ) (head : MessageHead) → recv_left size (new_receive from head) ≤ 4 + 5 * chunk_count size head.len + lines_of head.len
+pub new_receive_left : (size from : ℕ) (head : MessageHead) → recv_left size (new_receive from head) ≤ 4 + 5 * chunk_count size head.len + lines_of_bytes head.len
 new_receive_left size from head =
-    subst (λ (l : ℕ). 1 + l + 3 * (chunk_count size head.len - 0) ≤ 4 + 5 * chunk_count size head.len + lines_of head.len) (sym (lines_all size head.len)) (within (lines_of head.len) (chunk_count size head.len))
+    subst (λ (l : ℕ). 1 + l + 3 * (chunk_count size head.len - 0) ≤ 4 + 5 * chunk_count size head.len + lines_of_bytes head.len) (sym (lines_all size head.len)) (within (lines_of_bytes head.len) (chunk_count size head.len))
 
 pub new_send_left : (layout : Layout) (size to : ℕ) (head : MessageHead) (posted : Bool) (slot : SlotAt)
-    → send_left layout size (new_send to head posted) slot ≤ 4 + 5 * chunk_count size head.len + lines_of head.len
+    → send_left layout size (new_send to head posted) slot ≤ 4 + 5 * chunk_count size head.len + lines_of_bytes head.len
 new_send_left layout size to head posted slot =
-    subst (λ (l : ℕ). slot_left slot + 1 + l + of_chunk layout posted * (chunk_count size head.len - 0) ≤ 4 + 5 * chunk_count size head.len + lines_of head.len) (sym (lines_all size head.len))
-    (few_slot_turns (slot_left slot) (lines_of head.len) (of_chunk layout posted * (chunk_count size head.len - 0)) (chunk_count size head.len) (slot_left_most slot)
+    subst (λ (l : ℕ). slot_left slot + 1 + l + of_chunk layout posted * (chunk_count size head.len - 0) ≤ 4 + 5 * chunk_count size head.len + lines_of_bytes head.len) (sym (lines_all size head.len))
+    (few_slot_turns (slot_left slot) (lines_of_bytes head.len) (of_chunk layout posted * (chunk_count size head.len - 0)) (chunk_count size head.len) (slot_left_most slot)
     (product_most (of_chunk layout posted) (chunk_count size head.len - 0) (each_most layout posted)))

@@ -4,14 +4,17 @@ use Rattle.std.specs.Prelude.{ℕ, ◌+◌, ◌*◌, ◌/◌, ◌%◌, List, [],
 use Rattle.scc_base.specs.Bytes.{byte_of_word}
 
 -- the word of the eight bytes from a byte on; bytes past the end are 0
-abbrev pub word_at : List ℕ → ℕ → ℕ
-word_at bytes at =
-    (slice_index bytes at + 0x100 * slice_index bytes (at + 1) + 0x10000 * slice_index bytes (at + 2) + 0x1000000 * slice_index bytes (at + 3))
-    + 0x100000000 * (slice_index bytes (at + 4) + 0x100 * slice_index bytes (at + 4 + 1) + 0x10000 * slice_index bytes (at + 4 + 2) + 0x1000000 * slice_index bytes (at + 4 + 3))
+abbrev pub word_of_bytes : List ℕ → ℕ → ℕ
+word_of_bytes bytes at =
+    (slice_index bytes at + 0x100 * slice_index bytes (at + 1) + 0x10000 * slice_index bytes (at + 2)
+    + 0x1000000 * slice_index bytes (at + 3))
+    + 0x100000000 * (slice_index bytes (at + 4) + 0x100 * slice_index bytes (at + 4 + 1) + 0x10000 * slice_index bytes (at + 4 + 2)
+    + 0x1000000 * slice_index bytes (at + 4 + 3))
 
 -- the words of the line of 32 bytes from a byte on
 abbrev pub words_at : List ℕ → ℕ → List ℕ
-words_at bytes at = word_at bytes at ∷ word_at bytes (at + 8) ∷ word_at bytes (at + 16) ∷ word_at bytes (at + 24) ∷ []
+words_at bytes at =
+    word_of_bytes bytes at ∷ word_of_bytes bytes (at + 8) ∷ word_of_bytes bytes (at + 16) ∷ word_of_bytes bytes (at + 24) ∷ []
 
 -- a byte of a line
 abbrev pub byte_of_line : List ℕ → ℕ → ℕ

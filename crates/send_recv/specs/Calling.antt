@@ -47,7 +47,8 @@ pub record Received (old : Receiver) (polls : ℕ) (now : BufferHolder) : Type 0
   pub no_stall : HasNotStalled old.sight.seat old.op polls events
   -- at most four loads for each look at the flag, for each line that was left to load, and for each eviction
   pub work : load_count events + 4 * old.core.evictions
-      ≤ 4 * (tries_at (sent_aim old.sight.seat old.op) events + lines_left (layout_at old.sight) (chunk_at old.sight) old.op) + 4 * now.core.evictions
+      ≤ 4 * (tries_at (sent_aim old.sight.seat old.op) events + lines_left (layout_at old.sight) (chunk_at old.sight) old.op)
+      + 4 * now.core.evictions
 
 -- a receive gave up: the op that is handed back can go on, and the buffer has the chunks that were taken
 pub record RecvStalled (old : Receiver) (polls : ℕ) (now : Receiver) (spot : Spot) : Type 0 where
@@ -151,7 +152,8 @@ pub record SendStalled (old : Sender) (polls : ℕ) (now : Sender) (spot : Spot)
 -- what a send comes to
 abbrev pub SendEnds : Sender → ℕ → SlotHolder → Result Unit SendStop → Type 0
 SendEnds old polls now (Ok done) = Sent old now
-SendEnds old polls now (Err (send_stop.Stalled op spot count)) = (count ≡ polls) × SendStalled old polls (sending now.sight now.core op now.slot old.bytes) spot
+SendEnds old polls now (Err (send_stop.Stalled op spot count)) =
+    (count ≡ polls) × SendStalled old polls (sending now.sight now.core op now.slot old.bytes) spot
 
 -- ---- between calls
 

@@ -17,16 +17,16 @@ abbrev pub chunk_len : ℕ → ℕ → ℕ → ℕ
 chunk_len size len chunk = min size (len - size * chunk)
 
 -- how many lines n bytes take
-abbrev pub lines_of : ℕ → ℕ
-lines_of bytes = (bytes + 31) / 32
+abbrev pub lines_of_bytes : ℕ → ℕ
+lines_of_bytes bytes = (bytes + 31) / 32
 
 -- how many lines chunk i of a message takes
 abbrev pub chunk_lines_of : ℕ → ℕ → ℕ → ℕ
-chunk_lines_of size len chunk = lines_of (chunk_len size len chunk)
+chunk_lines_of size len chunk = lines_of_bytes (chunk_len size len chunk)
 
 -- how many lines chunk i and all later ones take
 abbrev pub lines_from : ℕ → ℕ → ℕ → ℕ
-lines_from size len chunk = lines_of (len - size * chunk)
+lines_from size len chunk = lines_of_bytes (len - size * chunk)
 
 -- chunk i of a message is its last
 abbrev pub is_last_chunk : ℕ → ℕ → ℕ → Bool
@@ -34,4 +34,4 @@ is_last_chunk size len chunk = nat_le len (size * (chunk + 1))
 
 -- the most turns that do not wait of a message of `len` bytes: 4 + 5c + l, for c chunks of l lines
 abbrev pub message_bound : Layout → ℕ → ℕ
-message_bound layout len = 4 + 5 * chunk_count (chunk_size layout) len + lines_of len
+message_bound layout len = 4 + 5 * chunk_count (chunk_size layout) len + lines_of_bytes len

@@ -24,18 +24,22 @@ bit_of BitFlags bit = Some bit
 abbrev pub is_set : Layout → FlagPlace → ℕ → Bool
 is_set layout flag word = is_set_in (bit_of layout flag.bit) word
 
--- a look: the cache was emptied, and the line of the flag loaded anew
+-- a look: the cache was emptied, and the line of the flag loaded anew. Seven parameters: at which core and which flag, what
+-- was found, and the rank's sight and core before and after.
 abbrev pub Looks : Sight → Private → ℕ → FlagPlace → Bool → Sight → Private → Type 0
 Looks s c core flag found t d = ReadsFlag s c (flag_word core flag) (bit_of s.seat.setup.layout flag.bit) found t d
 
--- a line flag was written: what the buffer held was stored first
-pub record WritesFlag (s : Sight) (c : Private) (core : ℕ) (flag : FlagPlace) (set : Bool) (t : Sight) (d : Private) : Type 0 where
+-- a line flag was written: what the buffer held was stored first. Seven parameters: at which core and which flag, the value,
+-- and the rank's sight and core before and after.
+pub record WritesLineFlag (s : Sight) (c : Private) (core : ℕ) (flag : FlagPlace) (set : Bool) (t : Sight) (d : Private) : Type 0 where
   pub did : Did s (stores_of c.out ++ (store_of (flag_word core flag) (if set then 1 else 0)) ∷ []) t
   pub is : d ≡ record c { lines = noted c.lines (flag_word core flag) (if set then 1 else 0); out = None }
 
 -- one try of a bit's change: the register was taken by another rank, or the word was loaded, stored with the
--- bit turned over, and the register freed
-pub data TriesBit (s : Sight) (c : Private) (core : ℕ) (flag : FlagPlace) (set : Bool) (done : Bool) (t : Sight) (d : Private) : Type 0 where
+-- bit turned over, and the register freed. Eight parameters: at which core and which flag, the value, whether the try was
+-- done, and the rank's sight and core before and after.
+pub data TriesBit (s : Sight) (c : Private) (core : ℕ) (flag : FlagPlace) (set : Bool) (done : Bool) (t : Sight)
+    (d : Private) : Type 0 where
   Missed : done ≡ false → Did s (take_of core false ∷ []) t → d ≡ c → TriesBit s c core flag set done t d
   Changed : done ≡ true → (words : List ℕ) → bit_at (slice_index words flag.word) flag.bit ≡ (if set then 0 else 1)
       → Did s (change_events (flag_word core flag) flag.bit set words) t
@@ -43,12 +47,13 @@ pub data TriesBit (s : Sight) (c : Private) (core : ℕ) (flag : FlagPlace) (set
       → d ≡ record m { lines = noted m.lines (flag_word core flag) (with_bit flag.bit set (slice_index words flag.word)) }
       → TriesBit s c core flag set done t d
 
--- one turn changes a flag: with line flags it is written, with bit flags its bit is tried
+-- one turn changes a flag: with line flags it is written, with bit flags its bit is tried. Nine parameters: those of
+-- `TriesBit`, and the layout.
 abbrev pub ChangesBy : Layout → Sight → Private → ℕ → FlagPlace → Bool → Bool → Sight → Private → Type 0
-ChangesBy LineFlags s c core flag set done t d = (done ≡ true) × WritesFlag s c core flag set t d
+ChangesBy LineFlags s c core flag set done t d = (done ≡ true) × WritesLineFlag s c core flag set t d
 ChangesBy BitFlags s c core flag set done t d = TriesBit s c core flag set done t d
 
--- one turn changes a flag, in the layout of the port's setup
+-- one turn changes a flag, in the layout of the port's setup. Eight parameters, those of `TriesBit`.
 abbrev pub Changes : Sight → Private → ℕ → FlagPlace → Bool → Bool → Sight → Private → Type 0
 Changes s c core flag set done t d = ChangesBy s.seat.setup.layout s c core flag set done t d
 
@@ -64,7 +69,8 @@ pub record MayWriteFlag (s : Sight) (c : Private) (core : ℕ) (flag : FlagPlace
 pub record MayChangeBit (s : Sight) (c : Private) (core : ℕ) (flag : FlagPlace) (set : Bool) : Type 0 where
   pub empty : c.out ≡ None
   pub hands : (record_in s).held core ≡ None
-  pub permitted : (words : List ℕ) (t : Sight) → Did s (take_of core true ∷ loads_of (line_of_word (flag_word core flag)) words) t → IsSoundPort t
+  pub permitted : (words : List ℕ) (t : Sight) → Did s (take_of core true ∷ loads_of (line_of_word (flag_word core flag)) words) t
+      → IsSoundPort t
       → MayMake t.seat (record_in t) (store_of (flag_word core flag) (with_bit flag.bit set (slice_index words flag.word)))
       × (bit_at (slice_index words flag.word) flag.bit ≡ (if set then 0 else 1))
 

@@ -77,11 +77,14 @@ pub record IsTakingLines (size : ℕ) (rec : Record) (op : RecvAt) (bytes : List
 abbrev pub IsAtStage : Seat → Record → Private → RecvAt → List ℕ → RecvStage → Type 0
 IsAtStage seat rec c op bytes Look = rec.stage ≡ between (chunk_of seat.setup) op bytes
 IsAtStage seat rec c op bytes Header = (op.chunk ≡ 0) × (rec.stage ≡ Idle) × (header : Notes) × (rec.notes op.from ≡ Some header)
-IsAtStage seat rec c op bytes Lower = (rec.stage ≡ between (chunk_of seat.setup) op bytes) × (header : Notes) × (rec.notes op.from ≡ Some header)
+IsAtStage seat rec c op bytes Lower =
+    (rec.stage ≡ between (chunk_of seat.setup) op bytes) × (header : Notes) × (rec.notes op.from ≡ Some header)
     × (op.chunk ≡ 0 → SaysHead header op.head)
-IsAtStage seat rec c op bytes (Lines i) = (i < lines_now (chunk_of seat.setup) op) × (chunk : Notes) × IsTakingLines (chunk_of seat.setup) rec op bytes chunk i
+IsAtStage seat rec c op bytes (Lines i) =
+    (i < lines_now (chunk_of seat.setup) op) × (chunk : Notes) × IsTakingLines (chunk_of seat.setup) rec op bytes chunk i
     × (i ≢ 0 → AreNoted seat.setup.layout (host_of seat.setup.hosts op.from) chunk c.lines)
-IsAtStage seat rec c op bytes Raise = (chunk : Notes) × IsTakingLines (chunk_of seat.setup) rec op bytes chunk (lines_now (chunk_of seat.setup) op)
+IsAtStage seat rec c op bytes Raise =
+    (chunk : Notes) × IsTakingLines (chunk_of seat.setup) rec op bytes chunk (lines_now (chunk_of seat.setup) op)
 IsAtStage seat rec c op bytes Finished = rec.stage ≡ Idle
 
 -- the record, the cache and the caller's bytes stand where the receive stands
@@ -109,7 +112,9 @@ recv_left_by more lines now first Finished = 0
 
 -- how many turns a receive has left
 abbrev pub recv_left : ℕ → RecvAt → ℕ
-recv_left size op = recv_left_by (chunk_count size op.head.len - op.chunk) (lines_from size op.head.len op.chunk) (lines_now size op) (op.chunk == 0) op.stage
+recv_left size op =
+    recv_left_by (chunk_count size op.head.len - op.chunk) (lines_from size op.head.len op.chunk) (lines_now size op)
+    (op.chunk == 0) op.stage
 
 -- the lines of flags that a change of a flag loads: with bit flags the flags' line, under its register
 abbrev pub flag_lines : Layout → ℕ
@@ -198,7 +203,8 @@ abbrev pub RecvDoes : Receiver → RecvStage → (done : Bool) → Sight → Pri
 RecvDoes old Look done t d = LooksFor Sent old.sight old.core old.op.from done t d
 RecvDoes old Header done t d = (words : List ℕ) × ReadsLine old.sight (cleared old.core) (header_line old.sight old.op.from) words t d
 RecvDoes old Lower done t d = Lowers Sent old.sight old.core old.op.from done t d
-RecvDoes old (Lines i) done t d = (words : List ℕ) × ReadsLine old.sight (before_line i old.core) (chunk_line old.sight old.op.from i) words t d
+RecvDoes old (Lines i) done t d =
+    (words : List ℕ) × ReadsLine old.sight (before_line i old.core) (chunk_line old.sight old.op.from i) words t d
 RecvDoes old Raise done t d = Raises Ready old.sight old.core old.op.from done t d
 RecvDoes old Finished done t d = (t ≡ old.sight) × (d ≡ old.core)
 

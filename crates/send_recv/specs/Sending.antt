@@ -26,7 +26,7 @@ use Rattle.put_get.specs.Accesses.{whole_line}
 use Rattle.put_get.specs.Cores.{Private, WritesLine, Flushes}
 use Rattle.send_recv.specs.declared.stages.SendStage.{SendStage}
 use Rattle.send_recv.specs.declared.stages.SendStage.TheVariants.{Header, Lines, Flush, Raise, Look, Lower, Finished}
-use Rattle.send_recv.specs.Bytes.{word_at, words_at}
+use Rattle.send_recv.specs.Bytes.{word_of_bytes, words_at}
 use Rattle.send_recv.specs.Chunks.{chunk_count, chunk_start, chunk_lines_of, lines_from}
 use Rattle.send_recv.specs.Ops.{SendAt, SlotAt, is_sent, slot_left}
 use Rattle.send_recv.specs.Ranks.{Sender, SlotHolder, with_slot}
@@ -71,7 +71,8 @@ SlotMeans slot now (turn.Waiting spot) = now ≡ slot
 SlotMeans slot now turn.Done = (slot.to ≡ None) × (now ≡ slot)
 
 -- what a turn of a slot does, by its target and whether `ready` was seen: it looks at `ready`, then lowers it; the
--- look or the change is done where the flag was found set, or its register free
+-- look or the change is done where the flag was found set, or its register free. Seven parameters: the slot's target and
+-- whether `ready` was seen, whether it was done, and the rank's sight and core before and after.
 abbrev pub SlotDoesBy : Sight → Private → (to : Option ℕ) → (seen : Bool) → (done : Bool) → Sight → Private → Type 0
 SlotDoesBy s c None seen done t d = (t ≡ s) × (d ≡ c)
 SlotDoesBy s c (Some to) false done t d = LooksFor Ready s c to done t d
@@ -115,7 +116,8 @@ own_line seat line = record { core = host_of seat.setup.hosts seat.rank; line = 
 
 -- the four words of a header line
 abbrev pub header_words : MessageHead → Bool → List ℕ
-header_words head posted = header_word head posted 0 ∷ header_word head posted 1 ∷ header_word head posted 2 ∷ header_word head posted 3 ∷ []
+header_words head posted =
+    header_word head posted 0 ∷ header_word head posted 1 ∷ header_word head posted 2 ∷ header_word head posted 3 ∷ []
 
 -- how many lines the chunk in hand has
 abbrev pub lines_in_hand : ℕ → SendAt → ℕ
@@ -126,7 +128,8 @@ lines_in_hand size op = chunk_lines_of size op.head.len op.chunk
 abbrev pub waiting : Seat → SendAt → List ℕ → ℕ → Option Out
 waiting seat op bytes zero = if op.chunk == 0 then Some (whole_line (own_line seat 0) (header_words op.head op.posted)) else None
 waiting seat op bytes (suc i) =
-    Some (whole_line (own_line seat (first_chunk seat.setup.layout + i)) (words_at bytes (chunk_start (chunk_of seat.setup) op.chunk + 32 * i)))
+    Some (whole_line (own_line seat (first_chunk seat.setup.layout + i))
+    (words_at bytes (chunk_start (chunk_of seat.setup) op.chunk + 32 * i)))
 
 -- all words of the header are drafted
 abbrev pub HasHeader : Notes → SendAt → Type 0
@@ -134,13 +137,15 @@ HasHeader header op = (k : ℕ) → k < 4 → noted header k ≡ Some (header_wo
 
 -- the words of the first lines of the chunk in hand are drafted
 abbrev pub HasLines : ℕ → Notes → SendAt → List ℕ → ℕ → Type 0
-HasLines size chunk op bytes lines = (k : ℕ) → k < 4 * lines → noted chunk k ≡ Some (word_at bytes (chunk_start size op.chunk + 8 * k))
+HasLines size chunk op bytes lines =
+    (k : ℕ) → k < 4 * lines → noted chunk k ≡ Some (word_of_bytes bytes (chunk_start size op.chunk + 8 * k))
 
 -- the header, where it is the first chunk, and these lines of the chunk in hand are drafted
 pub data HasDrafted (size : ℕ) (stage : Stage) (op : SendAt) (bytes : List ℕ) (lines : ℕ) : Type 0 where
   First : (header chunk : Notes) → op.chunk ≡ 0 → stage ≡ Drafting header chunk → HasHeader header op → HasLines size chunk op bytes lines
       → HasDrafted size stage op bytes lines
-  Later : (chunk : Notes) → op.chunk ≢ 0 → stage ≡ Sending op.to Filling (progress_at size op.head op.chunk bytes) chunk → HasLines size chunk op bytes lines
+  Later : (chunk : Notes) → op.chunk ≢ 0 → stage ≡ Sending op.to Filling (progress_at size op.head op.chunk bytes) chunk
+      → HasLines size chunk op bytes lines
       → HasDrafted size stage op bytes lines
 
 -- the chunk in hand is raised, or its `ready` was seen
@@ -163,20 +168,24 @@ DraftedBefore size stage op bytes (suc i) = HasDrafted size stage op bytes i
 abbrev pub IsBeforeRaise : Layout → Seat → Stage → Private → SendAt → List ℕ → Type 0
 IsBeforeRaise LineFlags seat stage c op bytes = (c.out ≡ waiting seat op bytes (lines_in_hand (chunk_of seat.setup) op))
     × DraftedBefore (chunk_of seat.setup) stage op bytes (lines_in_hand (chunk_of seat.setup) op)
-IsBeforeRaise BitFlags seat stage c op bytes = (c.out ≡ None) × HasDrafted (chunk_of seat.setup) stage op bytes (lines_in_hand (chunk_of seat.setup) op)
+IsBeforeRaise BitFlags seat stage c op bytes =
+    (c.out ≡ None) × HasDrafted (chunk_of seat.setup) stage op bytes (lines_in_hand (chunk_of seat.setup) op)
 
 -- what the record, the buffer and the caller's bytes are at each stage
 abbrev pub IsAtSendStage : Seat → Record → Private → SendAt → List ℕ → SendStage → Type 0
 IsAtSendStage seat rec c op bytes Header = (op.chunk ≡ 0) × (rec.stage ≡ Idle) × (c.out ≡ None)
-IsAtSendStage seat rec c op bytes (Lines i) = (i < lines_in_hand (chunk_of seat.setup) op) × (rec.post ≡ None) × (c.out ≡ waiting seat op bytes i)
+IsAtSendStage seat rec c op bytes (Lines i) =
+    (i < lines_in_hand (chunk_of seat.setup) op) × (rec.post ≡ None) × (c.out ≡ waiting seat op bytes i)
     × DraftedBefore (chunk_of seat.setup) rec.stage op bytes i
 IsAtSendStage seat rec c op bytes Flush =
     (seat.setup.layout ≡ BitFlags) × (rec.post ≡ None) × (c.out ≡ waiting seat op bytes (lines_in_hand (chunk_of seat.setup) op))
     × DraftedBefore (chunk_of seat.setup) rec.stage op bytes (lines_in_hand (chunk_of seat.setup) op)
 IsAtSendStage seat rec c op bytes Raise = (rec.post ≡ None) × IsBeforeRaise seat.setup.layout seat rec.stage c op bytes
-IsAtSendStage seat rec c op bytes Look = (op.posted ≡ false) × (rec.post ≡ None) × (c.out ≡ None) × (part : Part) × ((part ≡ Raised) ⊎ (part ≡ Answered))
+IsAtSendStage seat rec c op bytes Look =
+    (op.posted ≡ false) × (rec.post ≡ None) × (c.out ≡ None) × (part : Part) × ((part ≡ Raised) ⊎ (part ≡ Answered))
     × IsUp (chunk_of seat.setup) rec.stage op bytes part
-IsAtSendStage seat rec c op bytes Lower = (op.posted ≡ false) × (rec.post ≡ None) × (c.out ≡ None) × IsUp (chunk_of seat.setup) rec.stage op bytes Answered
+IsAtSendStage seat rec c op bytes Lower =
+    (op.posted ≡ false) × (rec.post ≡ None) × (c.out ≡ None) × IsUp (chunk_of seat.setup) rec.stage op bytes Answered
 IsAtSendStage seat rec c op bytes Finished = (rec.stage ≡ Idle) × (c.out ≡ None)
 
 -- the record, the buffer, the slot and the caller's bytes stand where the send stands
@@ -203,7 +212,9 @@ abbrev pub of_chunk : Layout → Bool → ℕ
 of_chunk LineFlags posted = from_raise posted
 of_chunk BitFlags posted = 1 + from_raise posted
 
--- how many turns that do not wait are left of a send, by its stage: of the slot, of each further chunk, of this one's flags and lines
+-- how many turns that do not wait are left of a send, by its stage: of the slot, of each further chunk, of this one's flags
+-- and lines. Seven parameters: the turns of the slot, of a further chunk and from a raise on, the chunks to come, the lines
+-- of this one and those in hand, and the stage; each is a number that `send_left` works out once.
 abbrev pub send_left_by : (slot each raise more lines now : ℕ) → SendStage → ℕ
 send_left_by slot each raise more lines now Header = slot + 1 + lines + each * more
 send_left_by slot each raise more lines now (Lines i) = (lines - i) + each * more
@@ -215,7 +226,8 @@ send_left_by slot each raise more lines now Finished = 0
 
 -- how many turns that do not wait are left of a send and of the slot before it
 abbrev pub send_left : Layout → ℕ → SendAt → SlotAt → ℕ
-send_left layout size op slot = send_left_by (slot_left slot) (of_chunk layout op.posted) (from_raise op.posted) (chunk_count size op.head.len - op.chunk)
+send_left layout size op slot =
+    send_left_by (slot_left slot) (of_chunk layout op.posted) (from_raise op.posted) (chunk_count size op.head.len - op.chunk)
     (lines_from size op.head.len op.chunk) (lines_in_hand size op) op.stage
 
 -- the spot at which a stage makes its one try; at the start it is the slot's
@@ -229,24 +241,26 @@ send_spot_by layout own other to slot stage = None
 -- the spot at which the stage of a send makes its one try; at the start it is the slot's
 abbrev pub send_spot : Seat → SendAt → SlotAt → Option Spot
 send_spot seat op slot =
-    send_spot_by seat.setup.layout (host_of seat.setup.hosts seat.rank) (host_of seat.setup.hosts op.to) op.to (slot_spot seat slot) op.stage
+    send_spot_by seat.setup.layout (host_of seat.setup.hosts seat.rank) (host_of seat.setup.hosts op.to) op.to
+    (slot_spot seat slot) op.stage
 
 -- the call that an op which is not at its end is to finish
 abbrev pub send_call : SendAt → List ℕ → List DataCall
 send_call op bytes = if is_sent op.stage then [] else (if op.posted then Post op.to op.head bytes ∷ [] else Send op.to op.head bytes ∷ [])
 
 -- after its last turn a post is in the slot
-abbrev pub slot_after : SendAt → SlotAt → SlotAt
-slot_after op slot = if is_sent op.stage then slot else (if op.posted then record { to = Some op.to; seen = false } else slot)
+abbrev pub slot_after_send : SendAt → SlotAt → SlotAt
+slot_after_send op slot = if is_sent op.stage then slot else (if op.posted then record { to = Some op.to; seen = false } else slot)
 
 -- what each answer means for the op, the slot and the record
 abbrev pub SendMeans : Sender → Sender → Turn → Type 0
 SendMeans old now turn.Moved =
-    (send_left (layout_at old.sight) (chunk_at old.sight) old.op old.slot ≡ send_left (layout_at old.sight) (chunk_at old.sight) now.op now.slot + 1)
+    (send_left (layout_at old.sight) (chunk_at old.sight) old.op old.slot
+    ≡ send_left (layout_at old.sight) (chunk_at old.sight) now.op now.slot + 1)
     × ((record_in now.sight).calls ≡ (record_in old.sight).calls) × (is_sent old.op.stage ≡ false) × (is_sent now.op.stage ≡ false)
     × IsSameOrEmpty old.slot now.slot
 SendMeans old now (turn.Waiting spot) = (now.op ≡ old.op) × (now.slot ≡ old.slot) × IsAtRest (record_in old.sight) (record_in now.sight)
-SendMeans old now turn.Done = (now.op.stage ≡ Finished) × (now.slot ≡ slot_after old.op old.slot)
+SendMeans old now turn.Done = (now.op.stage ≡ Finished) × (now.slot ≡ slot_after_send old.op old.slot)
     × ((record_in now.sight).calls ≡ (record_in old.sight).calls ++ send_call old.op old.bytes)
     × (old.op.posted ≡ false → is_sent old.op.stage ≡ false → now.slot.to ≡ None)
 
@@ -259,7 +273,8 @@ StartDoes old None done t d = WritesLine old.sight old.core (own_header_line old
 -- does nothing; the look or the change is done where the flag was found set, or its register free
 abbrev pub SendDoes : Sender → SendStage → (done : Bool) → Sight → Private → Type 0
 SendDoes old Header done t d = StartDoes old old.slot.to done t d
-SendDoes old (Lines i) done t d = WritesLine old.sight old.core (own_chunk_line old.sight i) (words_of_line old.bytes old.sight old.op.chunk i) t d
+SendDoes old (Lines i) done t d =
+    WritesLine old.sight old.core (own_chunk_line old.sight i) (words_of_line old.bytes old.sight old.op.chunk i) t d
 SendDoes old Flush done t d = Flushes old.sight old.core t d
 SendDoes old Raise done t d = Raises Sent old.sight old.core old.op.to done t d
 SendDoes old Look done t d = LooksFor Ready old.sight old.core old.op.to done t d

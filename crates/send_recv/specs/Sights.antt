@@ -24,8 +24,8 @@ abbrev pub chunk_at : Sight → ℕ
 chunk_at s = chunk_of s.seat.setup
 
 -- the own rank may have messages with this rank
-abbrev pub IsPeer : Sight → ℕ → Type 0
-IsPeer s j = are_peers s.seat.setup s.seat.rank j ≡ true
+abbrev pub IsSeatPeer : Sight → ℕ → Type 0
+IsSeatPeer s j = are_peers s.seat.setup s.seat.rank j ≡ true
 
 -- the first byte of a message that stands in this line of a chunk
 abbrev pub first_byte : Sight → (chunk line : ℕ) → ℕ
@@ -53,15 +53,18 @@ words_of_line bytes s chunk line = words_at bytes (first_byte s chunk line)
 
 -- ---- the two signals of a message: `sent` at the receiver, `ready` at the sender
 
--- a rank looks at its own flag of a signal that another rank raises
+-- a rank looks at its own flag of a signal that another rank raises. Seven parameters: the signal and who raises it, what
+-- was found, and the rank's sight and core before and after.
 abbrev pub LooksFor : Signal → Sight → Private → (by : ℕ) → (found : Bool) → Sight → Private → Type 0
 LooksFor signal s c by found t d = Looks s c (own_core s.seat) (signal_flag s.seat signal by) found t d
 
--- a rank lowers its own flag of a signal that another rank raised
+-- a rank lowers its own flag of a signal that another rank raised. Seven parameters: the signal and who raised it, whether
+-- it was done, and the rank's sight and core before and after.
 abbrev pub Lowers : Signal → Sight → Private → (by : ℕ) → (done : Bool) → Sight → Private → Type 0
 Lowers signal s c by done t d = Changes s c (own_core s.seat) (signal_flag s.seat signal by) false done t d
 
--- a rank raises its flag of a signal at another rank
+-- a rank raises its flag of a signal at another rank. Seven parameters: the signal and at whom it is raised, whether it was
+-- done, and the rank's sight and core before and after.
 abbrev pub Raises : Signal → Sight → Private → (at : ℕ) → (done : Bool) → Sight → Private → Type 0
 Raises signal s c at done t d = Changes s c (core_of s.seat at) (signal_flag s.seat signal s.seat.rank) true done t d
 
@@ -84,5 +87,5 @@ abbrev pub own_register : Sight → Spot
 own_register s = Register (own_core s.seat)
 
 -- a turn that changes a bit flag of another rank's core waits at that core's register
-abbrev pub register_of : Sight → ℕ → Spot
-register_of s j = Register (core_of s.seat j)
+abbrev pub register_spot : Sight → ℕ → Spot
+register_spot s j = Register (core_of s.seat j)

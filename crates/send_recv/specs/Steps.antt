@@ -50,8 +50,8 @@ abbrev pub head_said : List ℕ → MessageHead
 head_said words = record { kind = slice_index words 0; comm = slice_index words 1; len = slice_index words 2 }
 
 -- whether two heads are one
-abbrev pub same_head : MessageHead → MessageHead → Bool
-same_head one other = one.kind == other.kind && one.comm == other.comm && one.len == other.len
+abbrev pub is_same_head : MessageHead → MessageHead → Bool
+is_same_head one other = one.kind == other.kind && one.comm == other.comm && one.len == other.len
 
 -- ---- a receive
 
@@ -71,11 +71,13 @@ after_look gone op = if gone then record op { stage = if op.chunk == 0 then rece
 
 -- a receive after it lowered `sent`: the first line of the chunk is read next, or `ready` is raised where there is none
 abbrev pub after_lower : ℕ → Bool → RecvAt → RecvAt
-after_lower size gone op = if gone then record op { stage = if chunk_lines_of size op.head.len op.chunk == 0 then receive.Raise else receive.Lines 0 } else op
+after_lower size gone op =
+    if gone then record op { stage = if chunk_lines_of size op.head.len op.chunk == 0 then receive.Raise else receive.Lines 0 } else op
 
 -- a receive after it read a line: the next line is read next, or `ready` is raised behind the last one
 abbrev pub after_line : ℕ → ℕ → RecvAt → RecvAt
-after_line size line op = record op { stage = if nat_lt (line + 1) (chunk_lines_of size op.head.len op.chunk) then receive.Lines (line + 1) else receive.Raise }
+after_line size line op =
+    record op { stage = if nat_lt (line + 1) (chunk_lines_of size op.head.len op.chunk) then receive.Lines (line + 1) else receive.Raise }
 
 -- a receive after it raised `ready`: it is at its end with the last chunk, and else looks for the next one
 abbrev pub after_raise : ℕ → Bool → RecvAt → RecvAt
@@ -87,7 +89,8 @@ after_raise size gone op =
 
 -- the answer of a receive's turn that raises `ready`: it is done with the last chunk
 abbrev pub raise_answer : ℕ → Bool → Spot → RecvAt → RecvTurn
-raise_answer size gone spot op = if gone then (if is_last_chunk size op.head.len op.chunk then recv_turn.Done else recv_turn.Moved) else recv_turn.Waiting spot
+raise_answer size gone spot op =
+    if gone then (if is_last_chunk size op.head.len op.chunk then recv_turn.Done else recv_turn.Moved) else recv_turn.Waiting spot
 
 -- the header line was read: it says the asked head, or another one
 pub data HeadRead (words : List ℕ) (op now : RecvAt) (answer : RecvTurn) : Type 0 where
@@ -124,12 +127,16 @@ before_raise BitFlags = sending.Flush
 
 -- a send after it wrote its header line: the first line of the chunk is written next, if there is one
 abbrev pub after_header : Layout → SendAt → SendAt
-after_header layout op = record op { stage = if chunk_lines_of (chunk_size layout) op.head.len op.chunk == 0 then before_raise layout else sending.Lines 0 }
+after_header layout op =
+    record op { stage = if chunk_lines_of (chunk_size layout) op.head.len op.chunk == 0 then before_raise layout else sending.Lines 0 }
 
 -- a send after it wrote a line: the next line is written next, if there is one
 abbrev pub after_written : Layout → ℕ → SendAt → SendAt
 after_written layout line op =
-    record op { stage = if nat_lt (line + 1) (chunk_lines_of (chunk_size layout) op.head.len op.chunk) then sending.Lines (line + 1) else before_raise layout }
+    record op {
+      stage = if nat_lt (line + 1) (chunk_lines_of (chunk_size layout) op.head.len op.chunk) then sending.Lines (line + 1)
+          else before_raise layout;
+    }
 
 -- a send after it stored what waited in the buffer: `sent` is raised next
 abbrev pub after_flush : SendAt → SendAt
@@ -161,4 +168,5 @@ after_through size gone op =
 
 -- the answer of a send's turn that lowers `ready`: it is done with the last chunk
 abbrev pub through_answer : ℕ → Bool → Spot → SendAt → Turn
-through_answer size gone spot op = if gone then (if is_last_chunk size op.head.len op.chunk then turn.Done else turn.Moved) else turn.Waiting spot
+through_answer size gone spot op =
+    if gone then (if is_last_chunk size op.head.len op.chunk then turn.Done else turn.Moved) else turn.Waiting spot

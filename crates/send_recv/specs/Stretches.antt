@@ -22,7 +22,8 @@ is_writing stage = false
 pub data WroteLines (old : Sender) : Sight → Private → SendAt → SlotAt → Type 0 where
   WroteOne : (t : Sight) (d : Private) (next : SendAt) (after : SlotAt) → is_writing old.op.stage ≡ true
       → SendTurned old (sending t d next after old.bytes) turn.Moved → WroteLines old t d next after
-  WroteMore : (s t : Sight) (c d : Private) (op next : SendAt) (slot after : SlotAt) → WroteLines old s c op slot → SendStands s c op slot old.bytes → is_writing op.stage ≡ true
+  WroteMore : (s t : Sight) (c d : Private) (op next : SendAt) (slot after : SlotAt) → WroteLines old s c op slot
+      → SendStands s c op slot old.bytes → is_writing op.stage ≡ true
       → SendTurned (sending s c op slot old.bytes) (sending t d next after old.bytes) turn.Moved → WroteLines old t d next after
 
 -- a receive reads a line of its chunk next

@@ -32,7 +32,8 @@ HoldsNone layout rec = HoldsNoneBy layout rec.held
 -- a posted message on its way is the same one, and its `ready` may have been seen since
 abbrev pub IsSamePost : Option OnItsWay → Option OnItsWay → Type 0
 IsSamePost None new = new ≡ None
-IsSamePost (Some post) new = (answered : Bool) × (new ≡ Some (record post { is_answered = answered })) × (post.is_answered ≡ true → answered ≡ true)
+IsSamePost (Some post) new =
+    (answered : Bool) × (new ≡ Some (record post { is_answered = answered })) × (post.is_answered ≡ true → answered ≡ true)
 
 -- what no turn of a message changes of a record
 pub record KeepsAllButMessages (rec new : Record) : Type 0 where

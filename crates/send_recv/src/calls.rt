@@ -32,7 +32,8 @@ pub fn recv<V: Evict, P: Port>(
 ) -> Result<(), RecvStop>
     requires some { 1 ≤ polls }
     requires stands { RecvStands (P.sight port.old) core.old op bytes.old }
-    ensures ends { RecvEnds (receiving (P.sight port.old) core.old op bytes.old) polls (with_bytes (P.sight port.new) core.new bytes.new) result }
+    ensures ends { RecvEnds (receiving (P.sight port.old) core.old op bytes.old) polls
+        (with_bytes (P.sight port.new) core.new bytes.new) result }
 {
     let asked = op.head();
     let mut op = op;
@@ -63,7 +64,8 @@ pub fn recv_test<V: Evict, P: Port>(
     requires some { 1 ≤ polls }
     requires start { op ≡ new_receive op.from op.head }
     requires stands { RecvStands (P.sight port.old) core.old op bytes.old }
-    ensures ends { TestEnds (receiving (P.sight port.old) core.old op bytes.old) polls (with_bytes (P.sight port.new) core.new bytes.new) result }
+    ensures ends { TestEnds (receiving (P.sight port.old) core.old op bytes.old) polls
+        (with_bytes (P.sight port.new) core.new bytes.new) result }
 {
     let asked = op.head();
     let mut op = op;

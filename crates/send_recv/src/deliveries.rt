@@ -30,7 +30,8 @@ pub fn send<V: Evict, P: Port>(
 ) -> Result<(), SendStop>
     requires some { 1 ≤ polls }
     requires stands { SendStands (P.sight port.old) core.old op slot.old bytes.now }
-    ensures ends { SendEnds (sending (P.sight port.old) core.old op slot.old bytes.now) polls (with_slot (P.sight port.new) core.new slot.new) result }
+    ensures ends { SendEnds (sending (P.sight port.old) core.old op slot.old bytes.now) polls
+        (with_slot (P.sight port.new) core.new slot.new) result }
 {
     let mut op = op;
     let mut vain: u32 = 0;

@@ -2,8 +2,8 @@
 
 ghost use Rattle.std.specs.Prelude.{◌≡◌, ◌<◌, true, false, if◌then◌else◌, None, IfSome, is_none};
 ghost use Rattle.put_get.specs.Cores.{MadeSteps};
-ghost use Rattle.send_recv.specs.Flags.{bit_of, Looks, WritesFlag, TriesBit, Changes, MayWriteFlag, MayChangeBit, MayChange};
-ghost use Rattle.send_recv.specs.Sights.{IsPeer, LooksFor, Lowers, Raises, MayLower, MayRaise, signal_spot, own_register, register_of};
+ghost use Rattle.send_recv.specs.Flags.{bit_of, Looks, WritesLineFlag, TriesBit, Changes, MayWriteFlag, MayChangeBit, MayChange};
+ghost use Rattle.send_recv.specs.Sights.{IsSeatPeer, LooksFor, Lowers, Raises, MayLower, MayRaise, signal_spot, own_register, register_spot};
 
 use crate::places::{core_of, layout_of, own_core};
 use line_cache::Evict;
@@ -53,7 +53,7 @@ fn write_flag<V: Evict, P: Port>(
     set: bool,
 )
     requires may { MayWriteFlag (P.sight port.old) core.old at flag set }
-    ensures writes { WritesFlag (P.sight port.old) core.old at flag set (P.sight port.new) core.new }
+    ensures writes { WritesLineFlag (P.sight port.old) core.old at flag set (P.sight port.new) core.new }
 {
     let place = flag.place(at);
     let value = flag_value(set);
@@ -157,10 +157,10 @@ pub(crate) fn raise<V: Evict, P: Port>(
     signal: Signal,
     at: Rank,
 ) -> Option<Spot>
-    requires peers { IsPeer (P.sight port.old) at }
+    requires peers { IsSeatPeer (P.sight port.old) at }
     requires may { MayRaise signal (P.sight port.old) core.old at }
     ensures changes { Raises signal (P.sight port.old) core.old at (is_none result) (P.sight port.new) core.new }
-    ensures waits { IfSome result (λ spot. spot ≡ register_of (P.sight port.old) at) }
+    ensures waits { IfSome result (λ spot. spot ≡ register_spot (P.sight port.old) at) }
     ensures steps { is_none result ≡ false → MadeSteps P.stepped (P.sight port.old) (P.sight port.new) }
 {
     let other = core_of(port, at);

@@ -3,7 +3,7 @@
 ghost use Rattle.std.specs.Prelude.{◌≡◌, ◌<◌, slice_index};
 ghost use Rattle.scc_base.specs.Heads.{IsHead, kind_number};
 ghost use Rattle.send_recv.specs.Sending.{header_words};
-ghost use Rattle.send_recv.specs.Steps.{same_head};
+ghost use Rattle.send_recv.specs.Steps.{is_same_head};
 
 use scc_base::{Head, Kind};
 
@@ -31,7 +31,7 @@ pub(crate) fn head_from(words: &[u64; 4]) -> Head
 
 /// Whether two heads are one.
 pub(crate) fn is_same(one: &Head, other: &Head) -> bool
-    ensures tells { result ≡ same_head one.now other.now }
+    ensures tells { result ≡ is_same_head one.now other.now }
 {
     one.kind().number() == other.kind().number()
         && one.comm() == other.comm()

@@ -42,7 +42,7 @@ impl RecvOp {
     ghost use Rattle.send_recv.specs.Ops.{new_receive};
     ghost use Rattle.send_recv.specs.Receiving.{RecvStands, RecvTurned, recv_waits};
     ghost use Rattle.scc_base.specs.declared.signals.Signal.TheVariants.{Sent, Ready};
-    ghost use Rattle.send_recv.specs.Sights.{chunk_at, IsPeer, first_byte, header_line, chunk_line, LooksFor, Lowers, Raises, MayLower, MayRaise, signal_spot, own_register, register_of};
+    ghost use Rattle.send_recv.specs.Sights.{chunk_at, IsSeatPeer, first_byte, header_line, chunk_line, LooksFor, Lowers, Raises, MayLower, MayRaise, signal_spot, own_register, register_spot};
     ghost use Rattle.send_recv.specs.Steps.{cleared, goes_on, recv_or_waits, after_look, after_lower, after_line, after_raise, raise_answer, HeadRead, before_line};
     ghost use Rattle.send_recv.specs.Ranks.{receiving};
     ghost use Rattle.send_recv.specs.Stretches.{ReadLines, is_reading};
@@ -90,10 +90,12 @@ impl RecvOp {
 
     // Reads the header line of the sender.
     fn read_head<V: Evict, P: Port>(&mut self, core: &mut Core<V>, port: &mut P) -> RecvTurn
-        requires peers { IsPeer (P.sight port.old) self.old.from }
+        requires peers { IsSeatPeer (P.sight port.old) self.old.from }
         requires empty { core.old.out ≡ None }
         requires seen { (header : Notes) × ((record_in (P.sight port.old)).notes self.old.from ≡ Some header) }
-        ensures reads { (words : List ℕ) × ReadsLine (P.sight port.old) (cleared core.old) (header_line (P.sight port.old) self.old.from) words (P.sight port.new) core.new
+        ensures reads { (words : List ℕ)
+            × ReadsLine (P.sight port.old) (cleared core.old) (header_line (P.sight port.old) self.old.from) words
+            (P.sight port.new) core.new
             × HeadRead words self.old self.new result }
         ensures sound { IsSoundPort (P.sight port.new) }
     {
@@ -139,15 +141,17 @@ impl RecvOp {
         bytes: &mut [u8],
         line: u8,
     ) -> RecvTurn
-        requires peers { IsPeer (P.sight port.old) self.old.from }
+        requires peers { IsSeatPeer (P.sight port.old) self.old.from }
         requires empty { core.old.out ≡ None }
         requires in_chunk { line < chunk_lines_of (chunk_at (P.sight port.old)) self.old.head.len self.old.chunk }
         ensures reads { (words : List ℕ) × ReadsLine (P.sight port.old) (before_line line core.old)
             (chunk_line (P.sight port.old) self.old.from line) words (P.sight port.new) core.new
             × ((k : ℕ) → k < 32 → first_byte (P.sight port.old) self.old.chunk line + k < length bytes.old
             → slice_index bytes.new (first_byte (P.sight port.old) self.old.chunk line + k) ≡ byte_of_line words k) }
-        ensures before { (k : ℕ) → k < first_byte (P.sight port.old) self.old.chunk line → slice_index bytes.new k ≡ slice_index bytes.old k }
-        ensures behind { (k : ℕ) → first_byte (P.sight port.old) self.old.chunk line + 32 ≤ k → slice_index bytes.new k ≡ slice_index bytes.old k }
+        ensures before { (k : ℕ) → k < first_byte (P.sight port.old) self.old.chunk line
+            → slice_index bytes.new k ≡ slice_index bytes.old k }
+        ensures behind { (k : ℕ) → first_byte (P.sight port.old) self.old.chunk line + 32 ≤ k
+            → slice_index bytes.new k ≡ slice_index bytes.old k }
         ensures next { self.new ≡ after_line (chunk_at (P.sight port.old)) line self.old }
         ensures answers { result ≡ recv_or_waits true (Register 0) }
     {
@@ -169,12 +173,13 @@ impl RecvOp {
 
     // Raises the `ready` flag at the sender.
     fn raise_ready<V: Evict, P: Port>(&mut self, core: &mut Core<V>, port: &mut P) -> RecvTurn
-        requires peers { IsPeer (P.sight port.old) self.old.from }
+        requires peers { IsSeatPeer (P.sight port.old) self.old.from }
         requires may { MayRaise Ready (P.sight port.old) core.old self.old.from }
         requires some_left { self.old.chunk < 255 }
         ensures changes { Raises Ready (P.sight port.old) core.old self.old.from (goes_on result) (P.sight port.new) core.new }
         ensures next { self.new ≡ after_raise (chunk_at (P.sight port.old)) (goes_on result) self.old }
-        ensures answers { result ≡ raise_answer (chunk_at (P.sight port.old)) (goes_on result) (register_of (P.sight port.old) self.old.from) self.old }
+        ensures answers { result
+            ≡ raise_answer (chunk_at (P.sight port.old)) (goes_on result) (register_spot (P.sight port.old) self.old.from) self.old }
         ensures steps { goes_on result ≡ false → MadeSteps P.stepped (P.sight port.old) (P.sight port.new) }
     {
         let layout = layout_of(port);
@@ -199,7 +204,8 @@ impl RecvOp {
     ) -> RecvTurn
         requires stands { RecvStands (P.sight port.old) core.old self.old bytes.old }
         ensures stands { RecvStands (P.sight port.new) core.new self.new bytes.new }
-        ensures turned { RecvTurned (receiving (P.sight port.old) core.old self.old bytes.old) (receiving (P.sight port.new) core.new self.new bytes.new) result }
+        ensures turned { RecvTurned (receiving (P.sight port.old) core.old self.old bytes.old)
+            (receiving (P.sight port.new) core.new self.new bytes.new) result }
         ensures steps { (spot : Spot) → recv_waits result ≡ Some spot → MadeSteps P.stepped (P.sight port.old) (P.sight port.new) }
     {
         known(port);
@@ -230,7 +236,8 @@ impl RecvOp {
         requires stands { RecvStands (P.sight port.old) core.old self.old bytes.old }
         requires reading { is_reading self.old.stage ≡ true }
         ensures stands { RecvStands (P.sight port.new) core.new self.new bytes.new }
-        ensures read { ReadLines (receiving (P.sight port.old) core.old self.old bytes.old) (receiving (P.sight port.new) core.new self.new bytes.new) }
+        ensures read { ReadLines (receiving (P.sight port.old) core.old self.old bytes.old)
+            (receiving (P.sight port.new) core.new self.new bytes.new) }
         ensures whole { is_reading self.new.stage ≡ false }
     {
         'lines: while let RecvStage::Lines(line) = self.stage {

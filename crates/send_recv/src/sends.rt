@@ -59,7 +59,7 @@ impl SendOp {
     ghost use Rattle.send_recv.specs.Ops.{new_send};
     ghost use Rattle.send_recv.specs.Sending.{SendStands, SendTurned, header_words};
     ghost use Rattle.scc_base.specs.declared.signals.Signal.TheVariants.{Sent, Ready};
-    ghost use Rattle.send_recv.specs.Sights.{chunk_at, IsPeer, own_header_line, own_chunk_line, words_of_line, LooksFor, Raises, Lowers, MayRaise, MayLower, signal_spot, own_register, register_of};
+    ghost use Rattle.send_recv.specs.Sights.{chunk_at, IsSeatPeer, own_header_line, own_chunk_line, words_of_line, LooksFor, Raises, Lowers, MayRaise, MayLower, signal_spot, own_register, register_spot};
     ghost use Rattle.send_recv.specs.Steps.{moves_on, moved_or_waits, after_header, after_written, after_flush, after_sent, sent_answer, slot_sent, after_seen, after_through, through_answer};
     ghost use Rattle.send_recv.specs.Turns.{waits_at};
     ghost use Rattle.send_recv.specs.Ranks.{sending};
@@ -94,7 +94,8 @@ impl SendOp {
     // Writes the header line.
     fn write_header<V: Evict, P: Port>(&mut self, core: &mut Core<V>, port: &mut P) -> Turn
         requires empty { core.old.out ≡ None }
-        ensures writes { WritesLine (P.sight port.old) core.old (own_header_line (P.sight port.old)) (header_words self.old.head self.old.posted) (P.sight port.new) core.new }
+        ensures writes { WritesLine (P.sight port.old) core.old (own_header_line (P.sight port.old))
+            (header_words self.old.head self.old.posted) (P.sight port.new) core.new }
         ensures next { self.new ≡ after_header (P.sight port.old).seat.setup.layout self.old }
         ensures answers { result ≡ Moved }
     {
@@ -157,12 +158,12 @@ impl SendOp {
         port: &mut P,
         slot: &mut Slot,
     ) -> Turn
-        requires peers { IsPeer (P.sight port.old) self.old.to }
+        requires peers { IsSeatPeer (P.sight port.old) self.old.to }
         requires may { MayRaise Sent (P.sight port.old) core.old self.old.to }
         ensures changes { Raises Sent (P.sight port.old) core.old self.old.to (moves_on result) (P.sight port.new) core.new }
         ensures next { self.new ≡ after_sent (moves_on result) self.old }
         ensures fills { slot.new ≡ slot_sent (moves_on result) self.old slot.old }
-        ensures answers { result ≡ sent_answer (moves_on result) (register_of (P.sight port.old) self.old.to) self.old }
+        ensures answers { result ≡ sent_answer (moves_on result) (register_spot (P.sight port.old) self.old.to) self.old }
         ensures steps { moves_on result ≡ false → MadeSteps P.stepped (P.sight port.old) (P.sight port.new) }
     {
         if let Some(spot) = raise(core, port, Signal::Sent, self.to) {
@@ -199,7 +200,8 @@ impl SendOp {
         requires some_left { self.old.chunk < 255 }
         ensures changes { Lowers Ready (P.sight port.old) core.old self.old.to (moves_on result) (P.sight port.new) core.new }
         ensures next { self.new ≡ after_through (chunk_at (P.sight port.old)) (moves_on result) self.old }
-        ensures answers { result ≡ through_answer (chunk_at (P.sight port.old)) (moves_on result) (own_register (P.sight port.old)) self.old }
+        ensures answers { result
+            ≡ through_answer (chunk_at (P.sight port.old)) (moves_on result) (own_register (P.sight port.old)) self.old }
         ensures steps { moves_on result ≡ false → MadeSteps P.stepped (P.sight port.old) (P.sight port.new) }
     {
         let layout = layout_of(port);
@@ -226,7 +228,8 @@ impl SendOp {
     ) -> Turn
         requires stands { SendStands (P.sight port.old) core.old self.old slot.old bytes.now }
         ensures stands { SendStands (P.sight port.new) core.new self.new slot.new bytes.now }
-        ensures turned { SendTurned (sending (P.sight port.old) core.old self.old slot.old bytes.now) (sending (P.sight port.new) core.new self.new slot.new bytes.now) result }
+        ensures turned { SendTurned (sending (P.sight port.old) core.old self.old slot.old bytes.now)
+            (sending (P.sight port.new) core.new self.new slot.new bytes.now) result }
         ensures steps { (spot : Spot) → waits_at result ≡ Some spot → MadeSteps P.stepped (P.sight port.old) (P.sight port.new) }
     {
         known(port);
@@ -266,7 +269,8 @@ impl SendOp {
         requires stands { SendStands (P.sight port.old) core.old self.old slot.now bytes.now }
         requires writing { is_writing self.old.stage ≡ true }
         ensures stands { SendStands (P.sight port.new) core.new self.new slot.now bytes.now }
-        ensures wrote { WroteLines (sending (P.sight port.old) core.old self.old slot.now bytes.now) (P.sight port.new) core.new self.new slot.now }
+        ensures wrote { WroteLines (sending (P.sight port.old) core.old self.old slot.now bytes.now) (P.sight port.new) core.new
+            self.new slot.now }
         ensures whole { is_writing self.new.stage ≡ false }
     {
         'lines: while let SendStage::Lines(line) = self.stage {

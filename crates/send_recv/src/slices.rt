@@ -2,7 +2,7 @@
 
 ghost use Rattle.std.specs.Prelude.{◌≡◌, ◌+◌, ◌*◌, ◌^◌, ◌<◌, ◌≤◌, ℕ, length, slice_index};
 ghost use Rattle.scc_base.specs.Bytes.{byte_of_word};
-ghost use Rattle.send_recv.specs.Bytes.{word_at, words_at, byte_of_line};
+ghost use Rattle.send_recv.specs.Bytes.{word_of_bytes, words_at, byte_of_line};
 
 use scc_base::byte_of;
 
@@ -22,7 +22,7 @@ fn byte_at(bytes: &[u8], at: usize) -> u8
 #[inline(always)]
 fn eight_from(bytes: &[u8], at: usize) -> u64
     requires within { at + 8 ≤ length bytes.now }
-    ensures gives { result ≡ word_at bytes.now at }
+    ensures gives { result ≡ word_of_bytes bytes.now at }
 {
     u64::from_le_bytes([
         bytes[at],
@@ -39,7 +39,7 @@ fn eight_from(bytes: &[u8], at: usize) -> u64
 // The word of eight bytes, the lowest first, with zeros past the end.
 fn word_from(bytes: &[u8], at: usize) -> u64
     requires fits { at ≤ 2 ^ 32 }
-    ensures gives { result ≡ word_at bytes.now at }
+    ensures gives { result ≡ word_of_bytes bytes.now at }
 {
     if at + 8 <= bytes.len() {
         return eight_from(bytes, at);
@@ -52,7 +52,9 @@ fn word_from(bytes: &[u8], at: usize) -> u64
 // The number of four bytes, the lowest first.
 fn four_from(bytes: &[u8], at: usize) -> u32
     requires fits { at ≤ 2 ^ 32 + 4 }
-    ensures gives { result ≡ slice_index bytes.now at + 0x100 * slice_index bytes.now (at + 1) + 0x10000 * slice_index bytes.now (at + 2) + 0x1000000 * slice_index bytes.now (at + 3) }
+    ensures gives { result
+        ≡ slice_index bytes.now at + 0x100 * slice_index bytes.now (at + 1) + 0x10000 * slice_index bytes.now (at + 2)
+        + 0x1000000 * slice_index bytes.now (at + 3) }
 {
     let first = byte_at(bytes, at);
     let second = byte_at(bytes, at + 1);

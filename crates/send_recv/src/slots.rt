@@ -99,7 +99,8 @@ impl Slot {
         requires empty { core.old.out ≡ None }
         requires hands { HoldsNone (P.sight port.old).seat.setup.layout (record_in (P.sight port.old)) }
         ensures stands { SlotStands (P.sight port.new).seat (record_in (P.sight port.new)) self.new }
-        ensures turned { SlotTurned (with_slot (P.sight port.old) core.old self.old) (with_slot (P.sight port.new) core.new self.new) result }
+        ensures turned { SlotTurned (with_slot (P.sight port.old) core.old self.old)
+            (with_slot (P.sight port.new) core.new self.new) result }
         ensures steps { (spot : Spot) → waits_at result ≡ Some spot → MadeSteps P.stepped (P.sight port.old) (P.sight port.new) }
     {
         known(port);

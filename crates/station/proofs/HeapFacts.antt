@@ -18,7 +18,7 @@ use Rattle.put_get.specs.Accesses.{loads_of, store_of_word, stores_of_line}
 use Rattle.put_get.specs.Cores.{Fetch, Held, Loaded, Private, ReadsLine}
 use Rattle.put_get.specs.declared.transfers.RangeFault.{RangeFault}
 use Rattle.put_get.specs.Transfers.{Gets, Puts, ReadsLines, line_at, put_stores}
-use Rattle.tas_lock.specs.Holds.{IsHolding, IsNotHolding, after_release, after_try}
+use Rattle.tas_lock.specs.Holds.{IsHolding, IsNotHolding, record_after_release, after_try}
 use Rattle.tas_lock.proofs.HoldLemmas.{next_freed, next_tried}
 use Rattle.sync_flags.specs.Flags.{FlagView, flag_of, flag_value, with_bit}
 use Rattle.sync_flags.specs.Looks.{LooksAll, ReadsFlag, WaitsFor}
@@ -182,7 +182,7 @@ module _ (seat : Seat) (valid : IsSetup seat.setup) (r : ℕ) (lt : r < seat.set
       let stored : Record = record_next seat held (store_of (place_of line word) value) in
       let alone : HeapAlone held stored = store_alone held line word value high leaves in
       let holding : IsHolding stored core = ap (λ (o : Option FlagWords). is_some o) (alone.held core ∙ put_here rec.held core (Some (record { sent = None; ready = None }))) in
-      let is : record_on seat rec (change_events (place_of line word) b set words) ≡ after_release core stored
+      let is : record_on seat rec (change_events (place_of line word) b set words) ≡ record_after_release core stored
       = ap (λ (x : Record). record_on seat x (loads ++ tail)) (next_tried seat rec core true free) ∙ record_on-append seat held loads tail
       ∙ ap (λ (x : Record). record_on seat x tail) (loads_nothing held line words high) ∙ next_freed seat stored core holding in
       subst (λ (x : Record). HeapAlone rec x) (sym is)

@@ -37,10 +37,13 @@ RecvStalls polls old now = (spot : Spot) × RecvStalled old polls now spot
 
 -- a barrier stalled: its last `polls` looks were vain, all at one flag
 abbrev pub BarStalls : ℕ → Member → Member → Type 0
-BarStalls polls old now = (spot : Spot) × (count : ℕ) × Stalls old polls (with_parity now.sight now.core now.parity) (bar_stop.Stalled now.op spot count)
+BarStalls polls old now =
+    (spot : Spot) × (count : ℕ) × Stalls old polls (with_parity now.sight now.core now.parity) (bar_stop.Stalled now.op spot count)
 
 -- why a receive stopped that goes on after `times` stalls: it stalled once more than that, or it met another head, after at
 -- most `times` stalls
 abbrev pub SaysWhyAfter : Receiver → (times polls : ℕ) → BufferHolder → RecvStop → Type 0
-SaysWhyAfter begun times polls now (Stalled stall) = AfterStalls (RecvStalls polls) begun times (λ last. SaysWhy last polls now (Stalled stall))
-SaysWhyAfter begun times polls now (Mismatch sent asked) = WithinStalls (RecvStalls polls) begun times (λ last. SaysWhy last polls now (Mismatch sent asked))
+SaysWhyAfter begun times polls now (Stalled stall) =
+    AfterStalls (RecvStalls polls) begun times (λ last. SaysWhy last polls now (Stalled stall))
+SaysWhyAfter begun times polls now (Mismatch sent asked) =
+    WithinStalls (RecvStalls polls) begun times (λ last. SaysWhy last polls now (Mismatch sent asked))

@@ -54,7 +54,8 @@ folded_output (Some how) output work = fold_values how.op how.ty output work
 abbrev pub StepDoes : GroupPart → Step → (old new : Held) → List DataCall → Type 0
 StepDoes p Begin old new calls = (new ≡ record old { output = p.input }) × (calls ≡ [])
 StepDoes p (Send to head) old new calls = (new ≡ old) × (calls ≡ CallSend to head (bytes_sent_by p old) ∷ [])
-StepDoes p (Recv from head) old new calls = (bytes : List ℕ) × (new ≡ with_received p.is_root bytes old) × (calls ≡ CallRecv from head bytes ∷ [])
+StepDoes p (Recv from head) old new calls =
+    (bytes : List ℕ) × (new ≡ with_received p.is_root bytes old) × (calls ≡ CallRecv from head bytes ∷ [])
 StepDoes p Fold old new calls = (new ≡ record old { output = folded_output p.folding old.output old.work }) × (calls ≡ [])
 StepDoes p Accept old new calls = (new ≡ old) × (calls ≡ [])
 StepDoes p Finish old new calls = (new ≡ old) × (calls ≡ [])

@@ -22,7 +22,8 @@ StopsReceive s a bytes (Mismatch sent asked) = NoCallOpen s a
 
 -- why a receive stopped: as many tries as it was allowed were vain at the end, or it met another head
 abbrev pub SaysWhy : Receiver → ℕ → BufferHolder → RecvStop → Type 0
-SaysWhy old polls now (Stalled stall) = (stall.polls ≡ polls) × RecvStalled old polls (receiving now.sight now.core stall.op now.bytes) stall.spot
+SaysWhy old polls now (Stalled stall) =
+    (stall.polls ≡ polls) × RecvStalled old polls (receiving now.sight now.core stall.op now.bytes) stall.spot
 SaysWhy old polls now (Mismatch sent asked) = RecvDiffers old polls now sent asked
 
 -- the stall of a receive that gave up, and else why it stopped

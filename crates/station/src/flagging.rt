@@ -10,7 +10,7 @@ use sync_flags::{Flag, flag_alloc, flag_read, flag_write, wait_until};
 
 impl<V: Evict> Station<V> {
     ghost use Rattle.std.specs.Prelude.{◌≡◌, ◌<◌, ◌≤◌, ◌↔◌, ◌++◌, ◌∷◌, [], List, IfOk, IsErr, OnErr, OnOk};
-    ghost use Rattle.mpb_alloc.specs.Heaps.{answer_for, run_of, taken_from};
+    ghost use Rattle.mpb_alloc.specs.Heaps.{answer_for, run_of_lines, taken_from};
     ghost use Rattle.scc_base.specs.declared.events.Event.{Event};
     ghost use Rattle.scc_proto.specs.Ports.{Did, record_in};
     ghost use Rattle.sync_flags.specs.Flags.{flag_of};
@@ -25,7 +25,7 @@ impl<V: Evict> Station<V> {
         ensures answer { result ≡ answer_for 1 self.old.heap.free }
         ensures line { IfOk result (λ b. b.lines ≡ 1) }
         ensures free { OnOk result (self.new.heap.free ≡ taken_from 1 self.old.heap.free) }
-        ensures out { IfOk result (λ b. self.new.heap.out ≡ self.old.heap.out ++ run_of b ∷ []) }
+        ensures out { IfOk result (λ b. self.new.heap.out ≡ self.old.heap.out ++ run_of_lines b ∷ []) }
         ensures unchanged { OnErr result (self.new ≡ self.old) }
         ensures same { KeepsAllButHeap self.old self.new }
     {

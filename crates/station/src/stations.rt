@@ -38,7 +38,7 @@ impl<V: Evict> Model for Station<V> {
 
 impl<V: Evict> Station<V> {
     ghost use Rattle.std.specs.Prelude.{◌≡◌, ◌≤◌, ◌↔◌, ◌++◌, ◌∷◌, [], IsTrue, IfOk, OnErr, OnOk, Contains};
-    ghost use Rattle.mpb_alloc.specs.Heaps.{all_free, given_back, lines_for, malloc_answer, returned, run_of, taken_from};
+    ghost use Rattle.mpb_alloc.specs.Heaps.{all_free, given_back, lines_for, malloc_answer, returned, run_of_lines, taken_from};
     ghost use Rattle.scc_proto.specs.Ports.{Sight};
     ghost use Rattle.station.specs.Stations.{KeepsAllButHeap, NoCallOpen};
 
@@ -69,7 +69,7 @@ impl<V: Evict> Station<V> {
     pub fn malloc(&mut self, bytes: usize) -> Result<Buf, MallocFault>
         ensures answer { result ≡ malloc_answer self.old.heap bytes }
         ensures free { OnOk result (self.new.heap.free ≡ taken_from (lines_for bytes) self.old.heap.free) }
-        ensures out { IfOk result (λ b. self.new.heap.out ≡ self.old.heap.out ++ run_of b ∷ []) }
+        ensures out { IfOk result (λ b. self.new.heap.out ≡ self.old.heap.out ++ run_of_lines b ∷ []) }
         ensures unchanged { OnErr result (self.new ≡ self.old) }
         ensures same { KeepsAllButHeap self.old self.new }
     {
@@ -78,9 +78,9 @@ impl<V: Evict> Station<V> {
 
     /// Gives a buffer back (RCCE_free).
     pub fn free(&mut self, buffer: Buf)
-        requires out { Contains self.old.heap.out (run_of buffer) }
-        ensures free { self.new.heap.free ≡ given_back (run_of buffer) self.old.heap.free }
-        ensures out { self.new.heap.out ≡ returned (run_of buffer) self.old.heap.out }
+        requires out { Contains self.old.heap.out (run_of_lines buffer) }
+        ensures free { self.new.heap.free ≡ given_back (run_of_lines buffer) self.old.heap.free }
+        ensures out { self.new.heap.out ≡ returned (run_of_lines buffer) self.old.heap.out }
         ensures same { KeepsAllButHeap self.old self.new }
     {
         self.heap.free(buffer);
@@ -88,7 +88,7 @@ impl<V: Evict> Station<V> {
 
     /// Whether a buffer is out: what `free` asks for.
     pub fn is_out(&self, buffer: Buf) -> bool
-        ensures tells { IsTrue result ↔ Contains self.now.heap.out (run_of buffer) }
+        ensures tells { IsTrue result ↔ Contains self.now.heap.out (run_of_lines buffer) }
     {
         self.heap.is_out(buffer)
     }

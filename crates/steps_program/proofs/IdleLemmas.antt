@@ -10,22 +10,22 @@ use Rattle.scc_mesh.specs.AwayRanks.{Ticket, Away}
 use Rattle.scc_mesh.specs.Scenes.{ChipView, about_in, table_in, events_in, sight_in, sight_away}
 use Rattle.scc_mesh.proofs.HandOuts.{same_ticket}
 use Rattle.steps_program.specs.declared.accesses.Kind.{Kind}
-use Rattle.steps_program.specs.Steps.{step_of, steps_of, step_at, in_turn, home_core, Stepped, HasMadeAway}
+use Rattle.steps_program.specs.Steps.{access_step, access_steps, step_at, in_turn, home_core, Stepped, HasMadeAway}
 
 pub idle_home : (chip new : ChipView) (r hold : ℕ) → new ≡ chip → ((q : ℕ) → events_in chip q ≡ []) → IsIdle (sight_in new r hold)
 idle_home chip new r hold same empty = idle_at_start (sight_in new r hold) (ap (λ (c : ChipView). events_in c r) same ∙ empty r)
 
-steps-append : (a b : List Event) → steps_of (a ++ b) ≡ steps_of a ++ steps_of b
+steps-append : (a b : List Event) → access_steps (a ++ b) ≡ access_steps a ++ access_steps b
 steps-append [] b = refl
-steps-append (e ∷ a) b = λ i. step_of e ∷ steps-append a b i
+steps-append (e ∷ a) b = λ i. access_step e ∷ steps-append a b i
 
 -- no access yet
 pub no_step : (start : Sight) (kind : Kind) → Stepped start kind 0 start
 unfolding in_turn
-no_step start kind = record { seat = refl; steps = sym (append-nil (steps_of start.events)) }
+no_step start kind = record { seat = refl; steps = sym (append-nil (access_steps start.events)) }
 
 -- one more access of a port of the same rank
-pub step_more : (start old : Sight) (kind : Kind) (count : ℕ) (e : Event) (new : Sight) → Stepped start kind count old → step_of e ≡ step_at kind (home_core start) count
+pub step_more : (start old : Sight) (kind : Kind) (count : ℕ) (e : Event) (new : Sight) → Stepped start kind count old → access_step e ≡ step_at kind (home_core start) count
     → Did old (e ∷ []) new → Stepped start kind (count + 1) new
 unfolding in_turn
 step_more start old kind count e new before is did =
@@ -33,8 +33,8 @@ step_more start old kind count e new before is did =
     let next : suc count ≡ count + 1 = omega arith in
     record {
       seat = seat_kept old (e ∷ []) new did ∙ before.seat;
-      steps = ap steps_of (events_did old (e ∷ []) new did) ∙ steps-append old.events (e ∷ []) ∙ (λ i. before.steps i ++ is i ∷ [])
-          ∙ append_assoc (steps_of start.events) (in_turn kind core count) (step_at kind core count ∷ []) ∙ ap (λ n. steps_of start.events ++ in_turn kind core n) next;
+      steps = ap access_steps (events_did old (e ∷ []) new did) ∙ steps-append old.events (e ∷ []) ∙ (λ i. before.steps i ++ is i ∷ [])
+          ∙ append_assoc (access_steps start.events) (in_turn kind core count) (step_at kind core count ∷ []) ∙ ap (λ n. access_steps start.events ++ in_turn kind core n) next;
     }
 
 -- a rank that is away after so many accesses
@@ -44,5 +44,5 @@ away_made chip token old new kind count stepped none rank table about is =
     let kept = same_ticket old new stepped.seat in record {
       of_chip = ap (λ (t : Ticket). t.table) is ∙ kept.0 ∙ table;
       rank = ap (λ (t : Ticket). t.rank) is ∙ kept.1 ∙ rank;
-      steps = ap (λ (t : Ticket). steps_of t.events) is ∙ stepped.steps ∙ (λ i. steps_of (none i) ++ in_turn kind (host_of (about i).hosts (rank i)) count);
+      steps = ap (λ (t : Ticket). access_steps t.events) is ∙ stepped.steps ∙ (λ i. access_steps (none i) ++ in_turn kind (host_of (about i).hosts (rank i)) count);
     }

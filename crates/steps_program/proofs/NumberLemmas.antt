@@ -7,7 +7,7 @@ use Rattle.std.specs.Char.{digit_value}
 use Rattle.std.specs.Str.Parse.{AllDigits, IsNumeral, digits_value, without_leading_plus}
 use Rattle.scc_proto.proofs.Layouts.Roles.{if_yes, if_no}
 use Rattle.scc_proto.proofs.Tests.{both_first, both_second}
-use Rattle.steps_program.specs.Jobs.{is_digit, is_numeral, number_of_digits, number_of, job_of}
+use Rattle.steps_program.specs.Jobs.{is_digit, is_numeral, number_of_digits, count_number, steps_job_of}
 
 lt_true : (a b : ℕ) → a < b → nat_lt a b ≡ true
 lt_true a b lt = grind (arith, nat_tests)
@@ -52,14 +52,14 @@ digits_parsed ds (Err e) p = by (is_numeral ds && nat_lt (digits_value 10 ds) (2
     ))
     by false f = sym (if_no (is_numeral ds && nat_lt (digits_value 10 ds) (2 ^ 32)) (Some (digits_value 10 ds)) None f)
 
-pub parsed : (bs : List ℕ) (n : ℕ) → (IsNumeral 10 (without_leading_plus bs) × (digits_value 10 (without_leading_plus bs) < 2 ^ 32)) × (n ≡ digits_value 10 (without_leading_plus bs)) → Some n ≡ number_of bs
+pub parsed : (bs : List ℕ) (n : ℕ) → (IsNumeral 10 (without_leading_plus bs) × (digits_value 10 (without_leading_plus bs) < 2 ^ 32)) × (n ≡ digits_value 10 (without_leading_plus bs)) → Some n ≡ count_number bs
 parsed bs n p = digits_parsed {E = ℕ} (without_leading_plus bs) (Ok n) p
 
-pub not_parsed : (bs : List ℕ) → (IsNumeral 10 (without_leading_plus bs) × (digits_value 10 (without_leading_plus bs) < 2 ^ 32) → ⊥) → None ≡ number_of bs
+pub not_parsed : (bs : List ℕ) → (IsNumeral 10 (without_leading_plus bs) × (digits_value 10 (without_leading_plus bs) < 2 ^ 32) → ⊥) → None ≡ count_number bs
 not_parsed bs p = digits_parsed {E = ℕ} (without_leading_plus bs) (Err 0) p
 
 -- fewer than two words ask for nothing
-pub under_two : {A : Type 0} (bytes : A → List ℕ) (words : List A) → length words < 2 → None ≡ job_of (map bytes words)
+pub under_two : {A : Type 0} (bytes : A → List ℕ) (words : List A) → length words < 2 → None ≡ steps_job_of (map bytes words)
 under_two bytes [] lt = refl
 under_two bytes (x ∷ []) lt = refl
 under_two bytes (x ∷ y ∷ words) lt = absurd (omega (arith, lt))

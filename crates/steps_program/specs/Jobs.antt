@@ -43,13 +43,14 @@ abbrev pub number_of_digits : List ℕ → Option ℕ
 number_of_digits digits = if is_numeral digits && nat_lt (digits_value 10 digits) (2 ^ 32) then Some (digits_value 10 digits) else None
 
 -- COUNT: a decimal number, with a plus or without
-abbrev pub number_of : List ℕ → Option ℕ
-number_of word = number_of_digits (without_leading_plus word)
+abbrev pub count_number : List ℕ → Option ℕ
+count_number word = number_of_digits (without_leading_plus word)
 
 -- the words KIND COUNT, and no others
-abbrev pub job_of : List (List ℕ) → Option Job
-job_of (kind ∷ count ∷ []) = option_and_then (λ case. option_map (λ n. record { case = case; count = n }) (number_of count)) (case_of kind)
-job_of _ = None
+abbrev pub steps_job_of : List (List ℕ) → Option Job
+steps_job_of (kind ∷ count ∷ []) =
+    option_and_then (λ case. option_map (λ n. record { case = case; count = n }) (count_number count)) (case_of kind)
+steps_job_of _ = None
 
 -- the accesses asked for, made where they were asked for: on a chip by a rank at home, or by one that is away
 abbrev pub HasMadeAt : Way → Kind → ℕ → Made → Type 0

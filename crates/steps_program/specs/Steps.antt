@@ -17,12 +17,12 @@ pub record Step : Type 0 where
   pub place : WordAt
 
 -- the access and the place of an event
-abbrev pub step_of : Event → Step
-step_of e = record { access = e.access; place = e.place }
+abbrev pub access_step : Event → Step
+access_step e = record { access = e.access; place = e.place }
 
 -- the accesses and the places of events
-abbrev pub steps_of : List Event → List Step
-steps_of events = map step_of events
+abbrev pub access_steps : List Event → List Step
+access_steps events = map access_step events
 
 -- the access that a kind makes
 abbrev pub access_of : Kind → Access
@@ -45,14 +45,14 @@ home_core sight = host_of sight.seat.setup.hosts sight.seat.rank
 -- a port of the same rank, which has made `count` accesses more
 pub record Stepped (old : Sight) (kind : Kind) (count : ℕ) (new : Sight) : Type 0 where
   pub seat : new.seat ≡ old.seat
-  pub steps : steps_of new.events ≡ steps_of old.events ++ in_turn kind (home_core old) count
+  pub steps : access_steps new.events ≡ access_steps old.events ++ in_turn kind (home_core old) count
 
 -- rank 0 has made `count` accesses
 pub record HasMade (chip : ChipView) (kind : Kind) (count : ℕ) : Type 0 where
-  pub steps : steps_of (events_in chip 0) ≡ in_turn kind (host_of (about_in chip).hosts 0) count
+  pub steps : access_steps (events_in chip 0) ≡ in_turn kind (host_of (about_in chip).hosts 0) count
 
 -- rank 0 is away from the chip, and has made `count` accesses
 pub record HasMadeAway (chip : ChipView) (token : Ticket) (kind : Kind) (count : ℕ) : Type 0 where
   pub of_chip : token.table ≡ table_in chip
   pub rank : token.rank ≡ 0
-  pub steps : steps_of token.events ≡ in_turn kind (host_of (about_in chip).hosts 0) count
+  pub steps : access_steps token.events ≡ in_turn kind (host_of (about_in chip).hosts 0) count

@@ -1,7 +1,7 @@
 //! What the words of `chip_steps` ask for, and what is made of it.
 
 ghost use Rattle.std.specs.Prelude.{◌≡◌, map, string_bytes, IfOk};
-ghost use Rattle.steps_program.specs.Jobs.{job_of, case_of, number_of, HasMadeBy};
+ghost use Rattle.steps_program.specs.Jobs.{steps_job_of, case_of, count_number, HasMadeBy};
 
 use crate::accesses::Kind;
 use crate::bare::bare;
@@ -57,7 +57,7 @@ fn case_of(word: &str) -> Option<Case>
 
 // The number that the word COUNT tells.
 fn number_of(word: &str) -> Option<u32>
-    ensures { result ≡ number_of word.now }
+    ensures { result ≡ count_number word.now }
 {
     match word.parse::<u32>() {
         Ok(number) => Some(number),
@@ -67,7 +67,7 @@ fn number_of(word: &str) -> Option<u32>
 
 /// What the words KIND and COUNT ask for. Other words ask for nothing.
 pub fn job_of(words: &[String]) -> Option<Job>
-    ensures { result ≡ job_of (map string_bytes words.now) }
+    ensures { result ≡ steps_job_of (map string_bytes words.now) }
 {
     let [kind, count] = words else {
         return None;

@@ -1,4 +1,4 @@
--- Looks: a read from an empty cache is a look, and looks in a row.
+-- LooksAtLine: a read from an empty cache is a look, and looks in a row.
 use Rattle.std.proofs.Common.{◌≡◌, ℕ, ◌+◌, Bool, true, false, List, [], ◌∷◌, ◌++◌, Option, None, Some, slice_index, refl, sym, ◌∙◌, ap, subst, length-append}
 use mathlib.Core.Bool.{beq}
 use Rattle.scc_base.specs.Places.{WordAt, LineAt, line_of_word}
@@ -10,11 +10,11 @@ use Rattle.put_get.specs.Accesses.{loads_of}
 use Rattle.put_get.specs.Cores.{Private, Fills, Fetch, Held, Loaded, ReadsWord}
 use Rattle.sync_flags.specs.Flags.{is_set_in}
 use Rattle.sync_flags.specs.Tries.{is_unwanted}
-use Rattle.sync_flags.specs.Looks.{Looks, LooksAt, ReadsFlag, LooksAll, looks_of, AreVain, LooksInVain}
+use Rattle.sync_flags.specs.Looks.{LooksAtLine, LooksAt, ReadsFlag, LooksAll, looks_of, AreVain, LooksInVain}
 
 -- nothing is held in an empty cache, so a fetch loads
 pub fetch_looks : {s t : Sight} {c1 d : Private} {line : LineAt} {words : List ℕ} → Fetch s c1 line words t d → (c : Private)
-    → c1 ≡ record c { lines = [] } → Looks s c line words t d
+    → c1 ≡ record c { lines = [] } → LooksAtLine s c line words t d
 fetch_looks {line = line} {words = words} (Held h e f) c empty = let none : None ≡ Some words = sym (ap (λ (x : Private). held x.lines line) empty) ∙ h in absurd (cc)
 fetch_looks {d = d} {line = line} {words = words} (Loaded h len did fills) c empty =
     let now = subst (λ (x : Private). Fills x line words d) empty fills in
@@ -37,9 +37,9 @@ looks_did s c line (words ∷ rest) t d all =
 
 -- one look more
 pub looks_more : (s : Sight) (c : Private) (line : LineAt) (looks : List (List ℕ)) (m : Sight) (b : Private) (words : List ℕ) (t : Sight) (d : Private)
-    → LooksAll s c line looks m b → Looks m b line words t d → LooksAll s c line (looks ++ words ∷ []) t d
+    → LooksAll s c line looks m b → LooksAtLine m b line words t d → LooksAll s c line (looks ++ words ∷ []) t d
 looks_more s c line [] m b words t d all one =
-    (t, d, subst (λ (x : Private). Looks s x line words t d) all.1 (subst (λ (x : Sight). Looks x b line words t d) all.0 one), (refl, refl))
+    (t, d, subst (λ (x : Private). LooksAtLine s x line words t d) all.1 (subst (λ (x : Sight). LooksAtLine x b line words t d) all.0 one), (refl, refl))
 looks_more s c line (first ∷ rest) m b words t d all one = (all.0, all.1, all.2, looks_more all.0 all.1 line rest m b words t d all.3 one)
 
 pub vain_more : (place : WordAt) (bit : Option ℕ) (want : Bool) (looks : List (List ℕ)) (words : List ℕ) → AreVain place bit want looks

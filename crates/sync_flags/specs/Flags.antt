@@ -35,5 +35,5 @@ abbrev pub with_bit : ℕ → Bool → ℕ → ℕ
 with_bit b set word = if bit_at word b == flag_value set then word else (if set then word + 2 ^ b else word - 2 ^ b)
 
 -- what a call waits at where it waits at a flag: a flag that is a whole word has bit 0
-abbrev pub flag_spot : WordAt → Option ℕ → Spot
-flag_spot place bit = Flag place (unwrap_or bit 0)
+abbrev pub spot_of_flag : WordAt → Option ℕ → Spot
+spot_of_flag place bit = Flag place (unwrap_or bit 0)

@@ -8,7 +8,7 @@ use Rattle.scc_base.specs.declared.events.Event.{Event}
 use Rattle.scc_base.specs.declared.events.Spot.{Spot}
 use Rattle.scc_base.specs.declared.events.Spot.TheVariants.{Flag, Register}
 use Rattle.put_get.specs.Transfers.{is_load}
-use Rattle.sync_flags.specs.Flags.{is_set_in, flag_spot}
+use Rattle.sync_flags.specs.Flags.{is_set_in, spot_of_flag}
 
 -- what a call tries for: that a flag is found as wanted, that a word has this value (a flag of a barrier, which is
 -- flipped), or that a core's register is taken
@@ -19,7 +19,7 @@ pub data Aim : Type 0 where
 
 -- where a call waits that has tried in vain
 abbrev pub spot_of : Aim → Spot
-spot_of (AtFlag place bit want) = flag_spot place bit
+spot_of (AtFlag place bit want) = spot_of_flag place bit
 spot_of (AtWord place value) = Flag place 0
 spot_of (AtRegister core) = Register core
 
@@ -125,5 +125,6 @@ pub record EndsInVain (aim : Aim) (polls : ℕ) (events : List Event) : Type 0 w
 -- try was vain
 pub data Tried (aim : Option Aim) (events : List Event) (waits : Option Spot) : Type 0 where
   NoTry : aim ≡ None → waits ≡ None → Tried aim events waits
-  Vain : (at : Aim) → aim ≡ Some at → tries_at at events ≡ 1 → all_vain at false events ≡ true → waits ≡ Some (spot_of at) → Tried aim events waits
+  Vain : (at : Aim) → aim ≡ Some at → tries_at at events ≡ 1 → all_vain at false events ≡ true → waits ≡ Some (spot_of at)
+      → Tried aim events waits
   Fruitful : (at : Aim) → aim ≡ Some at → tries_at at events ≡ 1 → all_vain at false events ≡ false → waits ≡ None → Tried aim events waits

@@ -35,15 +35,16 @@ pub record WasLoaded (seat : Seat) (rec : Record) (events : List Event) : Type 0
 
 -- the record permits the store of a word with that bit as asked, whatever the loads of its line answered that
 -- were made after these events
-abbrev pub MayChange : Seat → Record → List Event → WordAt → ℕ → Bool → Type 0
-MayChange seat rec before place b set = (words : List ℕ) → WasLoaded seat rec (before ++ loads_of (line_of_word place) words)
-    → MayMake seat (record_on seat rec (before ++ loads_of (line_of_word place) words)) (store_of place (with_bit b set (slice_index words place.word)))
+abbrev pub MayStoreBit : Seat → Record → List Event → WordAt → ℕ → Bool → Type 0
+MayStoreBit seat rec before place b set = (words : List ℕ) → WasLoaded seat rec (before ++ loads_of (line_of_word place) words)
+    → MayMake seat (record_on seat rec (before ++ loads_of (line_of_word place) words))
+    (store_of place (with_bit b set (slice_index words place.word)))
 
 -- the record permits the one store that a write of the flag makes; for a bit the store comes after the take
 -- of a register that the rank does not hold yet
 abbrev pub MayWrite : Seat → Record → WordAt → Option ℕ → Bool → Type 0
 MayWrite seat rec place None set = MayMake seat rec (store_of place (flag_value set))
-MayWrite seat rec place (Some b) set = IsNotHolding rec place.core × MayChange seat rec (take_of place.core true ∷ []) place b set
+MayWrite seat rec place (Some b) set = IsNotHolding rec place.core × MayStoreBit seat rec (take_of place.core true ∷ []) place b set
 
 -- a word was written and sent out: one store, and the cached line has the new word
 pub record StoresWord (s : Sight) (c : Private) (place : WordAt) (value : ℕ) (t : Sight) (d : Private) : Type 0 where
@@ -56,7 +57,8 @@ TakesWithin s core polls t None = Did s (vain_takes core polls) t
 TakesWithin s core polls t (Some held) = (held ≡ core) × ((n : ℕ) × (n < polls) × Did s (vain_takes core n ++ take_of core true ∷ []) t)
 
 -- a bit was changed under a register that is held: the line came in and has the new word, and the record was sound
--- after its loads
+-- after its loads. Seven parameters: the bit (its word, its place in it), its value, and the caller's sight and core before
+-- and after.
 pub record ChangesBit (s : Sight) (c : Private) (place : WordAt) (b : ℕ) (set : Bool) (t : Sight) (d : Private) : Type 0 where
   pub words : List ℕ
   pub did : Did s (loads_of (line_of_word place) words ++ store_of place (with_bit b set (slice_index words place.word)) ∷ []) t
@@ -66,15 +68,17 @@ pub record ChangesBit (s : Sight) (c : Private) (place : WordAt) (b : ℕ) (set 
   pub is : d ≡ record loaded { lines = noted loaded.lines place (with_bit b set (slice_index words place.word)) }
 
 -- one try at a bit's change: the register was found taken, or the events of the change were made, and the line came
--- in and has the new word
+-- in and has the new word. Eight parameters: those of `ChangesBit`, and whether the try was done.
 pub data TriesChange (s : Sight) (c : Private) (place : WordAt) (b : ℕ) (set : Bool) (done : Bool) (t : Sight) (d : Private) : Type 0 where
   RegisterTaken : done ≡ false → Did s (take_of place.core false ∷ []) t → d ≡ c → TriesChange s c place b set done t d
-  BitChanged : done ≡ true → (words : List ℕ) → WasLoaded s.seat (record_in s) (take_of place.core true ∷ loads_of (line_of_word place) words)
+  BitChanged : done ≡ true → (words : List ℕ)
+      → WasLoaded s.seat (record_in s) (take_of place.core true ∷ loads_of (line_of_word place) words)
       → Did s (change_events place b set words) t → (loaded : Private) → Fills (record c { lines = [] }) (line_of_word place) words loaded
-      → d ≡ record loaded { lines = noted loaded.lines place (with_bit b set (slice_index words place.word)) } → TriesChange s c place b set done t d
+      → d ≡ record loaded { lines = noted loaded.lines place (with_bit b set (slice_index words place.word)) }
+      → TriesChange s c place b set done t d
 
 -- a flag that is a bit was written: after fewer vain takes than were allowed, the events of its change; the
--- line came in and has the new word
+-- line came in and has the new word. Eight parameters: those of `ChangesBit`, and how many takes are allowed.
 pub record WritesBit (s : Sight) (c : Private) (place : WordAt) (b : ℕ) (set : Bool) (polls : ℕ) (t : Sight) (d : Private) : Type 0 where
   pub vain : ℕ
   pub few : vain < polls
@@ -89,7 +93,8 @@ pub record GivesUp (s : Sight) (c : Private) (place : WordAt) (polls : ℕ) (t :
   pub did : Did s (vain_takes place.core polls) t
   pub is : d ≡ c
 
--- what a write of a flag came to: a word is always written
+-- what a write of a flag came to: a word is always written. Nine parameters: the flag (its word, its bit where it is one),
+-- its value, how many takes are allowed, the caller's sight and core before and after, and the answer.
 abbrev pub WritesFlag : Sight → Private → WordAt → Option ℕ → Bool → ℕ → Sight → Private → Result Unit Stalled → Type 0
 WritesFlag s c place None set polls t d (Ok done) = StoresWord s c place (flag_value set) t d
 WritesFlag s c place None set polls t d (Err stalled) = ⊥

@@ -1,7 +1,7 @@
 //! Flags and their lines of the heap.
 
 ghost use Rattle.std.specs.Prelude.{◌≡◌, ◌<◌, ◌++◌, ◌↔◌, [], ◌∷◌, IsErr, IfOk, IfSome, OnOk, OnErr, Contains};
-ghost use Rattle.mpb_alloc.specs.Heaps.{run_of, answer_for, line_count, taken_from, given_back, returned, IsHeap};
+ghost use Rattle.mpb_alloc.specs.Heaps.{run_of_lines, answer_for, lines_in_runs, taken_from, given_back, returned, IsHeap};
 ghost use Rattle.sync_flags.specs.Flags.{is_set_in};
 
 use mpb_alloc::{Heap, MallocFault};
@@ -34,7 +34,7 @@ impl Model for Flag {
 
 impl Flag {
     ghost use Rattle.std.specs.Prelude.{◌≡◌, ◌<◌, ◌≤◌, Some, None, IfSome};
-    ghost use Rattle.sync_flags.specs.Flags.{flag_at, is_set_in, flag_spot};
+    ghost use Rattle.sync_flags.specs.Flags.{flag_at, is_set_in, spot_of_flag};
     ghost use Rattle.scc_base.specs.Places.{first_heap};
 
     /// The flag that has the buffer's first line for itself.
@@ -88,7 +88,7 @@ impl Flag {
 
     /// What a call waits at that waits for this flag.
     pub(crate) fn spot(self, place: Place) -> Spot
-        ensures gives { result ≡ flag_spot place self.bit }
+        ensures gives { result ≡ spot_of_flag place self.bit }
     {
         Spot::Flag {
             place,
@@ -112,10 +112,10 @@ pub fn is_set_in(bit: Option<u8>, word: u64) -> bool
 /// Takes one line of the heap for flags. It is refused where no line is free.
 pub fn flag_alloc(heap: &mut Heap) -> Result<Buf, MallocFault>
     ensures answer { result ≡ answer_for 1 heap.old.free }
-    ensures full { IsErr result ↔ (line_count heap.old.free ≡ 0) }
+    ensures full { IsErr result ↔ (lines_in_runs heap.old.free ≡ 0) }
     ensures line { IfOk result (λ b. b.lines ≡ 1) }
     ensures free { OnOk result (heap.new.free ≡ taken_from 1 heap.old.free) }
-    ensures out { IfOk result (λ b. heap.new.out ≡ heap.old.out ++ run_of b ∷ []) }
+    ensures out { IfOk result (λ b. heap.new.out ≡ heap.old.out ++ run_of_lines b ∷ []) }
     ensures unchanged { OnErr result (heap.new ≡ heap.old) }
     ensures heap { OnOk result (IsHeap heap.new) }
 {
@@ -124,9 +124,9 @@ pub fn flag_alloc(heap: &mut Heap) -> Result<Buf, MallocFault>
 
 /// Gives a flag's line back.
 pub fn flag_free(heap: &mut Heap, buffer: Buf)
-    requires { Contains heap.old.out (run_of buffer) }
-    ensures free { heap.new.free ≡ given_back (run_of buffer) heap.old.free }
-    ensures out { heap.new.out ≡ returned (run_of buffer) heap.old.out }
+    requires { Contains heap.old.out (run_of_lines buffer) }
+    ensures free { heap.new.free ≡ given_back (run_of_lines buffer) heap.old.free }
+    ensures out { heap.new.out ≡ returned (run_of_lines buffer) heap.old.out }
     ensures heap { IsHeap heap.new }
 {
     heap.free(buffer);

@@ -22,10 +22,14 @@ pub fn tries_law()
 /// A rank may store into the heap wherever it has drafted nothing, takes no chunk and is in no barrier; so it may
 /// write a flag there: a word at once, and a bit where it does not hold the register of the flag's core.
 pub fn heap_law()
-    ensures store { (seat : Seat) (rec : Record) (r : ℕ) (f : FlagView) (value : ℕ) → IsSetup seat.setup → r < seat.setup.nue → first_heap ≤ f.line
+    ensures store { (seat : Seat) (rec : Record) (r : ℕ) (f : FlagView) (value : ℕ) → IsSetup seat.setup → r < seat.setup.nue
+        → first_heap ≤ f.line
         → leaves_heap rec.stage ≡ true → MayMake seat rec (store_of (flag_of seat.setup r f) value) }
-    ensures word { (seat : Seat) (rec : Record) (r : ℕ) (f : FlagView) (set : Bool) → IsSetup seat.setup → r < seat.setup.nue → first_heap ≤ f.line
+    ensures word { (seat : Seat) (rec : Record) (r : ℕ) (f : FlagView) (set : Bool) → IsSetup seat.setup → r < seat.setup.nue
+        → first_heap ≤ f.line
         → leaves_heap rec.stage ≡ true → MayWrite seat rec (flag_of seat.setup r f) None set }
-    ensures bit { (seat : Seat) (rec : Record) (r : ℕ) (f : FlagView) (b : ℕ) (set : Bool) → IsSetup seat.setup → r < seat.setup.nue → first_heap ≤ f.line
-        → leaves_heap rec.stage ≡ true → IsNotHolding rec (host_of seat.setup.hosts r) → MayWrite seat rec (flag_of seat.setup r f) (Some b) set }
+    ensures bit { (seat : Seat) (rec : Record) (r : ℕ) (f : FlagView) (b : ℕ) (set : Bool) → IsSetup seat.setup → r < seat.setup.nue
+        → first_heap ≤ f.line
+        → leaves_heap rec.stage ≡ true → IsNotHolding rec (host_of seat.setup.hosts r)
+        → MayWrite seat rec (flag_of seat.setup r f) (Some b) set }
 {}

@@ -30,7 +30,8 @@ pub fn look_word<V: Evict, P: Port>(core: &mut Core<V>, port: &mut P, place: Pla
 pub fn flag_read<V: Evict, P: Port>(core: &mut Core<V>, port: &mut P, at: Rank, f: Flag) -> bool
     requires below { at < (P.sight port.old).seat.setup.nue }
     requires empty { core.old.out ≡ None }
-    ensures reads { ReadsFlag (P.sight port.old) core.old (flag_of (P.sight port.old).seat.setup at f) f.bit result (P.sight port.new) core.new }
+    ensures reads { ReadsFlag (P.sight port.old) core.old (flag_of (P.sight port.old).seat.setup at f) f.bit result
+        (P.sight port.new) core.new }
     ensures empty { core.new.out ≡ None }
     ensures steps { MadeSteps P.stepped (P.sight port.old) (P.sight port.new) }
 {
@@ -48,7 +49,8 @@ pub fn wait_until<V: Evict, P: Port>(
 ) -> Result<(), Stalled>
     requires empty { core.old.out ≡ None }
     requires some { 1 ≤ polls }
-    ensures waits { WaitsFor (P.sight port.old) core.old (flag_of (P.sight port.old).seat.setup (P.sight port.old).seat.rank f) f.bit want polls (P.sight port.new) core.new result }
+    ensures waits { WaitsFor (P.sight port.old) core.old (flag_of (P.sight port.old).seat.setup (P.sight port.old).seat.rank f) f.bit
+        want polls (P.sight port.new) core.new result }
     ensures stalls { (events : List Event) → Did (P.sight port.old) events (P.sight port.new) → (IsErr result
         ↔ TriedInVain (AtFlag (flag_of (P.sight port.old).seat.setup (P.sight port.old).seat.rank f) f.bit want) polls events) }
     ensures empty { core.new.out ≡ None }

@@ -8,7 +8,7 @@ ghost use Rattle.put_get.specs.Cores.{MadeSteps};
 ghost use Rattle.tas_lock.specs.Holds.{IsHolding, IsNotHolding, after_try};
 ghost use Rattle.sync_flags.specs.Flags.{flag_of, with_bit};
 ghost use Rattle.sync_flags.specs.Tries.{AtRegister, TriedInVain};
-ghost use Rattle.sync_flags.specs.Writes.{MayChange, MayWrite, StoresWord, TakesWithin, ChangesBit, TriesChange, WritesFlag};
+ghost use Rattle.sync_flags.specs.Writes.{MayStoreBit, MayWrite, StoresWord, TakesWithin, ChangesBit, TriesChange, WritesFlag};
 
 use crate::flags::Flag;
 use crate::looks::look_word;
@@ -62,7 +62,7 @@ fn changed(word: u64, bit: u8, set: bool) -> u64
 fn change_bit<V: Evict, P: Port>(core: &mut Core<V>, port: &mut P, place: Place, bit: u8, set: bool)
     requires below { bit < 64 }
     requires empty { core.old.out ≡ None }
-    requires permitted { MayChange (P.sight port.old).seat (record_in (P.sight port.old)) [] place bit set }
+    requires permitted { MayStoreBit (P.sight port.old).seat (record_in (P.sight port.old)) [] place bit set }
     ensures changes { ChangesBit (P.sight port.old) core.old place bit set (P.sight port.new) core.new }
     ensures steps { MadeSteps P.stepped (P.sight port.old) (P.sight port.new) }
     ensures holds { (k : ℕ) → IsHolding (record_in (P.sight port.old)) k → IsHolding (record_in (P.sight port.new)) k }
@@ -146,8 +146,10 @@ pub fn flag_write<V: Evict, P: Port>(
     requires below { at < (P.sight port.old).seat.setup.nue }
     requires empty { core.old.out ≡ None }
     requires some { 1 ≤ polls }
-    requires permitted { MayWrite (P.sight port.old).seat (record_in (P.sight port.old)) (flag_of (P.sight port.old).seat.setup at f) f.bit set }
-    ensures writes { WritesFlag (P.sight port.old) core.old (flag_of (P.sight port.old).seat.setup at f) f.bit set polls (P.sight port.new) core.new result }
+    requires permitted { MayWrite (P.sight port.old).seat (record_in (P.sight port.old))
+        (flag_of (P.sight port.old).seat.setup at f) f.bit set }
+    ensures writes { WritesFlag (P.sight port.old) core.old (flag_of (P.sight port.old).seat.setup at f) f.bit set polls
+        (P.sight port.new) core.new result }
     ensures steps { MadeSteps P.stepped (P.sight port.old) (P.sight port.new) }
     ensures freed { IfSome f.bit (λ b. IsNotHolding (record_in (P.sight port.new)) (flag_of (P.sight port.old).seat.setup at f).core) }
     ensures stalls { (events : List Event) → Did (P.sight port.old) events (P.sight port.new) → (IsErr result

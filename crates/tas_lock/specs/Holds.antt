@@ -17,5 +17,5 @@ abbrev pub after_try : ℕ → Bool → Record → Record
 after_try core taken rec = if taken then record rec { held = put rec.held core (Some (record { sent = None; ready = None })) } else rec
 
 -- the record after the register was freed
-abbrev pub after_release : ℕ → Record → Record
-after_release core rec = record rec { held = put rec.held core None }
+abbrev pub record_after_release : ℕ → Record → Record
+record_after_release core rec = record rec { held = put rec.held core None }

@@ -3,7 +3,7 @@
 ghost use Rattle.std.specs.Prelude.{◌≡◌, [], ◌∷◌, IfSome, is_some};
 ghost use Rattle.scc_base.specs.Events.{take_of, free_of};
 ghost use Rattle.scc_proto.specs.Ports.{Did, record_in};
-ghost use Rattle.tas_lock.specs.Holds.{IsHolding, IsNotHolding, after_try, after_release};
+ghost use Rattle.tas_lock.specs.Holds.{IsHolding, IsNotHolding, after_try, record_after_release};
 
 use scc_base::CoreId;
 use scc_proto::Port;
@@ -55,7 +55,7 @@ pub fn try_acquire<P: Port>(port: &mut P, c: CoreId) -> Option<Held>
 pub fn release<P: Port>(port: &mut P, held: Held)
     requires held { IsHolding (record_in (P.sight port.old)) held }
     ensures frees { Did (P.sight port.old) (free_of held ∷ []) (P.sight port.new) }
-    ensures holds { record_in (P.sight port.new) ≡ after_release held (record_in (P.sight port.old)) }
+    ensures holds { record_in (P.sight port.new) ≡ record_after_release held (record_in (P.sight port.old)) }
     ensures step { P.stepped (P.sight port.old).seat (P.sight port.old).events (free_of held) }
     ensures freed { IsNotHolding (record_in (P.sight port.new)) held }
 {

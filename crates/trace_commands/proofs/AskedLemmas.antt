@@ -12,7 +12,7 @@ use Rattle.script_reader.specs.Script.{Script, first_split, rules_of}
 use Rattle.texts.specs.Cuts.{is_text}
 use Rattle.texts.specs.Numbers.{number_of}
 use Rattle.rcce_words.specs.Cores.{has_core}
-use Rattle.rcce_words.specs.HostFile.{at_line, core_of_number, core_of_word, default_hosts, digits_of, enough, entry_of, file_lines, host_at, host_list, parse_hosts, read_line, read_lines, with_core}
+use Rattle.rcce_words.specs.HostFile.{at_host_line, core_of_number, core_of_word, default_hosts, digits_of, enough, entry_of, file_lines, host_at, host_list, parse_hosts, read_host_line, read_host_lines, with_core}
 use Rattle.rcce_words.specs.declared.command.Job.{Job}
 use Rattle.rcce_words.specs.declared.command.WordFault.{WordFault}
 use Rattle.rcce_words.specs.declared.host_file.HostFault.{HostFault}
@@ -56,7 +56,7 @@ more_low cores next core are low is = by (has_core core cores) is
     by true same = absurd (cc)
     by false same = let at : cores ++ core ∷ [] ≡ next = cc in subst AreLow at (push_low cores core are low)
 
-line_low : (cores next : List ℕ) (line : List ℕ) → AreLow cores → read_line cores line ≡ Ok next → AreLow next
+line_low : (cores next : List ℕ) (line : List ℕ) → AreLow cores → read_host_line cores line ≡ Ok next → AreLow next
 line_low cores next line are is = by (is_text line) (eqb (length (entry_of line)) 0) is
   where
     by : (text empty : Bool) → cond {A = Result (List ℕ) HostKind} text (cond {A = Result (List ℕ) HostKind} empty (Ok cores) (core_of_word (entry_of line) >>= with_core cores)) (Err kind.NotText) ≡ Ok next → AreLow next
@@ -66,15 +66,15 @@ line_low cores next line are is = by (is_text line) (eqb (length (entry_of line)
         more_low cores next core are (number_low (number_of (digits_of (entry_of line))) core read) put
     by false empty same = absurd (cc)
 
-at_ok : {A : Type 0} (number : ℕ) (r : Result A HostKind) (x : A) → at_line number r ≡ Ok x → r ≡ Ok x
+at_ok : {A : Type 0} (number : ℕ) (r : Result A HostKind) (x : A) → at_host_line number r ≡ Ok x → r ≡ Ok x
 at_ok number (Ok y) x is = cc
 at_ok number (Err kind) x is = absurd (cc)
 
-lines_low : (before : ℕ) (cores next : List ℕ) (lines : List (List ℕ)) → AreLow cores → read_lines before cores lines ≡ Ok next → AreLow next
+lines_low : (before : ℕ) (cores next : List ℕ) (lines : List (List ℕ)) → AreLow cores → read_host_lines before cores lines ≡ Ok next → AreLow next
 lines_low before cores next [] are is = let at : cores ≡ next = cc in subst AreLow at are
 lines_low before cores next (line ∷ lines) are is =
-    let (mid, read, rest) = then_ok (at_line (before + 1) (read_line cores line)) (λ mid. read_lines (before + 1) mid lines) next is in
-    lines_low (before + 1) mid next lines (line_low cores mid line are (at_ok (before + 1) (read_line cores line) mid read)) rest
+    let (mid, read, rest) = then_ok (at_host_line (before + 1) (read_host_line cores line)) (λ mid. read_host_lines (before + 1) mid lines) next is in
+    lines_low (before + 1) mid next lines (line_low cores mid line are (at_ok (before + 1) (read_host_line cores line) mid read)) rest
 
 host_low : (nue : ℕ) (cores : List ℕ) (r : ℕ) → AreLow cores → host_at nue cores r < 48
 host_low nue cores r are = by (nat_lt r nue)
@@ -100,10 +100,10 @@ enough_low nue lines cores hosts are is = by (nat_lt (length cores) nue) is
 pub parsed_low : (bytes : List ℕ) (nue : ℕ) (hosts : List ℕ) → parse_hosts bytes nue ≡ Ok hosts → AreLow hosts
 parsed_low bytes nue hosts is = by (nat_lt 65536 (length bytes)) is
   where
-    by : (test : Bool) → cond {A = Result (List ℕ) HostFault} test (Err (record { line = 0; kind = kind.TooLong })) (read_lines 0 [] (file_lines bytes) >>= enough nue (length (file_lines bytes))) ≡ Ok hosts → AreLow hosts
+    by : (test : Bool) → cond {A = Result (List ℕ) HostFault} test (Err (record { line = 0; kind = kind.TooLong })) (read_host_lines 0 [] (file_lines bytes) >>= enough nue (length (file_lines bytes))) ≡ Ok hosts → AreLow hosts
     by true same = absurd (cc)
     by false same =
-        let (cores, read, put) = then_ok (read_lines 0 [] (file_lines bytes)) (enough nue (length (file_lines bytes))) hosts same in
+        let (cores, read, put) = then_ok (read_host_lines 0 [] (file_lines bytes)) (enough nue (length (file_lines bytes))) hosts same in
         enough_low nue (length (file_lines bytes)) cores hosts (lines_low 0 [] cores (file_lines bytes) none_low read) put
 
 -- rank r is on core r where there is no host file

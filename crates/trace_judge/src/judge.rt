@@ -53,7 +53,8 @@ fn held(rank: Rank, event: &Event) -> Made
 
 // Why an event is refused that the machine of its rank does not permit.
 fn not_permitted(machine: &Machine, event: &Event) -> Refusal
-    ensures gives { (rec : Record) → FollowsRecord machine.now rec → result ≡ Refusal.NotPermitted (allowed_for machine.now.setup rec event.now) }
+    ensures gives { (rec : Record) → FollowsRecord machine.now rec
+        → result ≡ Refusal.NotPermitted (allowed_for machine.now.setup rec event.now) }
 {
     Refusal::NotPermitted {
         next: machine.allowed_for(event),

@@ -14,7 +14,8 @@ ghost use Rattle.trace_judge.specs.Rulings.{AreRankEvents, refusal_of, ruling_fr
 
 /// An event is taken exactly where it is a step of the words and the record of its rank permits it.
 pub fn ruling_law()
-    ensures law { (j : Judged) (e : RankEvent) → (refusal_of j e ≡ None) ↔ (IsStep j.memory e.event × IsPermitted j.setup e.rank (j.records e.rank) e.event) }
+    ensures law { (j : Judged) (e : RankEvent)
+        → (refusal_of j e ≡ None) ↔ (IsStep j.memory e.event × IsPermitted j.setup e.rank (j.records e.rank) e.event) }
 {}
 
 /// One event more is the chip after it.
@@ -35,6 +36,7 @@ pub fn legal_law()
 pub fn messages_law()
     ensures agrees { (s : SetupView) (run : List RankEvent) → IsSetup s → AreRankEvents s run → IsOk (ruling_from 0 (new_judged s) run)
         → Agrees s (memory_from zeros run) (records_of s run) }
-    ensures messages { (s : SetupView) (run : List RankEvent) (from to : ℕ) → IsSetup s → AreRankEvents s run → IsOk (ruling_from 0 (new_judged s) run)
+    ensures messages { (s : SetupView) (run : List RankEvent) (from to : ℕ) → IsSetup s → AreRankEvents s run
+        → IsOk (ruling_from 0 (new_judged s) run)
         → from < s.nue → PairMessages s from to (records_of s run) }
 {}

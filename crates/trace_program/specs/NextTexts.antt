@@ -12,12 +12,15 @@ text_round before number after = joined (before ∷ decimal number ∷ after ∷
 
 -- the stores that messages and barriers allow
 abbrev pub store_text : NextStore → List ℕ
-store_text may.Begin = codes "it may write its header and its chunk, lower sent of a rank whose header it has read, enter a barrier or write to the heap"
+store_text may.Begin =
+    codes "it may write its header and its chunk, lower sent of a rank whose header it has read, enter a barrier or write to the heap"
 store_text (may.BesidePost to) =
-    text_round (codes "beside its post to rank ") to (codes " it may lower sent of a rank whose header it has read, enter a barrier or write to the heap")
+    text_round (codes "beside its post to rank ") to
+    (codes " it may lower sent of a rank whose header it has read, enter a barrier or write to the heap")
 store_text may.Draft = codes "it may write its header and its chunk, and raise sent once both are whole"
 store_text may.Raise = codes "it may raise sent, or write its header and its chunk again"
-store_text (may.FillFirst to) = text_round (codes "it may write its next chunk, raise sent to rank ") to (codes " once that is whole, or write to the heap first")
+store_text (may.FillFirst to) =
+    text_round (codes "it may write its next chunk, raise sent to rank ") to (codes " once that is whole, or write to the heap first")
 store_text (may.Fill to) = text_round (codes "it may write its next chunk, and raise sent to rank ") to (codes " once that is whole")
 store_text (may.RaiseMore to) = text_round (codes "it may raise sent to rank ") to (codes ", or write its chunk again")
 store_text (may.SeeReady by) = text_round (codes "it may write nothing before it has seen ready of rank ") by []
@@ -27,7 +30,8 @@ store_text (may.LowerSent from) = text_round (codes "it may lower sent of rank "
 store_text (may.ReadChunk from) = text_round (codes "it may raise ready to rank ") from (codes " once it has read the whole chunk")
 store_text (may.RaiseReady to) = text_round (codes "it may raise ready to rank ") to []
 store_text (may.Meet comm) =
-    text_round (codes "it may write the releases of its barrier in communicator ") comm (codes ", as its root, once it has seen all gathers")
+    text_round (codes "it may write the releases of its barrier in communicator ") comm
+    (codes ", as its root, once it has seen all gathers")
 
 -- the `ready` of a post, which may be lowered beside them
 abbrev pub ready_text : Option ℕ → List ℕ

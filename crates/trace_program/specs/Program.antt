@@ -25,7 +25,8 @@ pub record TraceCommand : Type 0 where
 -- what a ruling comes to: the chip's finished calls, or the line of the event that is refused
 abbrev pub ruling_ran : Bool → TraceView → Result Judged RefusedAt → Ran
 ruling_ran asked trace (Ok j) = record { finished = true; out = legal_text trace.setup.nue asked (finished_calls j); err = [] }
-ruling_ran asked trace (Err at) = record { finished = false; out = refused_text (first_event_line trace.setup + at.number) at.rank at.why; err = [] }
+ruling_ran asked trace (Err at) =
+    record { finished = false; out = refused_text (first_event_line trace.setup + at.number) at.rank at.why; err = [] }
 
 -- what a trace comes to
 abbrev pub trace_ran : Bool → TraceView → Ran

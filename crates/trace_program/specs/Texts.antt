@@ -47,4 +47,5 @@ abbrev pub refused_text : (line rank : ℕ) → Refusal → List ℕ
 refused_text line rank (OtherValue found) =
     joined (codes "not legal: line " ∷ decimal line ∷ codes ": the value there is " ∷ hex_text (to_be_bytes w64 found) ∷ codes "\n" ∷ [])
 refused_text line rank (NotPermitted next) =
-    joined (codes "not legal: line " ∷ decimal line ∷ codes ": the record of rank " ∷ decimal rank ∷ codes " does not permit it; " ∷ next_text next ∷ codes "\n" ∷ [])
+    joined (codes "not legal: line " ∷ decimal line ∷ codes ": the record of rank " ∷ decimal rank ∷ codes " does not permit it; "
+    ∷ next_text next ∷ codes "\n" ∷ [])

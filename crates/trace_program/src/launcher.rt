@@ -95,7 +95,8 @@ fn hear_file<'a, F: Files>(
 fn end_file<'a>(job: TraceJob<'a>, hearing: Hearing) -> Result<TraceVerdict, Complaint<'a>>
     requires hears { Hears job.asked hearing }
     ensures { (before after : FilesView) → ReadsAll job.entry.file.now most_trace_bytes before after (Ok hearing.walk)
-        → Comes (codes "rccetrace") (trace_file_plan (job_view job.entry)) before after (outcome_of (codes "rccetrace") verdict_shown result) }
+        → Comes (codes "rccetrace") (trace_file_plan (job_view job.entry)) before after
+        (outcome_of (codes "rccetrace") verdict_shown result) }
 {
     if hearing.is_long() {
         return Err(Complaint::Refused {

@@ -64,7 +64,8 @@ pub(crate) fn round<W: Worker, N: Witness>(
     requires some { 0 < length crew.old }
     requires seen { HasSeenAll (N.setup witness) (N.noted witness) chip.old }
     ensures picks { picks.new ≡ drawn pcg32 (1000 * length crew.old) picks.old }
-    ensures order { TurnsOf W.conduct (named pcg32 (length crew.old) (1000 * length crew.old) picks.old) chip.old crew.old chip.new crew.new }
+    ensures order { TurnsOf W.conduct (named pcg32 (length crew.old) (1000 * length crew.old) picks.old) chip.old crew.old
+        chip.new crew.new }
     ensures stands { CrewStands W.conduct chip.old crew.old chip.new crew.new }
     ensures seen { HasSeenAll (N.setup result) (N.noted result) chip.new }
 {

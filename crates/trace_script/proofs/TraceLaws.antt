@@ -11,7 +11,7 @@ use Rattle.chip_run.specs.declared.members.Member.{Member}
 use Rattle.chip_run.specs.Crews.{AllRest, CrewStands}
 use Rattle.chip_run.proofs.ServedLaws.{some_worker}
 use Rattle.rcce_ue.specs.Ues.{UeView}
-use Rattle.rcce_run.specs.UeRuns.{AreFresh, IsFreshCrew, ue_members, ue_of}
+use Rattle.rcce_run.specs.UeRuns.{AreFresh, IsFreshCrew, ue_members, member_ue}
 use Rattle.rcce_run.proofs.FreshCrews.{crew_fresh}
 use Rattle.rcce_run.proofs.RunEnds.{ends_as, still_run}
 use Rattle.rcce_run.proofs.SentLaws.{counts_sends}
@@ -52,13 +52,13 @@ module _ (asked : Asked) (first now : ChipView) (crew later : List (Member UeVie
   -- a run that went to its end is over
   over_at : (end : RunEnd) → RunsToEnd ue_members (unwrap_or asked.job.serial 0) end first crew now later → IsOver (one_thread asked) now later end
   over_at end ran =
-      let all = still_run ue_members ue_of members_run asked.script first now crew later stands.goes (fresh_run asked.script first crew of_chip) in
+      let all = still_run ue_members member_ue members_run asked.script first now crew later stands.goes (fresh_run asked.script first crew of_chip) in
       let d = some_worker later some in
       let rests = subst (λ (n : ℕ). AllRest ue_members now later n) stands.is_crew.each ran.rests in
       run_over (one_thread asked) first now crew later end ranks new fresh.count
       (record { about = stands.goes.about; table = stands.goes.table; whole = stands.is_crew.whole })
       (record { count = stands.goes.count; empty = λ k e low. (stands.is_crew.ties k e low).empty })
-      (ends_as ue_members ue_of members_run asked.script now later memory agrees stands.is_crew all some d rests end ran.answer)
+      (ends_as ue_members member_ue members_run asked.script now later memory agrees stands.is_crew all some d rests end ran.answer)
       (λ k e low. shows_ends asked.script now later memory agrees stands.is_crew all some e rests k low)
       (λ k low. has_calls asked.script now later memory agrees stands.is_crew all some d rests k low)
       (λ k e low. counts_sends asked.script now later stands.is_crew all some e k low)

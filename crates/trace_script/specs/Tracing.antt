@@ -79,7 +79,8 @@ pub record WasBroken (asked : Asked) (chip : ChipView) (before after : Sinks) : 
 
 -- how a run was traced, by the end that was answered
 abbrev pub TracesRun : Asked → ChipView → Sinks → Sinks → TraceEnd → Type 0
-TracesRun asked chip before after (end.Ended s) = WasTraced asked chip before after s ⊎ ((s ≡ status.Write) × WasCutOff asked chip before after)
+TracesRun asked chip before after (end.Ended s) =
+    WasTraced asked chip before after s ⊎ ((s ≡ status.Write) × WasCutOff asked chip before after)
 TracesRun asked chip before after end.Refused = WasBroken asked chip before after
 
 -- a loaded run was traced, or there was no memory for it
@@ -88,21 +89,25 @@ TracesLoaded asked chip before after (end.Ended s) =
     (Delivers (no_memory (codes "rccetrace")) before after s × (chip ≡ None)) ⊎ TracesRun asked chip before after (end.Ended s)
 TracesLoaded asked chip before after end.Refused = TracesRun asked chip before after end.Refused
 
--- nothing ran: it complains, by its own name, of what the launcher would complain of for the same words
-pub record HasComplained (words : List (List ℕ)) (files files_after : FilesView) (chip : ChipView) (before after : Sinks) (s : Status) : Type 0 where
+-- nothing ran: it complains, by its own name, of what the launcher would complain of for the same words. Seven parameters,
+-- the whole world of a call: the words, the files twice, the chip, the sinks twice, the status.
+pub record HasComplained (words : List (List ℕ)) (files files_after : FilesView) (chip : ChipView) (before after : Sinks)
+    (s : Status) : Type 0 where
   pub why : Complaint
   pub meant : IsMeant (codes "rccerun") (rccerun.plan words) files files_after (complaint_outcome (codes "rccerun") why)
   pub delivers : Delivers (complaint_outcome (codes "rccetrace") why) before after s
   pub blank : chip ≡ None
 
--- the run that the words ask of the launcher was traced
-pub record HasTraced (words : List (List ℕ)) (files files_after : FilesView) (chip : ChipView) (before after : Sinks) (answer : TraceEnd) : Type 0 where
+-- the run that the words ask of the launcher was traced. Seven parameters: those of `HasComplained`, with how the call ended
+-- in place of the status.
+pub record HasTraced (words : List (List ℕ)) (files files_after : FilesView) (chip : ChipView) (before after : Sinks)
+    (answer : TraceEnd) : Type 0 where
   pub asked : Asked
   pub asks : WordsAskFor words (parse_command words) files.told asked
   pub meant : IsMeant (codes "rccerun") (rccerun.plan words) files files_after (run_outcome (asked_ran asked))
   pub traced : TracesRun asked chip before after answer
 
--- what a call with the launcher's words leaves
+-- what a call with the launcher's words leaves. Seven parameters, those of `HasTraced`.
 abbrev pub TracesWords : List (List ℕ) → FilesView → FilesView → ChipView → Sinks → Sinks → TraceEnd → Type 0
 TracesWords words files files_after chip before after (end.Ended s) =
     HasComplained words files files_after chip before after s ⊎ HasTraced words files files_after chip before after (end.Ended s)
@@ -111,7 +116,8 @@ TracesWords words files files_after chip before after end.Refused = HasTraced wo
 -- what err takes behind a trace that was written, and the status: those of the launcher's definition, or of a failed write
 abbrev pub TellsEnd : Asked → SinkView → SinkView → Status → Type 0
 TellsEnd asked before after s =
-    ((s ≡ (run_outcome (asked_ran asked)).status) × (after ≡ with_text (asked_ran asked).err before)) ⊎ ((s ≡ status.Write) × CutShort (asked_ran asked).err before after)
+    ((s ≡ (run_outcome (asked_ran asked)).status) × (after ≡ with_text (asked_ran asked).err before))
+    ⊎ ((s ≡ status.Write) × CutShort (asked_ran asked).err before after)
 
 -- where the whole trace was written the run is over, on one thread
 abbrev pub IsTracedOver : Asked → ChipView → List (Member UeView) → Result RunEnd TraceFault → Type 0
@@ -123,4 +129,5 @@ abbrev pub TellsFault : TraceFault → SinkView → SinkView → TraceEnd → Ty
 TellsFault fault.Write before after (end.Ended s) = (s ≡ status.Write) × (after ≡ before)
 TellsFault fault.Write before after end.Refused = ⊥
 TellsFault (fault.Refused rank why) before after (end.Ended s) = ⊥
-TellsFault (fault.Refused rank why) before after end.Refused = (answer : Result (Unit {0}) WriteFault) × Sends (refused_line rank) before after answer
+TellsFault (fault.Refused rank why) before after end.Refused =
+    (answer : Result (Unit {0}) WriteFault) × Sends (refused_line rank) before after answer

@@ -26,7 +26,8 @@ store_event_said place value = place_said (dot_parts place) >>= λ p. hex_word_s
 
 -- a take of a register has 1 where it took it, and 0 where it found it taken
 abbrev pub take_event_said : (place value : List ℕ) → Option Event
-take_event_said place value = register_place_said (dot_parts place) >>= λ c. hex_word_said value >>= λ v. only_if (nat_le v 1) (take_of c (v == 1))
+take_event_said place value =
+    register_place_said (dot_parts place) >>= λ c. hex_word_said value >>= λ v. only_if (nat_le v 1) (take_of c (v == 1))
 
 -- a free has 0
 abbrev pub free_event_said : (place value : List ℕ) → Option Event
@@ -43,7 +44,8 @@ access_said access place value =
 
 -- the event of a rank, by the words of its line
 abbrev pub event_by : ℕ → (rank access place value : List ℕ) → Option RankEvent
-event_by nue rank access place value = rank_said nue rank >>= λ r. access_said access place value >>= λ e. Some (record { rank = r; event = e })
+event_by nue rank access place value =
+    rank_said nue rank >>= λ r. access_said access place value >>= λ e. Some (record { rank = r; event = e })
 
 -- the event of a line, by its words: rank, access, place and value, and maybe a comment
 abbrev pub event_said : ℕ → List (List ℕ) → Option RankEvent
@@ -78,12 +80,14 @@ pub record TraceHead : Type 0 where
 
 -- a core for each of the ranks, no two the same
 abbrev pub all_hosts_said : ℕ → List ℕ → Option (List ℕ)
-all_hosts_said nue word = hosts_said (record { count = 0; hosts = no_hosts }) (comma_parts word) >>= λ table. only_if (table.count == nue) table.hosts
+all_hosts_said nue word =
+    hosts_said (record { count = 0; hosts = no_hosts }) (comma_parts word) >>= λ table. only_if (table.count == nue) table.hosts
 
 -- the head that three words say: 1 to 48 ranks, a layout and a core for each rank
 abbrev pub head_values_said : (nue layout hosts : List ℕ) → Option TraceHead
 head_values_said nue layout hosts =
-    range_said 1 48 nue >>= λ n. layout_said layout >>= λ l. all_hosts_said n hosts >>= λ h. Some (record { nue = n; layout = l; hosts = h })
+    range_said 1 48 nue >>= λ n. layout_said layout >>= λ l. all_hosts_said n hosts
+    >>= λ h. Some (record { nue = n; layout = l; hosts = h })
 
 -- the words of the first line that are always the same
 abbrev pub are_head_words : (rcce trace version ranks flags cores : List ℕ) → Bool
@@ -104,13 +108,27 @@ pub record TraceReading : Type 0 where
 
 -- the first line is read
 abbrev pub behind_head : TraceHead → TraceReading
-behind_head head = record { trace = record { setup = record { nue = head.nue; layout = head.layout; hosts = head.hosts; comms = world_alone }; events = [] }; comm = 0 }
+behind_head head =
+    record {
+      trace = record {
+        setup = record { nue = head.nue; layout = head.layout; hosts = head.hosts; comms = world_alone };
+        events = [];
+      };
+      comm = 0;
+    }
 
 -- the reading with one communicator more, which stands before all events
 abbrev pub split_added : TraceReading → CommSplit → Option TraceReading
 split_added reading split =
     only_if (length reading.trace.events == 0)
-    (record reading { trace = record reading.trace { setup = record reading.trace.setup { comms = slice_set reading.trace.setup.comms split.comm split.rule } }; comm = split.comm })
+    (record reading {
+      trace = record reading.trace {
+        setup = record reading.trace.setup {
+          comms = slice_set reading.trace.setup.comms split.comm split.rule;
+        };
+      };
+      comm = split.comm;
+    })
 
 -- the reading with one event more
 abbrev pub event_added : TraceReading → RankEvent → TraceReading

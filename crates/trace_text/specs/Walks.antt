@@ -30,7 +30,8 @@ HasComeTo text r = text_reading text ≡ Some (Ok r)
 -- what lines say with one line more, which stands behind `before` lines
 abbrev pub next_said : Option (Result TraceReading TraceFault) → ℕ → List ℕ → Result TraceReading TraceFault
 next_said None before line = first_taken line
-next_said (Some said) before line = said >-> λ reading. ok_or (line_taken reading line) (record { line = before + 1; kind = line_fault line })
+next_said (Some said) before line =
+    said >-> λ reading. ok_or (line_taken reading line) (record { line = before + 1; kind = line_fault line })
 
 -- what is said has gained this event; or else no line of an event is taken
 abbrev pub GainsEvent : Option (Result TraceReading TraceFault) → Option (Result TraceReading TraceFault) → Option RankEvent → Type 0

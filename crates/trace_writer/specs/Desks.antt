@@ -59,8 +59,10 @@ pub record WasCutShort (s : SetupView) (before now : SinkView) (run : List RankE
   pub front : HasLegalFront s written run
   pub cut : CutShort (trace_text s written) before now
 
--- the event behind a legal front was refused, and what is not written of the front's text waits
-pub record WasRefused (s : SetupView) (rank : ℕ) (why : Refusal) (before : SinkView) (waiting : List ℕ) (now : SinkView) (run : List RankEvent) : Type 0 where
+-- the event behind a legal front was refused, and what is not written of the front's text waits. Seven parameters: who was
+-- refused and why (the setup, the rank, the cause), the sink before and now, what waits to be written, and the run so far.
+pub record WasRefused (s : SetupView) (rank : ℕ) (why : Refusal) (before : SinkView) (waiting : List ℕ) (now : SinkView)
+    (run : List RankEvent) : Type 0 where
   pub written : List RankEvent
   pub front : HasLegalFront s written run
   pub refuses : RefusesBehind s rank why written run

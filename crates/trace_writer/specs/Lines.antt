@@ -32,7 +32,8 @@ access_name Free = codes "free"
 
 -- what each word of a header line says
 abbrev pub header_word_name : ℕ → List ℕ
-header_word_name word = if word == 0 then codes "kind" else if word == 1 then codes "comm" else if word == 2 then codes "length" else codes "posted"
+header_word_name word =
+    if word == 0 then codes "kind" else if word == 1 then codes "comm" else if word == 2 then codes "length" else codes "posted"
 
 -- the name of a signal
 abbrev pub signal_name : Signal → List ℕ

@@ -26,7 +26,8 @@ pub record TraceOf (chip : ChipView) (before after : SinkView) (answer : Result 
 abbrev pub HasTrace : ChipView → SinkView → SinkView → Result RunEnd TraceFault → Type 0
 HasTrace chip before after answer = ∥ TraceOf chip before after answer ∥₁
 
--- where the trace is whole the run went to its end
+-- where the trace is whole the run went to its end. Seven parameters: the workers' conduct, the seed, the chip and the crew
+-- before and after, and the answer.
 abbrev pub RunsTraced : {A : Type 0} → Conduct A → ℕ → ChipView → List A → ChipView → List A → Result RunEnd TraceFault → Type 0
 RunsTraced c seed chip crew now later (Ok end) = RunsToEnd c seed end chip crew now later
 RunsTraced c seed chip crew now later (Err why) = Unit {0}

@@ -113,7 +113,8 @@ fn send<S: Sink>(sink: &mut S, buffer: Buffer) -> Result<(), TraceFault>
 
 /// Writes what waits behind a fault.
 fn send_front<S: Sink>(sink: &mut S, buffer: Buffer, fault: TraceFault) -> Result<(), TraceFault>
-    ensures sent { (before : SinkView) (judge : JudgeView) (run : List RankEvent) → HasWritten before judge buffer (S.seen sink.old) (Some fault) run
+    ensures sent { (before : SinkView) (judge : JudgeView) (run : List RankEvent)
+        → HasWritten before judge buffer (S.seen sink.old) (Some fault) run
         → TraceSent judge.setup before (S.seen sink.new) run result }
     ensures faulty { IsErr result }
 {
@@ -132,7 +133,8 @@ pub(crate) fn close<S: Sink>(
     buffer: Buffer,
     fault: Option<TraceFault>,
 ) -> Result<(), TraceFault>
-    ensures sent { (before : SinkView) (judge : JudgeView) (run : List RankEvent) → HasWritten before judge buffer (S.seen sink.old) fault run
+    ensures sent { (before : SinkView) (judge : JudgeView) (run : List RankEvent)
+        → HasWritten before judge buffer (S.seen sink.old) fault run
         → TraceSent judge.setup before (S.seen sink.new) run result }
     ensures faulty { IsSome fault → IsErr result }
 {

@@ -248,7 +248,8 @@ fn write_use<S: Sink>(sink: &mut S, of: Use) -> Result<(), WriteFault>
 impl EventLine<'_> {
     /// Writes where the access is, behind its core.
     fn write_place<S: Sink>(&self, sink: &mut S) -> Result<(), WriteFault>
-        ensures { Sends (joined (place_words self.now.event.now.access self.now.event.now.place)) (S.seen sink.old) (S.seen sink.new) result }
+        ensures { Sends (joined (place_words self.now.event.now.access self.now.event.now.place)) (S.seen sink.old)
+            (S.seen sink.new) result }
     {
         match self.event.access {
             Access::Load | Access::Store => write_texts(
@@ -266,7 +267,8 @@ impl EventLine<'_> {
 
     /// Writes what the place is for.
     fn write_comment<S: Sink>(&self, sink: &mut S) -> Result<(), WriteFault>
-        ensures { Sends (joined (comment_words self.now.setup.now self.now.event.now.access self.now.event.now.place)) (S.seen sink.old) (S.seen sink.new) result }
+        ensures { Sends (joined (comment_words self.now.setup.now self.now.event.now.access self.now.event.now.place)) (S.seen sink.old)
+            (S.seen sink.new) result }
     {
         match self.event.access {
             Access::Load | Access::Store => write_use(sink, use_of(self.setup, self.event.place)),

@@ -71,7 +71,8 @@ fn write_as<'o, W: Worker, S: Sink, B: Origin>(
     ensures stands { CrewStands W.conduct chip.old crew.old chip.new crew.new }
     ensures same { result.witness.sink.ghost_name ≡ B.name }
     ensures seen { HasSeenAll result.witness.judge.setup (λ run. (result.witness.sink.ghost_name ≡ B.name)
-        × HasWritten B.before result.witness.judge result.witness.buffer (S.seen result.witness.sink.now) result.witness.fault run) chip.new }
+        × HasWritten B.before result.witness.judge result.witness.buffer (S.seen result.witness.sink.now) result.witness.fault
+        run) chip.new }
     ensures ends { RunsBy W.conduct (is_none result.witness.fault) seed result.end chip.old crew.old chip.new crew.new }
 {
     let mut buffer = Buffer::new();

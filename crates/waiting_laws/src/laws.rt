@@ -15,10 +15,14 @@ ghost use Rattle.waiting_laws.specs.Looks.{LookedInVain, SeatWaits};
 
 /// A look that a send or a receive made in vain shows that its rank waits for the other rank.
 pub fn vain_looks()
-    ensures sends { (seat : Seat) (memory : Memory) (records : ℕ → Record) (rec : Record) (aim : Aim) (c : Private) (op : SendAt) (slot : SlotAt) (bytes : List ℕ)
-        → LookedInVain seat memory records rec aim → IsSending seat rec c op slot bytes → aim_at seat.setup.layout (send_spot seat op slot) ≡ Some aim
+    ensures sends { (seat : Seat) (memory : Memory) (records : ℕ → Record) (rec : Record) (aim : Aim) (c : Private) (op : SendAt)
+        (slot : SlotAt) (bytes : List ℕ)
+        → LookedInVain seat memory records rec aim → IsSending seat rec c op slot bytes
+        → aim_at seat.setup.layout (send_spot seat op slot) ≡ Some aim
         → SeatWaits seat memory records (Want.Send op.to op.head) }
-    ensures receives { (seat : Seat) (memory : Memory) (records : ℕ → Record) (rec : Record) (aim : Aim) (c : Private) (op : RecvAt) (bytes : List ℕ)
-        → LookedInVain seat memory records rec aim → IsReceiving seat rec c op bytes → aim_at seat.setup.layout (recv_spot seat op) ≡ Some aim
+    ensures receives { (seat : Seat) (memory : Memory) (records : ℕ → Record) (rec : Record) (aim : Aim) (c : Private) (op : RecvAt)
+        (bytes : List ℕ)
+        → LookedInVain seat memory records rec aim → IsReceiving seat rec c op bytes
+        → aim_at seat.setup.layout (recv_spot seat op) ≡ Some aim
         → SeatWaits seat memory records (Want.Recv op.from) }
 {}

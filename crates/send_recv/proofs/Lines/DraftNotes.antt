@@ -8,7 +8,7 @@ use Rattle.scc_proto.specs.Ports.{Seat, MayMakeAll, record_on}
 use Rattle.scc_proto.proofs.Tests.{same_or_other}
 use Rattle.scc_proto.proofs.Words.NoteFacts.{noted_here, noted_there}
 use Rattle.scc_proto.proofs.Layouts.PlaceMoves.{Makes}
-use Rattle.send_recv.specs.Bytes.{word_at}
+use Rattle.send_recv.specs.Bytes.{word_of_bytes}
 use Rattle.send_recv.proofs.Looks.LookLemmas.{on_four}
 
 -- ---- four events
@@ -32,14 +32,14 @@ four_made seat a b c d last e0 e1 e2 e3 m0 m1 m2 m3 = record {
 -- ---- the words of a line of a chunk
 
 abbrev pub line_drafted : List ℕ → ℕ → ℕ → Notes → Notes
-line_drafted bytes start i notes = note_word (4 * i) (word_at bytes (start + 32 * i))
-    (note_word (4 * i + 1) (word_at bytes (start + 32 * i + 8))
-    (note_word (4 * i + 2) (word_at bytes (start + 32 * i + 16))
-    (note_word (4 * i + 3) (word_at bytes (start + 32 * i + 24)) notes)))
+line_drafted bytes start i notes = note_word (4 * i) (word_of_bytes bytes (start + 32 * i))
+    (note_word (4 * i + 1) (word_of_bytes bytes (start + 32 * i + 8))
+    (note_word (4 * i + 2) (word_of_bytes bytes (start + 32 * i + 16))
+    (note_word (4 * i + 3) (word_of_bytes bytes (start + 32 * i + 24)) notes)))
 
 -- the words of the first lines are noted
 abbrev pub LinesNoted : List ℕ → ℕ → Notes → ℕ → Type 0
-LinesNoted bytes start notes lines = (k : ℕ) → k < 4 * lines → noted notes k ≡ Some (word_at bytes (start + 8 * k))
+LinesNoted bytes start notes lines = (k : ℕ) → k < 4 * lines → noted notes k ≡ Some (word_of_bytes bytes (start + 8 * k))
 
 note_or : (notes : Notes) (n v k x : ℕ) → (k ≡ n → v ≡ x) → (k ≢ n → noted notes k ≡ Some x) → noted (note_word n v notes) k ≡ Some x
 note_or notes n v k x here there = same_or_other (noted (note_word n v notes) k ≡ Some x) k n
@@ -48,18 +48,18 @@ note_or notes n v k x here there = same_or_other (noted (note_word n v notes) k 
 
 pub line_more : (bytes : List ℕ) (start i : ℕ) (notes : Notes) → LinesNoted bytes start notes i → LinesNoted bytes start (line_drafted bytes start i notes) (suc i)
 line_more bytes start i notes lines k low =
-    let n3 = note_word (4 * i + 3) (word_at bytes (start + 32 * i + 24)) notes in
-    let n2 = note_word (4 * i + 2) (word_at bytes (start + 32 * i + 16)) n3 in
-    let n1 = note_word (4 * i + 1) (word_at bytes (start + 32 * i + 8)) n2 in
-    let want = word_at bytes (start + 8 * k) in
-    note_or n1 (4 * i) (word_at bytes (start + 32 * i)) k want
-    (λ e. ap (λ o. word_at bytes o) (let p : start + 32 * i ≡ start + 8 * k = omega (arith, e) in p))
-    (λ ne0. note_or n2 (4 * i + 1) (word_at bytes (start + 32 * i + 8)) k want
-    (λ e. ap (λ o. word_at bytes o) (let p : start + 32 * i + 8 ≡ start + 8 * k = omega (arith, e) in p))
-    (λ ne1. note_or n3 (4 * i + 2) (word_at bytes (start + 32 * i + 16)) k want
-    (λ e. ap (λ o. word_at bytes o) (let p : start + 32 * i + 16 ≡ start + 8 * k = omega (arith, e) in p))
-    (λ ne2. note_or notes (4 * i + 3) (word_at bytes (start + 32 * i + 24)) k want
-    (λ e. ap (λ o. word_at bytes o) (let p : start + 32 * i + 24 ≡ start + 8 * k = omega (arith, e) in p))
+    let n3 = note_word (4 * i + 3) (word_of_bytes bytes (start + 32 * i + 24)) notes in
+    let n2 = note_word (4 * i + 2) (word_of_bytes bytes (start + 32 * i + 16)) n3 in
+    let n1 = note_word (4 * i + 1) (word_of_bytes bytes (start + 32 * i + 8)) n2 in
+    let want = word_of_bytes bytes (start + 8 * k) in
+    note_or n1 (4 * i) (word_of_bytes bytes (start + 32 * i)) k want
+    (λ e. ap (λ o. word_of_bytes bytes o) (let p : start + 32 * i ≡ start + 8 * k = omega (arith, e) in p))
+    (λ ne0. note_or n2 (4 * i + 1) (word_of_bytes bytes (start + 32 * i + 8)) k want
+    (λ e. ap (λ o. word_of_bytes bytes o) (let p : start + 32 * i + 8 ≡ start + 8 * k = omega (arith, e) in p))
+    (λ ne1. note_or n3 (4 * i + 2) (word_of_bytes bytes (start + 32 * i + 16)) k want
+    (λ e. ap (λ o. word_of_bytes bytes o) (let p : start + 32 * i + 16 ≡ start + 8 * k = omega (arith, e) in p))
+    (λ ne2. note_or notes (4 * i + 3) (word_of_bytes bytes (start + 32 * i + 24)) k want
+    (λ e. ap (λ o. word_of_bytes bytes o) (let p : start + 32 * i + 24 ≡ start + 8 * k = omega (arith, e) in p))
     (λ ne3. lines k (omega (arith, low, ne0, ne1, ne2, ne3))))))
 
 pub no_lines : (bytes : List ℕ) (start : ℕ) (notes : Notes) → LinesNoted bytes start notes 0

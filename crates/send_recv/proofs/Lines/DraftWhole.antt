@@ -11,7 +11,7 @@ use Rattle.scc_proto.proofs.Tests.{same_or_other}
 use Rattle.scc_proto.proofs.Words.NoteFacts.{has_all-from}
 use Rattle.scc_proto.proofs.Layouts.Roles.{if_yes, if_no, lt_yes, le_yes}
 use Rattle.send_recv.specs.declared.stages.RecvStage.TheVariants as receive
-use Rattle.send_recv.specs.Bytes.{word_at}
+use Rattle.send_recv.specs.Bytes.{word_of_bytes}
 use Rattle.send_recv.specs.Chunks.{chunk_count, chunk_start, chunk_len}
 use Rattle.send_recv.specs.Ops.{RecvAt, SendAt}
 use Rattle.send_recv.specs.Receiving.{IsRead, progress_at}
@@ -24,7 +24,7 @@ AreBytes bytes = (k : ℕ) → slice_index bytes k < 256
 
 -- ---- the bytes of a word
 
-pub digit : (bytes : List ℕ) (o j : ℕ) → AreBytes bytes → j < 8 → word_at bytes o / 256 ^ j % 256 ≡ slice_index bytes (o + j)
+pub digit : (bytes : List ℕ) (o j : ℕ) → AreBytes bytes → j < 8 → word_of_bytes bytes o / 256 ^ j % 256 ≡ slice_index bytes (o + j)
 digit bytes o j small low =
     let b0 = small o in
     let b1 = small (o + 1) in
@@ -38,15 +38,15 @@ digit bytes o j small low =
   where
     by : (n : ℕ) → n < 8 → slice_index bytes o < 256 → slice_index bytes (o + 1) < 256 → slice_index bytes (o + 2) < 256 → slice_index bytes (o + 3) < 256
         → slice_index bytes (o + 4) < 256 → slice_index bytes (o + 4 + 1) < 256 → slice_index bytes (o + 4 + 2) < 256 → slice_index bytes (o + 4 + 3) < 256
-        → word_at bytes o / 256 ^ n % 256 ≡ slice_index bytes (o + n)
-    by zero l b0 b1 b2 b3 b4 b5 b6 b7 = (let e : word_at bytes o / 256 ^ 0 % 256 ≡ slice_index bytes o = omega (arith, b0, b1, b2, b3, b4, b5, b6, b7) in e) ∙ ap (λ k. slice_index bytes k) (let e : o ≡ o + 0 = omega arith in e)
-    by (suc zero) l b0 b1 b2 b3 b4 b5 b6 b7 = (let e : word_at bytes o / 256 ^ 1 % 256 ≡ slice_index bytes (o + 1) = omega (arith, b0, b1, b2, b3, b4, b5, b6, b7) in e)
-    by (suc (suc zero)) l b0 b1 b2 b3 b4 b5 b6 b7 = (let e : word_at bytes o / 256 ^ 2 % 256 ≡ slice_index bytes (o + 2) = omega (arith, b0, b1, b2, b3, b4, b5, b6, b7) in e)
-    by (suc (suc (suc zero))) l b0 b1 b2 b3 b4 b5 b6 b7 = (let e : word_at bytes o / 256 ^ 3 % 256 ≡ slice_index bytes (o + 3) = omega (arith, b0, b1, b2, b3, b4, b5, b6, b7) in e)
-    by (suc (suc (suc (suc zero)))) l b0 b1 b2 b3 b4 b5 b6 b7 = (let e : word_at bytes o / 256 ^ 4 % 256 ≡ slice_index bytes (o + 4) = omega (arith, b0, b1, b2, b3, b4, b5, b6, b7) in e)
-    by (suc (suc (suc (suc (suc zero))))) l b0 b1 b2 b3 b4 b5 b6 b7 = (let e : word_at bytes o / 256 ^ 5 % 256 ≡ slice_index bytes (o + 4 + 1) = omega (arith, b0, b1, b2, b3, b4, b5, b6, b7) in e) ∙ ap (λ k. slice_index bytes k) (let e : o + 4 + 1 ≡ o + 5 = omega arith in e)
-    by (suc (suc (suc (suc (suc (suc zero)))))) l b0 b1 b2 b3 b4 b5 b6 b7 = (let e : word_at bytes o / 256 ^ 6 % 256 ≡ slice_index bytes (o + 4 + 2) = omega (arith, b0, b1, b2, b3, b4, b5, b6, b7) in e) ∙ ap (λ k. slice_index bytes k) (let e : o + 4 + 2 ≡ o + 6 = omega arith in e)
-    by (suc (suc (suc (suc (suc (suc (suc zero))))))) l b0 b1 b2 b3 b4 b5 b6 b7 = (let e : word_at bytes o / 256 ^ 7 % 256 ≡ slice_index bytes (o + 4 + 3) = omega (arith, b0, b1, b2, b3, b4, b5, b6, b7) in e) ∙ ap (λ k. slice_index bytes k) (let e : o + 4 + 3 ≡ o + 7 = omega arith in e)
+        → word_of_bytes bytes o / 256 ^ n % 256 ≡ slice_index bytes (o + n)
+    by zero l b0 b1 b2 b3 b4 b5 b6 b7 = (let e : word_of_bytes bytes o / 256 ^ 0 % 256 ≡ slice_index bytes o = omega (arith, b0, b1, b2, b3, b4, b5, b6, b7) in e) ∙ ap (λ k. slice_index bytes k) (let e : o ≡ o + 0 = omega arith in e)
+    by (suc zero) l b0 b1 b2 b3 b4 b5 b6 b7 = (let e : word_of_bytes bytes o / 256 ^ 1 % 256 ≡ slice_index bytes (o + 1) = omega (arith, b0, b1, b2, b3, b4, b5, b6, b7) in e)
+    by (suc (suc zero)) l b0 b1 b2 b3 b4 b5 b6 b7 = (let e : word_of_bytes bytes o / 256 ^ 2 % 256 ≡ slice_index bytes (o + 2) = omega (arith, b0, b1, b2, b3, b4, b5, b6, b7) in e)
+    by (suc (suc (suc zero))) l b0 b1 b2 b3 b4 b5 b6 b7 = (let e : word_of_bytes bytes o / 256 ^ 3 % 256 ≡ slice_index bytes (o + 3) = omega (arith, b0, b1, b2, b3, b4, b5, b6, b7) in e)
+    by (suc (suc (suc (suc zero)))) l b0 b1 b2 b3 b4 b5 b6 b7 = (let e : word_of_bytes bytes o / 256 ^ 4 % 256 ≡ slice_index bytes (o + 4) = omega (arith, b0, b1, b2, b3, b4, b5, b6, b7) in e)
+    by (suc (suc (suc (suc (suc zero))))) l b0 b1 b2 b3 b4 b5 b6 b7 = (let e : word_of_bytes bytes o / 256 ^ 5 % 256 ≡ slice_index bytes (o + 4 + 1) = omega (arith, b0, b1, b2, b3, b4, b5, b6, b7) in e) ∙ ap (λ k. slice_index bytes k) (let e : o + 4 + 1 ≡ o + 5 = omega arith in e)
+    by (suc (suc (suc (suc (suc (suc zero)))))) l b0 b1 b2 b3 b4 b5 b6 b7 = (let e : word_of_bytes bytes o / 256 ^ 6 % 256 ≡ slice_index bytes (o + 4 + 2) = omega (arith, b0, b1, b2, b3, b4, b5, b6, b7) in e) ∙ ap (λ k. slice_index bytes k) (let e : o + 4 + 2 ≡ o + 6 = omega arith in e)
+    by (suc (suc (suc (suc (suc (suc (suc zero))))))) l b0 b1 b2 b3 b4 b5 b6 b7 = (let e : word_of_bytes bytes o / 256 ^ 7 % 256 ≡ slice_index bytes (o + 4 + 3) = omega (arith, b0, b1, b2, b3, b4, b5, b6, b7) in e) ∙ ap (λ k. slice_index bytes k) (let e : o + 4 + 3 ≡ o + 7 = omega arith in e)
     by (suc (suc (suc (suc (suc (suc (suc (suc n)))))))) l b0 b1 b2 b3 b4 b5 b6 b7 = absurd (omega (arith, l))
 
 -- ---- the words of a chunk

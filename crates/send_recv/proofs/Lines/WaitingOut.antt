@@ -18,7 +18,7 @@ use Rattle.write_combine.specs.declared.combiner.Out.{Out}
 use Rattle.put_get.specs.Accesses.{stores_of, whole_line}
 use Rattle.put_get.specs.Transfers.{load_count}
 use Rattle.sync_flags.specs.Tries.{changing_after}
-use Rattle.send_recv.specs.Bytes.{word_at}
+use Rattle.send_recv.specs.Bytes.{word_of_bytes}
 use Rattle.send_recv.specs.Chunks.{chunk_start, chunk_lines_of}
 use Rattle.send_recv.specs.Ops.{SendAt}
 use Rattle.send_recv.specs.Receiving.{progress_at}
@@ -59,22 +59,22 @@ word_made seat rec stage notes i k v valid below low none d =
 
 line_made : (seat : Seat) (rec : Record) (stage : Notes → Stage) (notes : Notes) (bytes : List ℕ) (start i : ℕ) → IsSetup seat.setup → seat.rank < seat.setup.nue → i < chunk_lines seat.setup.layout → rec.post ≡ None → IsDrafting stage
     → FourMade seat (record rec { stage = stage notes }) (record rec { stage = stage (line_drafted bytes start i notes) })
-    (store_of (own_word seat.setup seat.rank (first_chunk seat.setup.layout + i) 3) (word_at bytes (start + 32 * i + 24)))
-    (store_of (own_word seat.setup seat.rank (first_chunk seat.setup.layout + i) 2) (word_at bytes (start + 32 * i + 16)))
-    (store_of (own_word seat.setup seat.rank (first_chunk seat.setup.layout + i) 1) (word_at bytes (start + 32 * i + 8)))
-    (store_of (own_word seat.setup seat.rank (first_chunk seat.setup.layout + i) 0) (word_at bytes (start + 32 * i)))
+    (store_of (own_word seat.setup seat.rank (first_chunk seat.setup.layout + i) 3) (word_of_bytes bytes (start + 32 * i + 24)))
+    (store_of (own_word seat.setup seat.rank (first_chunk seat.setup.layout + i) 2) (word_of_bytes bytes (start + 32 * i + 16)))
+    (store_of (own_word seat.setup seat.rank (first_chunk seat.setup.layout + i) 1) (word_of_bytes bytes (start + 32 * i + 8)))
+    (store_of (own_word seat.setup seat.rank (first_chunk seat.setup.layout + i) 0) (word_of_bytes bytes (start + 32 * i)))
 line_made seat rec stage notes bytes start i valid below low none d =
-    let n3 = note_word (4 * i + 3) (word_at bytes (start + 32 * i + 24)) notes in
-    let n2 = note_word (4 * i + 2) (word_at bytes (start + 32 * i + 16)) n3 in
-    let n1 = note_word (4 * i + 1) (word_at bytes (start + 32 * i + 8)) n2 in
+    let n3 = note_word (4 * i + 3) (word_of_bytes bytes (start + 32 * i + 24)) notes in
+    let n2 = note_word (4 * i + 2) (word_of_bytes bytes (start + 32 * i + 16)) n3 in
+    let n1 = note_word (4 * i + 1) (word_of_bytes bytes (start + 32 * i + 8)) n2 in
     four_made seat (record rec { stage = stage notes }) (record rec { stage = stage n3 }) (record rec { stage = stage n2 }) (record rec { stage = stage n1 })
     (record rec { stage = stage (line_drafted bytes start i notes) }) _ _ _ _
-    (word_made seat rec stage notes i 3 (word_at bytes (start + 32 * i + 24)) valid below low none d)
-    (word_made seat rec stage n3 i 2 (word_at bytes (start + 32 * i + 16)) valid below low none d)
-    (word_made seat rec stage n2 i 1 (word_at bytes (start + 32 * i + 8)) valid below low none d)
-    (subst (λ m. Makes seat (record rec { stage = stage n1 }) (store_of (own_word seat.setup seat.rank (first_chunk seat.setup.layout + i) 0) (word_at bytes (start + 32 * i)))
-    (record rec { stage = stage (note_word m (word_at bytes (start + 32 * i)) n1) })) (let e : 4 * i + 0 ≡ 4 * i = omega arith in e)
-    (word_made seat rec stage n1 i 0 (word_at bytes (start + 32 * i)) valid below low none d))
+    (word_made seat rec stage notes i 3 (word_of_bytes bytes (start + 32 * i + 24)) valid below low none d)
+    (word_made seat rec stage n3 i 2 (word_of_bytes bytes (start + 32 * i + 16)) valid below low none d)
+    (word_made seat rec stage n2 i 1 (word_of_bytes bytes (start + 32 * i + 8)) valid below low none d)
+    (subst (λ m. Makes seat (record rec { stage = stage n1 }) (store_of (own_word seat.setup seat.rank (first_chunk seat.setup.layout + i) 0) (word_of_bytes bytes (start + 32 * i)))
+    (record rec { stage = stage (note_word m (word_of_bytes bytes (start + 32 * i)) n1) })) (let e : 4 * i + 0 ≡ 4 * i = omega arith in e)
+    (word_made seat rec stage n1 i 0 (word_of_bytes bytes (start + 32 * i)) valid below low none d))
 
 first_drafting : (header : Notes) → IsDrafting (λ (notes : Notes). Drafting header notes)
 first_drafting header = record { drafts = λ notes. refl; next = λ k v notes. refl }

@@ -18,7 +18,7 @@ use Rattle.put_get.specs.Cores.{Private, Fills, Kept, Dropped}
 use Rattle.put_get.specs.Transfers.{load_count}
 use Rattle.sync_flags.specs.Flags.{with_bit}
 use Rattle.sync_flags.specs.Writes.{change_events}
-use Rattle.send_recv.specs.Flags.{ChangesBy, WritesFlag, TriesBit, Missed, Changed}
+use Rattle.send_recv.specs.Flags.{ChangesBy, WritesLineFlag, TriesBit, Missed, Changed}
 use Rattle.send_recv.specs.Receiving.{flag_lines}
 use Rattle.sync_flags.specs.Tries.{Aim, AtFlag, AtWord, AtRegister, tries_at, vain_from, all_vain, changing_after}
 use Rattle.send_recv.specs.Tries.{aim_of}
@@ -84,7 +84,7 @@ changed_ends core flag set words (AtFlag place bit want) n = refl
 changed_ends core flag set words (AtWord place value) n = refl
 changed_ends core flag set words (AtRegister other) n = refl
 
-flag_facts : (s t : Sight) (c d : Private) (core : ℕ) (flag : FlagPlace) (set : Bool) → c.out ≡ None → WritesFlag s c core flag set t d → ChangeFacts LineFlags s c core true t d
+flag_facts : (s t : Sight) (c d : Private) (core : ℕ) (flag : FlagPlace) (set : Bool) → c.out ≡ None → WritesLineFlag s c core flag set t d → ChangeFacts LineFlags s c core true t d
 flag_facts s t c d core flag set empty w =
     let same : d.evictions ≡ c.evictions = ap (λ (x : Private). x.evictions) w.is in
     record {

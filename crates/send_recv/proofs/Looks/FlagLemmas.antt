@@ -10,7 +10,7 @@ use Rattle.write_combine.specs.Combining.{handed_out}
 use Rattle.put_get.specs.Accesses.{stores_of}
 use Rattle.put_get.specs.Cores.{Private, WritesThrough}
 use Rattle.sync_flags.specs.Looks.{LooksAt}
-use Rattle.send_recv.specs.Flags.{is_set, Looks, WritesFlag, MayWriteFlag}
+use Rattle.send_recv.specs.Flags.{is_set, Looks, WritesLineFlag, MayWriteFlag}
 
 -- a look at the word of a flag is one at the flag
 pub look_read : (s t : Sight) (c d : Private) (core : ℕ) (flag : FlagPlace) (p : WordAt) (v : ℕ) (setup : SetupView) (layout : Layout) (found : Bool) → p ≡ flag_word core flag
@@ -37,7 +37,7 @@ flag_permitted s c core flag set p v may place value = (
 )
 
 pub flag_written : (s t : Sight) (c d : Private) (core : ℕ) (flag : FlagPlace) (set : Bool) (p : WordAt) (v : ℕ) → p ≡ flag_word core flag
-    → v ≡ (if set then 1 else 0) → WritesThrough s c p v t d → WritesFlag s c core flag set t d
+    → v ≡ (if set then 1 else 0) → WritesThrough s c p v t d → WritesLineFlag s c core flag set t d
 flag_written s t c d core flag set p v place value writes =
     let w : WritesThrough s c (flag_word core flag) (if set then 1 else 0) t d
     = subst (λ n. WritesThrough s c (flag_word core flag) n t d) value (subst (λ (x : WordAt). WritesThrough s c x v t d) place writes) in

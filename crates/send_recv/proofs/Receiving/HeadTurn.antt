@@ -27,7 +27,7 @@ use Rattle.send_recv.specs.declared.answers.RecvTurn.TheVariants.{Moved, Mismatc
 use Rattle.send_recv.specs.Chunks.{chunk_count, chunk_start, chunk_len, lines_from}
 use Rattle.send_recv.specs.Ops.{RecvAt, is_received}
 use Rattle.send_recv.specs.Receiving.{IsAtStage, IsReceiving, RecvStands, SaysHead, between, progress_at, spot_by, recv_spot, IsRecvSpot, recv_left, recv_left_by, lines_now, lines_left, lines_left_by, flag_lines, is_look, filled_to, filled_by}
-use Rattle.send_recv.specs.Steps.{cleared, own_core, core_of, line_at, head_said, same_head, HeadRead, Same, Differs}
+use Rattle.send_recv.specs.Steps.{cleared, own_core, core_of, line_at, head_said, is_same_head, HeadRead, Same, Differs}
 use Rattle.sync_flags.specs.Tries.{NoTry, tries_at}
 use Rattle.send_recv.specs.Tries.{aim_of, aim_at}
 use Rattle.send_recv.specs.Turns.{IsSamePost, KeepsAllButMessages}
@@ -266,14 +266,14 @@ head_is_valid s t c c1 op d core line words header valid peers seen sound empty 
     let h = header_read s t c d op words header valid p.other seen (read_at s t c c1 d op.from 0 core line words empty is at reads) in
     is_head_is (head_said words) (words_head h.header words h.has (sound.heads op.from h.header (header_notes s t op words h)))
 
-pub same_head_is : (a b : MessageHead) → same_head a b ≡ true → a ≡ b
+pub same_head_is : (a b : MessageHead) → is_same_head a b ≡ true → a ≡ b
 same_head_is a b t =
     let k : a.kind ≡ b.kind = grind (arith, nat_tests, t) in
     let m : a.comm ≡ b.comm = grind (arith, nat_tests, t) in
     let l : a.len ≡ b.len = grind (arith, nat_tests, t) in
     λ i. record { kind = k i; comm = m i; len = l i }
 
-pub same_head_not : (a b : MessageHead) → same_head a b ≡ false → a ≢ b
+pub same_head_not : (a b : MessageHead) → is_same_head a b ≡ false → a ≢ b
 same_head_not a b t = λ e.
     let k : a.kind ≡ b.kind = ap (λ (h : MessageHead). h.kind) e in
     let m : a.comm ≡ b.comm = ap (λ (h : MessageHead). h.comm) e in

@@ -19,7 +19,7 @@ use Rattle.put_get.specs.Cores.{Private}
 use Rattle.put_get.specs.Transfers.{load_count}
 use Rattle.send_recv.specs.declared.stages.SendStage.{SendStage}
 use Rattle.send_recv.specs.declared.stages.SendStage.TheVariants.{Look, Lower}
-use Rattle.send_recv.specs.Bytes.{word_at}
+use Rattle.send_recv.specs.Bytes.{word_of_bytes}
 use Rattle.send_recv.specs.Chunks.{chunk_count, chunk_start, lines_from}
 use Rattle.send_recv.specs.Flags.{Looks}
 use Rattle.send_recv.specs.Ops.{SendAt, SlotAt, is_sent}
@@ -63,7 +63,7 @@ look_left rest p x is = omega (arith, is)
 -- what stands after the look
 look_at : (found : Bool) (seat : Seat) (new : Record) (d : Private) (op : SendAt) (bytes : List ℕ) (part : Part) (chunk : Notes) → op.stage ≡ Look → op.posted ≡ false → new.post ≡ None → d.out ≡ None → (part ≡ Raised) ⊎ (part ≡ Answered)
     → new.stage ≡ Sending op.to (part_seen found part) (progress_at (chunk_of seat.setup) op.head op.chunk bytes) chunk
-    → ((k : ℕ) → k < 4 * lines_in_hand (chunk_of seat.setup) op → noted chunk k ≡ Some (word_at bytes (chunk_start (chunk_of seat.setup) op.chunk + 8 * k)))
+    → ((k : ℕ) → k < 4 * lines_in_hand (chunk_of seat.setup) op → noted chunk k ≡ Some (word_of_bytes bytes (chunk_start (chunk_of seat.setup) op.chunk + 8 * k)))
     → IsAtSendStage seat new d (after_seen found op) bytes (after_seen found op).stage
 look_at true seat new d op bytes part chunk look plain post out or stage lines = (plain, post, out, record { chunk = chunk; stage_is = stage; lines = lines })
 look_at false seat new d op bytes part chunk look plain post out or stage lines =

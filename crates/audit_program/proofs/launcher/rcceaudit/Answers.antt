@@ -1,6 +1,6 @@
 use Rattle.std.proofs.Common.{Some, None, ap, codes, map, string_bytes, sym, ◌∙◌}
 use Rattle.std.proofs.lemmas.Bool.{false≢true}
-use Rattle.scc_mesh.specs.Scenes.{is_open}
+use Rattle.scc_mesh.specs.Scenes.{is_chip_open}
 use Rattle.outcomes.proofs.PromiseLemmas.{keeps_promises}
 use Rattle.audit_program.specs.Program.{command_of, file_named, rcceaudit, rcceaudit_log}
 use Rattle.audit_program.proofs.PlanLemmas.{named_meant, named_tells}
@@ -23,7 +23,7 @@ returns-in-Some g c =
             ended.2,
             named_tells _ (Some file) (file_named words) (command_of words) _ ended.0 c.in-Some.ensures c.requires.blank,
           );
-      legal = λ opened. absurd (false≢true (sym (ap is_open c.requires.blank) ∙ opened));
+      legal = λ opened. absurd (false≢true (sym (ap is_chip_open c.requires.blank) ∙ opened));
     }
 
 pub returns-in-None : goal.returns-in-None

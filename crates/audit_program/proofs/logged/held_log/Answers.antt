@@ -1,5 +1,5 @@
 use Rattle.std.proofs.Common.{ℕ, ap, arith, refl, subst, ◌∙◌}
-use Rattle.rcce_audit.specs.Held.{with_bytes}
+use Rattle.rcce_audit.specs.Held.{calls_with_bytes}
 use Rattle.log_run.specs.LogRuns.{plain_calls}
 use Rattle.audit_program.proofs.LogLemmas.{HoldBelow, bytes_back, held_lists, hold_first, hold_more}
 use Rattle.audit_program.proofs.logged.held_log.Goals as goal
@@ -13,7 +13,7 @@ loop-number-preserved c =
     let below = c.loop-number-test.true in
     let most = c.nue-number-end.ensures.most in
     hold_more script c.loop-number.number c.loop-number.lists _ (omega (arith, below, most)) c.loop-number.invariant
-    ((λ i. with_bytes (c.calls.ensures.gives i) (c.bytes.ensures.gives i)) ∙ bytes_back (plain_calls script c.of-rank.result) c.calls.ensures.long ∙ ap (plain_calls script) c.of-rank.ensures.gives)
+    ((λ i. calls_with_bytes (c.calls.ensures.gives i) (c.bytes.ensures.gives i)) ∙ bytes_back (plain_calls script c.of-rank.result) c.calls.ensures.long ∙ ap (plain_calls script) c.of-rank.ensures.gives)
 
 pub returns : goal.returns
 returns c =

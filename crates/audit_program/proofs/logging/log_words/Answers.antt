@@ -1,6 +1,6 @@
 use Rattle.std.proofs.Common.{ap, codes, map, refl, string_bytes, sym, ◌∙◌}
 use Rattle.std.proofs.lemmas.Bool.{false≢true}
-use Rattle.scc_mesh.specs.Scenes.{is_open}
+use Rattle.scc_mesh.specs.Scenes.{is_chip_open}
 use Rattle.audit_program.specs.Program.{command_of}
 use Rattle.audit_program.proofs.RunPlanLemmas.{ends_refused, ends_words}
 use Rattle.audit_program.proofs.logging.log_words.Goals as goal
@@ -14,5 +14,5 @@ returns-in-Some g c = record {
 pub returns-in-None : goal.returns-in-None
 returns-in-None g c = record {
   ends = ends_refused (command_of (map string_bytes c.args.words.now)) (g.F.Files.seen c.args.files.now) _ _ _ _ _ c.in-None.ensures.gives (refl, c.words-complaint.ensures (codes "rcceaudit")) c.deliver.ensures c.requires.blank;
-  legal = λ opened. absurd (false≢true (sym (ap is_open c.requires.blank) ∙ opened));
+  legal = λ opened. absurd (false≢true (sym (ap is_chip_open c.requires.blank) ∙ opened));
 }

@@ -1,8 +1,8 @@
 use Rattle.std.proofs.Common.{ap, codes, sym, ◌∙◌}
 use Rattle.std.proofs.lemmas.Bool.{false≢true}
-use Rattle.scc_mesh.specs.Scenes.{is_open}
+use Rattle.scc_mesh.specs.Scenes.{is_chip_open}
 use Rattle.outcomes.proofs.ReadingLemmas.{lacks_memory}
-use Rattle.audit_program.specs.Program.{run_plan}
+use Rattle.audit_program.specs.Program.{log_run_plan}
 use Rattle.audit_program.proofs.RunPlanLemmas.{has_logged}
 use Rattle.audit_program.proofs.logging.run.Goals as goal
 
@@ -14,6 +14,6 @@ returns-in-Ok c =
 
 pub returns-in-Err : goal.returns-in-Err
 returns-in-Err c = record {
-  launched = λ file. (λ files. lacks_memory (codes "rcceaudit") (run_plan file c.args.scripts.now) files, c.in-Err.ensures.refused);
-  legal = λ opened. absurd (false≢true (sym (ap is_open c.in-Err.ensures.refused) ∙ opened));
+  launched = λ file. (λ files. lacks_memory (codes "rcceaudit") (log_run_plan file c.args.scripts.now) files, c.in-Err.ensures.refused);
+  legal = λ opened. absurd (false≢true (sym (ap is_chip_open c.in-Err.ensures.refused) ∙ opened));
 }

@@ -1,24 +1,24 @@
 use Rattle.std.proofs.Common.{◌++◌, codes}
 use Rattle.rcce_io.proofs.SendingLemmas.{cut_after, cut_then, sends_after, sends_err}
 use Rattle.rcce_io.specs.Digits.{hex_text}
-use Rattle.coll_program.specs.Texts.{front_of}
+use Rattle.coll_program.specs.Texts.{line_front}
 use Rattle.coll_program.proofs.lines.write_line.Goals as goal
 
 pub returns-in_err-write_front : goal.returns-in_err-write_front
 returns-in_err-write_front g c =
     sends_err _ _ _ _ c.from_residual.ensures.0
-    (cut_then (g.S.Sink.seen c.args.sink.now) (g.S.Sink.seen c.write_front.new.sink) (front_of c.args.more c.args.rank) (hex_text c.args.bytes.now ++ codes "\n") c.in_err-write_front.ensures)
+    (cut_then (g.S.Sink.seen c.args.sink.now) (g.S.Sink.seen c.write_front.new.sink) (line_front c.args.more c.args.rank) (hex_text c.args.bytes.now ++ codes "\n") c.in_err-write_front.ensures)
 
 pub returns-in_err-write_hex : goal.returns-in_err-write_hex
 returns-in_err-write_hex g c =
     sends_err _ _ _ _ c.from_residual-in_err-write_hex.ensures.0
-    (cut_after (g.S.Sink.seen c.args.sink.now) (g.S.Sink.seen c.write_front.new.sink) (g.S.Sink.seen c.write_hex.new.sink) (front_of c.args.more c.args.rank) (hex_text c.args.bytes.now ++ codes "\n")
+    (cut_after (g.S.Sink.seen c.args.sink.now) (g.S.Sink.seen c.write_front.new.sink) (g.S.Sink.seen c.write_hex.new.sink) (line_front c.args.more c.args.rank) (hex_text c.args.bytes.now ++ codes "\n")
     c.in_ok-write_front.ensures
     (cut_then (g.S.Sink.seen c.write_front.new.sink) (g.S.Sink.seen c.write_hex.new.sink) (hex_text c.args.bytes.now) (codes "\n") c.in_err-write_hex.ensures))
 
 pub returns : goal.returns
 returns g c =
-    sends_after (g.S.Sink.seen c.args.sink.now) (g.S.Sink.seen c.write_front.new.sink) (g.S.Sink.seen c.write_all.new.sink) (front_of c.args.more c.args.rank) (hex_text c.args.bytes.now ++ codes "\n") c.write_all.result
+    sends_after (g.S.Sink.seen c.args.sink.now) (g.S.Sink.seen c.write_front.new.sink) (g.S.Sink.seen c.write_all.new.sink) (line_front c.args.more c.args.rank) (hex_text c.args.bytes.now ++ codes "\n") c.write_all.result
     c.in_ok-write_front.ensures
     (sends_after (g.S.Sink.seen c.write_front.new.sink) (g.S.Sink.seen c.write_hex.new.sink) (g.S.Sink.seen c.write_all.new.sink) (hex_text c.args.bytes.now) (codes "\n") c.write_all.result
     c.in_ok-write_hex.ensures c.write_all.ensures)

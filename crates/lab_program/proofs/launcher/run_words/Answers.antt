@@ -1,6 +1,6 @@
 use Rattle.std.proofs.Common.{codes, map, string_bytes, None, Some}
 use Rattle.rcce_words.proofs.ScriptLemmas.{meant_by}
-use Rattle.lab_program.specs.Program.{lab_file_named, file_plan}
+use Rattle.lab_program.specs.Program.{lab_file_named, lab_file_plan}
 use Rattle.lab_program.proofs.PlanLemmas.{tells_named}
 use Rattle.lab_program.proofs.launcher.run_words.Goals as goal
 
@@ -9,7 +9,7 @@ returns-in-Some g c =
     let file = c.in-Some.file.now in
     let named = lab_file_named (map string_bytes c.args.words.now) in
     record {
-      meant = meant_by (codes "rccelab") file_plan file named _ _ _ c.in-Some.ensures c.run_file.ensures.comes;
+      meant = meant_by (codes "rccelab") lab_file_plan file named _ _ _ c.in-Some.ensures c.run_file.ensures.comes;
       tells = tells_named (g.F.Files.seen c.args.files.now).told (Some file) named c.run_file.new.left _ c.in-Some.ensures c.run_file.ensures.tells;
     }
 

@@ -1,5 +1,5 @@
 use Rattle.std.proofs.Common.{◌≡◌, ◌+◌, ◌*◌, ◌≤◌, ◌<◌, ◌∙◌, ℕ, true, get_or, length, arith, refl, length-set}
-use Rattle.mesh_load.specs.Tables.{pair_of, total}
+use Rattle.mesh_load.specs.Tables.{pair_place, total}
 use Rattle.mesh_load.proofs.SumLaws.{added_pair, placed_more}
 use Rattle.mesh_load.proofs.TableLaws.{chosen-set, chosen-zeros, get_or-le}
 use Rattle.mesh_load.proofs.tables.add_pairs.Goals as goal
@@ -25,7 +25,7 @@ loop-i-preserved c =
     let one = c.get-one.result.now in
     let place : ℕ = c.tile-from.result * 24 + c.tile-to.result in
     let there : place < length c.loop-i.pairs = omega (arith, c.tile-from.ensures.same, c.tile-from.ensures.placed, c.tile-to.ensures.same, c.tile-to.ensures.placed, c.loop-i.invariant.room) in
-    let is : place ≡ pair_of at one = omega (arith, c.tile-from.ensures.same, c.tile-to.ensures.same) in
+    let is : place ≡ pair_place at one = omega (arith, c.tile-from.ensures.same, c.tile-to.ensures.same) in
     record {
       room = length-set c.loop-i.pairs place _ ∙ c.loop-i.invariant.room;
       so_far = added_pair at matches c.loop-i.pairs c.loop-i.i place c.lines.result one c.get-one.ensures there is c.lines.ensures.same c.loop-i.invariant.so_far;

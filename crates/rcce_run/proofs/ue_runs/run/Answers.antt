@@ -1,7 +1,7 @@
 use Rattle.std.proofs.Common.{ℕ, ◌<◌, length, sym, subst}
 use Rattle.chip_run.specs.Crews.{AllRest, CrewStands}
 use Rattle.chip_run.proofs.ServedLaws.{some_worker}
-use Rattle.rcce_run.specs.UeRuns.{ue_members, ue_of}
+use Rattle.rcce_run.specs.UeRuns.{ue_members, member_ue}
 use Rattle.rcce_run.proofs.RunEnds.{ends_as, still_run}
 use Rattle.rcce_run.proofs.UeEnds.{collectives_hold, fresh_crew, fresh_run, fresh_some, has_calls, members_run, shows_ends, waits_open}
 use Rattle.rcce_run.proofs.SentLaws.{counts_sends}
@@ -30,13 +30,13 @@ returns-clause-gives g c = λ script fresh.
     let crew = c.run-end.new.crew in
     let (memory, agrees) = c.agrees.ensures.words in
     let stands : CrewStands ue_members c.args.chip.now c.args.crew.now c.run-end.new.chip c.run-end.new.crew = c.run-end.ensures.stands in
-    let all = still_run ue_members ue_of members_run script c.args.chip.now chip c.args.crew.now crew stands.goes (fresh_run script c.args.chip.now c.args.crew.now fresh) in
+    let all = still_run ue_members member_ue members_run script c.args.chip.now chip c.args.crew.now crew stands.goes (fresh_run script c.args.chip.now c.args.crew.now fresh) in
     let some : 0 < length c.run-end.new.crew =
     subst (λ (n : ℕ). 0 < n) (sym stands.goes.count) (fresh_some script c.args.chip.now c.args.crew.now c.setup.result.now fresh c.setup.ensures.gives c.nue.ensures.valid.some_ranks) in
     let first = some_worker crew some in
     let rests = subst (λ (n : ℕ). AllRest ue_members c.run-end.new.chip c.run-end.new.crew n) stands.is_crew.each c.run-end.ensures.rests in
     record {
-      answer = ends_as ue_members ue_of members_run script chip crew memory agrees stands.is_crew all some first rests c.run-end.result c.run-end.ensures.answer;
+      answer = ends_as ue_members member_ue members_run script chip crew memory agrees stands.is_crew all some first rests c.run-end.result c.run-end.ensures.answer;
       ends = λ k d low. shows_ends script chip crew memory agrees stands.is_crew all some d rests k low;
       calls = λ k low. has_calls script chip crew memory agrees stands.is_crew all some first rests k low;
       sent = λ k d low. counts_sends script chip crew stands.is_crew all some d k low;

@@ -1,6 +1,6 @@
 use Rattle.std.proofs.Common.{ap, map, string_bytes, sym, ◌∙◌}
 use Rattle.std.proofs.lemmas.Bool.{false≢true}
-use Rattle.scc_mesh.specs.Scenes.{is_open}
+use Rattle.scc_mesh.specs.Scenes.{is_chip_open}
 use Rattle.outcomes.proofs.PromiseLemmas.{keeps_promises}
 use Rattle.run_program.specs.Program.{rccerun}
 use Rattle.run_program.proofs.ChipLemmas.{ends_loaded, ends_refused}
@@ -28,5 +28,5 @@ returns-in-Err g c =
     record {
       promises = keeps_promises rccerun _ _ _ _ _ _ (ended.0, ended.1, ended.2);
       history = ended;
-      legal = λ opened. absurd (false≢true (sym (ap is_open c.requires.blank) ∙ opened));
+      legal = λ opened. absurd (false≢true (sym (ap is_chip_open c.requires.blank) ∙ opened));
     }

@@ -2,7 +2,7 @@ use Rattle.std.proofs.Common.{◌<◌, length, arith}
 use Rattle.rcce_io.proofs.SendingLemmas.{cut_within, sends_err, whole_within}
 use Rattle.script_plain.specs.Ends.{nothing_ended}
 use Rattle.run_program.specs.Reports.{printed_text}
-use Rattle.run_program.proofs.ReportLemmas.{by_rank-more, by_rank-parts}
+use Rattle.run_program.proofs.ReportLemmas.{lines_by_rank-more, lines_by_rank-parts}
 use Rattle.run_program.proofs.report.write_printed.Goals as goal
 
 pub returns-in_err-write_items : goal.returns-in_err-write_items
@@ -11,7 +11,7 @@ returns-in_err-write_items g c =
     let within : c.loop-number.number < length ues = omega arith in
     sends_err _ _ _ _ c.from_residual.ensures.0 (
     cut_within (g.S.Sink.seen c.args.sink.now) (g.S.Sink.seen c.loop-number.sink) (g.S.Sink.seen c.write_items.new.sink) _ _ _ _
-    (by_rank-parts (printed_text c.args.scripts.now.names) ues c.loop-number.number nothing_ended within) c.loop-number.invariant
+    (lines_by_rank-parts (printed_text c.args.scripts.now.names) ues c.loop-number.number nothing_ended within) c.loop-number.invariant
     (rw c.of.ensures.gives at c.in_err-write_items.ensures))
 
 pub loop-number-preserved : goal.loop-number-preserved
@@ -19,5 +19,5 @@ loop-number-preserved g c =
     let ues = g.T.Endings.ended c.args.run.now in
     let within : c.loop-number.number < length ues = omega arith in
     whole_within (g.S.Sink.seen c.args.sink.now) (g.S.Sink.seen c.loop-number.sink) (g.S.Sink.seen c.write_items.new.sink) _ _ _
-    (by_rank-more (printed_text c.args.scripts.now.names) ues c.loop-number.number nothing_ended within) c.loop-number.invariant
+    (lines_by_rank-more (printed_text c.args.scripts.now.names) ues c.loop-number.number nothing_ended within) c.loop-number.invariant
     (rw c.of.ensures.gives at c.in_ok-write_items.ensures)

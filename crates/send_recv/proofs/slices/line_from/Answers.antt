@@ -1,6 +1,6 @@
 use Rattle.std.proofs.Common.{◌≡◌, ℕ, ◌+◌, ◌-◌, ◌*◌, ◌<◌, ◌≤◌, List, [], ◌∷◌, take, drop, slice_index, sym, ◌∙◌, ap, arith}
 use Rattle.std.proofs.lemmas.List.{get_or-drop, get_or-take}
-use Rattle.send_recv.specs.Bytes.{word_at, words_at}
+use Rattle.send_recv.specs.Bytes.{word_of_bytes, words_at}
 use Rattle.send_recv.proofs.slices.line_from.Goals as goal
 
 -- the words of the same eight bytes
@@ -8,7 +8,7 @@ module _ (a b : List ℕ) (i j : ℕ) (same : (k : ℕ) → k < 8 → slice_inde
   byte : (k x y : ℕ) → k < 8 → x ≡ i + k → y ≡ j + k → slice_index a x ≡ slice_index b y
   byte k x y low one two = ap (slice_index a) one ∙ same k low ∙ sym (ap (slice_index b) two)
 
-  same_word : word_at a i ≡ word_at b j
+  same_word : word_of_bytes a i ≡ word_of_bytes b j
   same_word =
       let e0 = byte 0 i j (omega arith) (omega arith) (omega arith) in
       let e1 = byte 1 (i + 1) (j + 1) (omega arith) (omega arith) (omega arith) in
@@ -25,7 +25,7 @@ module _ (bytes : List ℕ) (at n : ℕ) (long : 32 ≤ n) where
   index_in : (i x : ℕ) → i < 32 → x ≡ at + i → slice_index (take n (drop at bytes)) i ≡ slice_index bytes x
   index_in i x low is = get_or-take n (drop at bytes) i 0 (omega (arith, low, long)) ∙ get_or-drop at bytes i 0 ∙ sym (ap (slice_index bytes) is)
 
-  word_in : (i j : ℕ) → i < 25 → j ≡ at + i → word_at (take n (drop at bytes)) i ≡ word_at bytes j
+  word_in : (i j : ℕ) → i < 25 → j ≡ at + i → word_of_bytes (take n (drop at bytes)) i ≡ word_of_bytes bytes j
   word_in i j low is = same_word (take n (drop at bytes)) bytes i j (λ k small. index_in (i + k) (j + k) (omega (arith, low, small)) (omega (arith, is)))
 
   words_in : words_at (take n (drop at bytes)) 0 ≡ words_at bytes at

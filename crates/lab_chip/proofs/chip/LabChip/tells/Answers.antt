@@ -3,7 +3,7 @@ use Rattle.scc_base.specs.Setups.{IsSetup}
 use Rattle.scc_proto.specs.Histories.{IsPermittedRun}
 use Rattle.scc_proto.specs.Stages.{blank}
 use Rattle.scc_proto.specs.Words.{IsRun, RankEvent, zeros}
-use Rattle.lab_chip.specs.Chips.{LabChipView, all_events, run_of}
+use Rattle.lab_chip.specs.Chips.{LabChipView, all_events, events_made}
 use Rattle.lab_chip.proofs.ChipLaws.{all_is}
 use Rattle.lab_chip.proofs.chip.LabChip.tells.Goals as goal
 
@@ -11,13 +11,13 @@ pub returns-clause-run : goal.returns-clause-run
 returns-clause-run c =
     let p = c.self.inside in
     subst (λ (v : LabChipView). IsRun zeros (all_events v)) c.self.view_is
-    (subst (λ (l : List RankEvent). IsRun zeros l) (sym (all_is p.setup p.rank p.words.items (run_of p.all.items) p.own.items c.self.invariant)) c.self.invariant.run)
+    (subst (λ (l : List RankEvent). IsRun zeros l) (sym (all_is p.setup p.rank p.words.items (events_made p.all.items) p.own.items c.self.invariant)) c.self.invariant.run)
 
 pub returns-clause-permitted : goal.returns-clause-permitted
 returns-clause-permitted c =
     let p = c.self.inside in
     subst (λ (v : LabChipView). IsPermittedRun v.setup (λ r. blank) (all_events v)) c.self.view_is
-    (subst (λ (l : List RankEvent). IsPermittedRun p.setup (λ r. blank) l) (sym (all_is p.setup p.rank p.words.items (run_of p.all.items) p.own.items c.self.invariant)) c.self.invariant.permitted)
+    (subst (λ (l : List RankEvent). IsPermittedRun p.setup (λ r. blank) l) (sym (all_is p.setup p.rank p.words.items (events_made p.all.items) p.own.items c.self.invariant)) c.self.invariant.permitted)
 
 pub returns-clause-valid : goal.returns-clause-valid
 returns-clause-valid c = subst (λ (v : LabChipView). IsSetup v.setup) c.self.view_is c.self.invariant.valid

@@ -1,5 +1,5 @@
 use Rattle.std.proofs.Common.{Some, slice_set, ◌<◌, ◌∙◌, ap, subst}
-use Rattle.scc_mesh.specs.SeatViews.{joined}
+use Rattle.scc_mesh.specs.SeatViews.{joined_seats}
 use Rattle.scc_mesh.specs.Scenes.{Scene}
 use Rattle.scc_mesh.proofs.AwaySteps.{gathered, gathered_below, gathered_known, gathered_ranks}
 use Rattle.scc_mesh.proofs.board.Board.gather.Goals as goal
@@ -10,7 +10,7 @@ invariant_of-self c =
     let was = c.self.invariant in
     let token = c.args.token in
     let looked = c.look.ensures.looked in
-    let is = looked.view ∙ ap (λ me. me.0) c.join.ensures.both ∙ ap (λ me. joined board.seat.me.0 me.0) c.into_seat.ensures.lone in (
+    let is = looked.view ∙ ap (λ me. me.0) c.join.ensures.both ∙ ap (λ me. joined_seats board.seat.me.0 me.0) c.into_seat.ensures.lone in (
       c.look.ensures.table ∙ c.join.ensures.table ∙ was.0,
       c.look.ensures.held ∙ ap (λ me. me.1) c.join.ensures.both ∙ was.1,
       looked.knows,
@@ -23,7 +23,7 @@ returns c =
     let was = c.self.invariant in
     let token = c.args.token in
     let looked = c.look.ensures.looked in
-    let is = looked.view ∙ ap (λ me. me.0) c.join.ensures.both ∙ ap (λ me. joined board.seat.me.0 me.0) c.into_seat.ensures.lone in
+    let is = looked.view ∙ ap (λ me. me.0) c.join.ensures.both ∙ ap (λ me. joined_seats board.seat.me.0 me.0) c.into_seat.ensures.lone in
     let home = gathered board.space.about board.seat.me.0 token.rank token.events c.look.new.seat.me.0 is looked.knows was.3 in
     let below = gathered_below board.space.about board.seat.me.0 token.rank token.events c.look.new.seat.me.0 is looked.knows was.3 in
     record {

@@ -1,11 +1,11 @@
 use Rattle.std.proofs.Common.{ap}
 use Rattle.scc_base.specs.declared.events.Event.{Event}
-use Rattle.scc_rows.specs.Quiet.{is_quiet}
+use Rattle.scc_rows.specs.Quiet.{is_quiet_access}
 use Rattle.scc_rows.proofs.QuietLemmas.{quiet_sound}
 use Rattle.scc_rows.proofs.listed_ports.ListedPortPort.free.Goals as goal
 
 pub keep-requires-clause-event : goal.keep-requires-clause-event
-keep-requires-clause-event g c = ap (λ (e : Event). is_quiet e.access e.place) c.free.ensures.gives
+keep-requires-clause-event g c = ap (λ (e : Event). is_quiet_access e.access e.place) c.free.ensures.gives
 
 pub returns-clause-sound : goal.returns-clause-sound
 returns-clause-sound g c = quiet_sound _ c.keep.ensures.quiet
