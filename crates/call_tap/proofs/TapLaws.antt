@@ -53,7 +53,7 @@ pub read_there : (tap : Tap) (old now : Sight) (e : Event) → Did old (e ∷ []
 read_there tap old now e did read = subst (λ (x : Sight). HasRead tap x.seat.setup x.seat.rank x.events) (sym did.continues) read
 
 -- a tap keeps the calls of the events that it has read, where it has room for them
-pub kept_calls : (tap : Tap) (s : SetupView) (rank : ℕ) (events : List Event) → HasRead tap s rank events → HasRoom (record_of s rank events).calls → AreKept tap.kept (record_of s rank events).calls
+pub kept_calls : (tap : Tap) (s : SetupView) (rank : ℕ) (events : List Event) → HasRead tap s rank events → HasTapRoom (record_of s rank events).calls → AreKept tap.kept (record_of s rank events).calls
 kept_calls tap s rank events read room = record {
   calls_are = ∥∥₁_elim read.reads (Coded-set (coded_list the_row.coded) _ _) (λ r. (r.kept room).calls_are);
   bytes_are = ∥∥₁_elim read.reads (Coded-set (coded_list coded_ℕ) _ _) (λ r. (r.kept room).bytes_are);

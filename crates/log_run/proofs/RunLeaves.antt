@@ -9,11 +9,11 @@ use Rattle.scc_proto.specs.Words.{Memory}
 use Rattle.scc_mesh.specs.Scenes.{ChipView, about_in, events_in, records_in}
 use Rattle.script_reader.specs.Script.{Script}
 use Rattle.script_plain.specs.CallLists.{calls_of}
-use Rattle.call_tap.specs.Kept.{HasRoom}
+use Rattle.call_tap.specs.Kept.{HasTapRoom}
 use Rattle.call_tap.specs.Planned.{has_room_for}
 use Rattle.rcce_ue.specs.Ues.{UeView}
 use Rattle.chip_run.specs.declared.ends.RunEnd.{RunEnd}
-use Rattle.chip_run.specs.Crews.{AllRest, CrewStands, EndsWith}
+use Rattle.chip_run.specs.Crews.{AllRest, CrewStands, RunEndedAs}
 use Rattle.chip_run.proofs.ServedLaws.{some_worker}
 use Rattle.rcce_run.specs.Crews.{AllRun, EndsAs}
 use Rattle.rcce_run.specs.UeRuns.{WaitsOpen}
@@ -38,7 +38,7 @@ module _ (script : Script) (chip now : ChipView) (crew later : List (Logger UeVi
   rests : AllRest ue_loggers now later (about_in now).nue
   rests = subst (λ (n : ℕ). AllRest ue_loggers now later n) stands.is_crew.each rested
 
-  pub run_ends : (end : RunEnd) → EndsWith ue_loggers end now later → EndsAs end script
+  pub run_ends : (end : RunEnd) → RunEndedAs ue_loggers end now later → EndsAs end script
   run_ends end ends = ends_as ue_loggers ue_of loggers_run script now later memory agrees stands.is_crew all some first rests end ends
 
   pub run_opened : (k : ℕ) (call : DataCall) → k < script.nue → open_call (about_in now) (records_in now k) ≡ Some call → WaitsOpen script k call
@@ -52,7 +52,7 @@ module _ (script : Script) (chip now : ChipView) (crew later : List (Logger UeVi
   run_first k low =
       first_at script now later memory agrees stands.is_crew all some first fresh.read (ranks_are script now later memory agrees stands.is_crew all some first) k low
 
-  pub run_room : (k : ℕ) → k < script.nue → has_room_for (calls_of script k) ≡ true → HasRoom (records_in now k).calls
+  pub run_room : (k : ℕ) → k < script.nue → has_room_for (calls_of script k) ≡ true → HasTapRoom (records_in now k).calls
   run_room k low planned =
       room_at script now later memory agrees stands.is_crew all some first fresh.read (ranks_are script now later memory agrees stands.is_crew all some first) k low planned
 
