@@ -181,10 +181,10 @@ impl Lengths {
             Action::Recv { reg, head, .. } => self.stays(*reg, Length::of(head.len())),
             Action::Accept { reg } => self.stays(*reg, self.received()),
             Action::Finish { reg } => self.stays(*reg, self.accumulator()),
-            Action::Print { .. } => false,
+            Action::Own(OwnStmt::Print { .. }) => false,
+            Action::Own(OwnStmt::Apply { .. }) => true,
             Action::Gather { .. } | Action::Begin { .. } | Action::Fold { .. } => true,
-            Action::Apply { .. } | Action::Send { .. } | Action::Post { .. } => true,
-            Action::Bar { .. } => true,
+            Action::Send { .. } | Action::Post { .. } | Action::Bar { .. } => true,
         }
     }
 
