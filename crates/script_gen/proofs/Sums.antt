@@ -11,16 +11,16 @@ use Rattle.scc_base.specs.Groups.{is_with}
 use Rattle.scc_base.specs.Heads.{MessageHead}
 use Rattle.script_reader.specs.Script.{Script}
 use Rattle.script_plain.specs.declared.matches.Match.{Match}
-use Rattle.script_plain.specs.declared.posts.Posted.{Posted}
-use Rattle.script_plain.specs.declared.prims.Standing.{Standing}
-use Rattle.script_plain.specs.declared.prims.Standing.TheVariants as standing
+use Rattle.script_machine.specs.declared.posts.Posted.{Posted}
+use Rattle.script_machine.specs.declared.prims.Standing.{Standing}
+use Rattle.script_machine.specs.declared.prims.Standing.TheVariants as standing
 use Rattle.script_plain.specs.Collectives.{started}
-use Rattle.script_plain.specs.Local.{Local, local_next, next_by_act, next_by_prim, prim_by_standing}
-use Rattle.script_plain.specs.Matches.{brought, brought_by, line_at, line_of, lowest_brought, match_of, matches_on, plain_matches, step_brought, taken}
+use Rattle.script_machine.specs.Local.{Local, local_next, next_by_act, next_by_prim, prim_by_standing, line_of}
+use Rattle.script_plain.specs.Matches.{brought, brought_by, line_at, lowest_brought, match_of, matches_on, plain_matches, step_brought, taken}
 use Rattle.script_plain.specs.Meaning.{State, keys_of, next_of, plain_end, recorded, start_of, steps_left}
-use Rattle.script_plain.specs.Next.{Next, is_at_barrier, past_barrier}
-use Rattle.script_plain.specs.Next.Next.{Ends, Goes, Posts, Sends, Recvs, Bars}
-use Rattle.script_plain.specs.Program.{Act, Prim}
+use Rattle.script_machine.specs.Next.{Next, is_at_barrier, past_barrier}
+use Rattle.script_machine.specs.Next.Next.{Ends, Goes, Posts, Sends, Recvs, Bars}
+use Rattle.script_machine.specs.Program.{Act, Prim}
 use Rattle.script_plain.specs.Step.{Configuration, all_at_barrier, by_rank, lowest, lowest_step, next_at, past_if, run_on, slot_at, step_of}
 use Rattle.script_plain.proofs.OwnWays.CameDid.{logged}
 use Rattle.script_plain.proofs.Messages.KeptLaws.{AllKept, KeepsNext, kept_runs}

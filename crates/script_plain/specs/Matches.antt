@@ -3,17 +3,13 @@ use Rattle.std.specs.Prelude.{ℕ, zero, suc, ◌+◌, if◌then◌else◌, is_s
 use Rattle.std.specs.Option.{option_map_or}
 use Rattle.scc_base.specs.Heads.{MessageHead}
 use Rattle.script_plain.specs.declared.matches.Match.{Match}
-use Rattle.script_plain.specs.declared.posts.Posted.{Posted}
-use Rattle.script_plain.specs.Local.{Local, next_prim}
+use Rattle.script_machine.specs.declared.posts.Posted.{Posted}
+use Rattle.script_machine.specs.Local.{line_of}
 use Rattle.script_plain.specs.Meaning.{keys_of, next_of, start_of, steps_left}
-use Rattle.script_plain.specs.Next.{Next}
-use Rattle.script_plain.specs.Next.Next.{Ends, Goes, Posts, Sends, Recvs, Bars}
+use Rattle.script_machine.specs.Next.{Next}
+use Rattle.script_machine.specs.Next.Next.{Ends, Goes, Posts, Sends, Recvs, Bars}
 use Rattle.script_plain.specs.Step.{Configuration, lowest_step, next_at, same_head, slot_at, step_of}
 use Rattle.script_reader.specs.Script.{Script}
-
--- the line of the statement that a rank does next
-abbrev pub line_of : Local → ℕ
-line_of u = option_map_or (λ prim. prim.line) (next_prim u) 0
 
 -- the line of the statement at which rank i stands
 abbrev pub line_at : {U : Type 0} → (U → ℕ) → Configuration U → ℕ → ℕ
