@@ -14,7 +14,7 @@ pub not_true : (a : Bool) → not a ≡ true → a ≡ false
 not_true true is = absurd (cc)
 not_true false is = refl
 
-not_of : (a : Bool) → a ≡ false → not a ≡ true
+pub not_of : (a : Bool) → a ≡ false → not a ≡ true
 not_of true is = absurd (cc)
 not_of false is = refl
 

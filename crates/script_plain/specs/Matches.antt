@@ -21,9 +21,10 @@ match_of from to head send_line recv_line =
     record { from = from; to = to; head = head; send_line = send_line; recv_line = recv_line }
 
 -- the message in a slot, where rank i takes it at a receive from j of this head, in this line. (Else i refuses it.)
-abbrev pub taken : ℕ → ℕ → MessageHead → ℕ → Option Posted → List Match
-taken i j asked line None = []
-taken i j asked line (Some message) = if same_head message.head asked then match_of j i message.head message.line line ∷ [] else []
+abbrev pub brought_by_take : ℕ → ℕ → MessageHead → ℕ → Option Posted → List Match
+brought_by_take i j asked line None = []
+brought_by_take i j asked line (Some message) =
+    if same_head message.head asked then match_of j i message.head message.line line ∷ [] else []
 
 -- the message that an enabled step of rank i brings, if it brings one: that of a match or of a take
 abbrev pub brought_by : {U : Type 0} → (U → ℕ) → Configuration U → ℕ → Next U → List Match
@@ -31,7 +32,7 @@ brought_by line c i Ends = []
 brought_by line c i (Goes after) = []
 brought_by line c i (Posts message after) = []
 brought_by line c i (Sends to head bytes after) = match_of i to head (line_at line c i) (line_at line c to) ∷ []
-brought_by line c i (Recvs from head take refuse) = taken i from head (line_at line c i) (slot_at c from)
+brought_by line c i (Recvs from head take refuse) = brought_by_take i from head (line_at line c i) (slot_at c from)
 brought_by line c i (Bars comm after) = []
 
 -- the messages that the step of a rank brings: one, or none
