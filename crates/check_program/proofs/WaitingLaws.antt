@@ -9,8 +9,8 @@ use Rattle.groups.specs.Peers.{IsPeer}
 use Rattle.scc_base.specs.Groups.{is_with}
 use Rattle.scc_base.specs.declared.calls.Call.{Call}
 use Rattle.scc_base.specs.declared.calls.Call.TheVariants as call
-use Rattle.script_plain.specs.declared.ends.UeEnd.{UeEnd}
-use Rattle.script_plain.specs.declared.ends.UeEnd.TheVariants as ue_end
+use Rattle.script_machine.specs.declared.ends.UeEnd.{UeEnd}
+use Rattle.script_machine.specs.declared.ends.UeEnd.TheVariants as ue_end
 use Rattle.script_plain.specs.Ends.{Ended, ended_at}
 use Rattle.script_plain.specs.HeldUp.{HasCause, IsExplained, IsHeldUp, ended_at_barrier}
 use Rattle.script_plain.specs.Meaning.{plain_end, plain_ends, seen_of}

@@ -5,8 +5,8 @@ use Rattle.std.specs.Option.{option_map_or, unwrap_or}
 use Rattle.scc_base.specs.Groups.{is_with}
 use Rattle.scc_base.specs.declared.calls.Call.{Call}
 use Rattle.scc_base.specs.declared.calls.Call.TheVariants as call
-use Rattle.script_plain.specs.declared.ends.UeEnd.{UeEnd}
-use Rattle.script_plain.specs.declared.ends.UeEnd.TheVariants as ue_end
+use Rattle.script_machine.specs.declared.ends.UeEnd.{UeEnd}
+use Rattle.script_machine.specs.declared.ends.UeEnd.TheVariants as ue_end
 use Rattle.script_plain.specs.Ends.{Ended, ended_at}
 use Rattle.script_plain.specs.HeldUp.{ended_at_barrier}
 use Rattle.check_program.specs.declared.causes.Cause.{Cause}

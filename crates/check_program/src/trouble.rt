@@ -8,7 +8,8 @@ use crate::causes::Cause;
 use crate::waiting::waits_for;
 use crate::walking::cause;
 use scc_base::Rank;
-use script_plain::{End, UeEnd};
+use script_machine::UeEnd;
+use script_plain::End;
 use script_reader::Scripts;
 use std::alloc::{AllocError, Global};
 

@@ -9,7 +9,8 @@ ghost use Rattle.script_plain.specs.Meaning.{keys_of, plain_ends};
 ghost use Rattle.check_program.specs.Waiting.{is_waiting, lowest_absent, waits_by_call, waits_for};
 
 use scc_base::{Call, Rank, Setup};
-use script_plain::{End, UeEnd, is_with, setup_of};
+use script_machine::UeEnd;
+use script_plain::{End, is_with, setup_of};
 use script_reader::Scripts;
 
 /// The rank that a rank waits for at the end of a script. No memory is taken.

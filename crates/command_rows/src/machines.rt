@@ -1,7 +1,8 @@
 //! What runs of scripts cannot show: a machine by itself.
 
 use scc_base::Rank;
-use script_plain::{Machine, setup_of};
+use script_machine::Machine;
+use script_plain::setup_of;
 use script_reader::{Scripts, read_script};
 use std::alloc::{AllocError, Global};
 

@@ -2,7 +2,8 @@
 
 use crate::cases::FOUR_BYTES;
 use scc_base::{Call, Head, Rank};
-use script_plain::{End, UeEnd, plain_run};
+use script_machine::UeEnd;
+use script_plain::{End, plain_run};
 use script_reader::read_script;
 use std::alloc::Global;
 use std::test::Fail;

@@ -7,8 +7,8 @@ use Rattle.scc_mesh.specs.Scenes.{ChipView, IsNew, about_in, events_in, records_
 use Rattle.scc_proto.specs.Passed.{open_call}
 use Rattle.script_reader.specs.Script.{Script}
 use Rattle.script_reader.specs.Settled.{IsWhole}
-use Rattle.script_plain.specs.Machine.{MachineView}
-use Rattle.script_plain.specs.CallLists.{calls_of}
+use Rattle.script_machine.specs.Machine.{MachineView}
+use Rattle.script_machine.specs.CallLists.{calls_of}
 use Rattle.rcce_ue.specs.Ues.{UeView}
 use Rattle.chip_run.specs.declared.ends.RunEnd.{RunEnd}
 use Rattle.chip_run.specs.Crews.{IsCrew}

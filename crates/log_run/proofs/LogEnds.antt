@@ -15,13 +15,13 @@ use Rattle.scc_proto.proofs.PortLaws.{record_of-nil}
 use Rattle.scc_mesh.specs.Scenes.{ChipView, about_in, events_in, records_in}
 use Rattle.script_reader.specs.Script.{Script}
 use Rattle.script_reader.specs.Settled.{IsWhole}
-use Rattle.script_plain.specs.CallLists.{calls_of}
+use Rattle.script_machine.specs.CallLists.{calls_of}
 use Rattle.script_plain.specs.Collectives.{started}
 use Rattle.script_plain.specs.Ends.{Ended}
-use Rattle.script_plain.specs.Local.{Local, local_next}
+use Rattle.script_machine.specs.Local.{Local, local_next}
 use Rattle.script_plain.specs.Meaning.{State, next_of, plain_end, recorded}
-use Rattle.script_plain.specs.Next.{Next, call_of}
-use Rattle.script_plain.specs.Next.Next.{Ends, Goes, Posts, Sends, Recvs, Bars}
+use Rattle.script_machine.specs.Next.{Next, call_of}
+use Rattle.script_machine.specs.Next.Next.{Ends, Goes, Posts, Sends, Recvs, Bars}
 use Rattle.call_tap.specs.declared.taps.Tap.{Tap}
 use Rattle.call_tap.specs.Kept.{HasTapRoom}
 use Rattle.call_tap.specs.Planned.{has_room_for}

@@ -9,14 +9,14 @@ use Rattle.scc_base.specs.declared.calls.Call.{Call}
 use Rattle.scc_proto.specs.Stages.{Record}
 use Rattle.script_reader.specs.Script.{Script}
 use Rattle.script_reader.specs.Settled.{IsWhole}
-use Rattle.script_plain.specs.declared.posts.Posted.{Posted}
-use Rattle.script_plain.specs.CallLists.{calls_from, calls_of}
+use Rattle.script_machine.specs.declared.posts.Posted.{Posted}
+use Rattle.script_machine.specs.CallLists.{calls_from, calls_of}
 use Rattle.script_plain.specs.Collectives.{started}
-use Rattle.script_plain.specs.Lengths.{lengths_of}
-use Rattle.script_plain.specs.Local.{Local, local_next, local_start}
+use Rattle.script_machine.specs.Lengths.{lengths_of}
+use Rattle.script_machine.specs.Local.{Local, local_next, local_start}
 use Rattle.script_plain.specs.Meaning.{State, next_of, recorded}
-use Rattle.script_plain.specs.Next.{Next}
-use Rattle.script_plain.specs.Next.Next.{Ends, Goes, Posts, Sends, Recvs, Bars}
+use Rattle.script_machine.specs.Next.{Next}
+use Rattle.script_machine.specs.Next.Next.{Ends, Goes, Posts, Sends, Recvs, Bars}
 use Rattle.script_plain.specs.Paths.{Came, Did}
 use Rattle.script_plain.specs.Paths.Came.{Began, Went, Leaves, Passed, Took, Joined}
 use Rattle.script_plain.specs.Paths.Did.{Here, Own, Left, Sent, Got, Met}

@@ -13,11 +13,11 @@ use Rattle.scc_proto.proofs.Tests.{both_first, both_second}
 use Rattle.call_tap.specs.Planned.{bytes_planned, has_room_for}
 use Rattle.call_tap.proofs.PlannedLaws.{planned_append}
 use Rattle.script_reader.specs.Script.{Script}
-use Rattle.script_plain.specs.CallLists.{called, calls_from, calls_of}
-use Rattle.script_plain.specs.Lengths.{Lengths, lengths_after}
-use Rattle.script_plain.specs.Program.{Prim, program_of}
-use Rattle.script_plain.specs.Rooms.{nothing_held}
-use Rattle.script_plain.proofs.ProgramLengths.RoomLaws.{start_held}
+use Rattle.script_machine.specs.CallLists.{called, calls_from, calls_of}
+use Rattle.script_machine.specs.Lengths.{Lengths, lengths_after}
+use Rattle.script_machine.specs.Program.{Prim, program_of}
+use Rattle.script_machine.specs.Rooms.{nothing_held}
+use Rattle.script_machine.proofs.ProgramLengths.RoomLaws.{start_held}
 use Rattle.log_run.specs.Sizes.{bytes_moved_by, calls_by, has_room_for_all}
 
 -- ---- one primitive more

@@ -5,8 +5,8 @@ use Rattle.std.proofs.lemmas.List.{get_or_default, length-map}
 use Rattle.std.proofs.lemmas.List.Folds.{list_all_at}
 use Rattle.std.proofs.lemmas.List.FromFn.{length-range_with_len}
 use Rattle.script_reader.specs.Script.{Script}
-use Rattle.script_plain.specs.declared.ends.UeEnd.{UeEnd}
-use Rattle.script_plain.specs.declared.ends.UeEnd.TheVariants as ue_end
+use Rattle.script_machine.specs.declared.ends.UeEnd.{UeEnd}
+use Rattle.script_machine.specs.declared.ends.UeEnd.TheVariants as ue_end
 use Rattle.script_plain.specs.Ends.{Ended, all_finished, ended_at, is_finished, nothing_ended}
 use Rattle.script_plain.specs.Meaning.{locals_of, plain_end, plain_ends}
 use Rattle.script_plain.proofs.Runs.PlainLaws.{length-plain_end}

@@ -6,9 +6,9 @@ use Rattle.std.proofs.lemmas.Option.{same_Some, unwrap_or-slice_get}
 use Rattle.scc_proto.specs.Legality.{Outgoing}
 use Rattle.scc_proto.specs.Tables.{put}
 use Rattle.scc_proto.proofs.Tests.{same_or_other}
-use Rattle.script_plain.specs.declared.posts.Posted.{Posted}
-use Rattle.script_plain.specs.Next.{Next}
-use Rattle.script_plain.specs.Next.Next.{Ends}
+use Rattle.script_machine.specs.declared.posts.Posted.{Posted}
+use Rattle.script_machine.specs.Next.{Next}
+use Rattle.script_machine.specs.Next.Next.{Ends}
 use Rattle.script_plain.specs.Step.{Configuration, next_at, slot_at, with_cell, with_slot, by_rank}
 use Rattle.script_plain.proofs.Orders.OrderLaws.{get_set}
 use Rattle.script_plain.proofs.Runs.RunLaws.{get-by_rank}

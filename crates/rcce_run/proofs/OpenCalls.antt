@@ -17,9 +17,9 @@ use Rattle.scc_proto.proofs.Pairs.OfferFacts.{posted_last}
 use Rattle.scc_proto.proofs.Pairs.PhaseFacts.{sending_here, sending_there, post_here, post_there}
 use Rattle.scc_proto.proofs.Legality.StepLaws.{itself}
 use Rattle.scc_proto.proofs.Tests.{same_or_other, peers_are}
-use Rattle.script_plain.specs.declared.posts.Posted.{Posted}
-use Rattle.script_plain.specs.Next.{Next, call_of}
-use Rattle.script_plain.specs.Next.Next.{Ends, Goes, Posts, Sends, Recvs, Bars}
+use Rattle.script_machine.specs.declared.posts.Posted.{Posted}
+use Rattle.script_machine.specs.Next.{Next, call_of}
+use Rattle.script_machine.specs.Next.Next.{Ends, Goes, Posts, Sends, Recvs, Bars}
 use Rattle.chip_run.specs.Waiting.{NoneDrafts}
 use Rattle.chip_run.specs.Waiting.{TakeWaits, IsLooking, BarWaits, AtRoot, AtMember}
 use Rattle.rcce_run.specs.Sweep.{Vain, Swept}

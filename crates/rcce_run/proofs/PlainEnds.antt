@@ -6,17 +6,17 @@ use Rattle.std.proofs.lemmas.List.FromFn.{get_or-map-range_with_len}
 use Rattle.std.proofs.lemmas.Option.{slice_get-map, slice_get_within, unwrap_or-slice_get}
 use Rattle.scc_base.specs.declared.calls.Call.{Call}
 use Rattle.script_reader.specs.Script.{Script}
-use Rattle.script_plain.specs.declared.ends.UeEnd.TheVariants as ue_end
-use Rattle.script_plain.specs.declared.posts.Posted.{Posted}
-use Rattle.script_plain.specs.declared.prims.Standing.{Standing}
-use Rattle.script_plain.specs.declared.prims.Standing.TheVariants as standing
+use Rattle.script_machine.specs.declared.ends.UeEnd.TheVariants as ue_end
+use Rattle.script_machine.specs.declared.posts.Posted.{Posted}
+use Rattle.script_machine.specs.declared.prims.Standing.{Standing}
+use Rattle.script_machine.specs.declared.prims.Standing.TheVariants as standing
 use Rattle.script_plain.specs.Ends.{Ended, ended, ended_at, nothing_ended}
-use Rattle.script_plain.specs.Local.{Local, end_by_prim, end_by_slot, end_by_standing, end_of, local_at, local_next, next_by_act, next_by_prim, nobody, prim_by_standing, waits_at}
+use Rattle.script_machine.specs.Local.{Local, end_by_prim, end_by_slot, end_by_standing, end_of, local_at, local_next, next_by_act, next_by_prim, nobody, prim_by_standing, waits_at}
 use Rattle.script_plain.specs.Meaning.{State, locals_of, plain_end, plain_ends}
-use Rattle.script_plain.specs.Moves.{is_stopped, is_stopped_by}
-use Rattle.script_plain.specs.Next.{call_of, is_going}
-use Rattle.script_plain.specs.Next.Next.{Ends}
-use Rattle.script_plain.specs.Program.{Act, Prim}
+use Rattle.script_machine.specs.Moves.{is_stopped, is_stopped_by}
+use Rattle.script_machine.specs.Next.{call_of, is_going}
+use Rattle.script_machine.specs.Next.Next.{Ends}
+use Rattle.script_machine.specs.Program.{Act, Prim}
 use Rattle.rcce_run.specs.Sweep.{Holds}
 use Rattle.rcce_run.proofs.Holding.{at_below}
 

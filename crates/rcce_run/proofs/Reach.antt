@@ -14,13 +14,14 @@ use Rattle.scc_proto.specs.Legality.{Outgoing, Standing, CallStep, Posting, Taki
 use Rattle.scc_proto.specs.Tables.{put}
 use Rattle.scc_proto.proofs.Legality.StepLaws.{itself}
 use Rattle.scc_proto.proofs.Tests.{eqb_other, put_here, put_there, same_or_other}
-use Rattle.script_plain.specs.declared.posts.Posted.{Posted}
-use Rattle.script_plain.specs.Next.{Next, is_at_barrier, past_barrier}
-use Rattle.script_plain.specs.Next.Next.{Goes, Posts, Sends, Recvs, Bars}
+use Rattle.script_machine.specs.declared.posts.Posted.{Posted}
+use Rattle.script_machine.specs.Next.{Next, is_at_barrier, past_barrier}
+use Rattle.script_machine.specs.Next.Next.{Goes, Posts, Sends, Recvs, Bars}
 use Rattle.script_plain.specs.Paths.{Did}
 use Rattle.script_plain.specs.Paths.Did.{Here, Own, Left, Sent, Got, Met}
 use Rattle.script_plain.specs.Step.{Configuration, IsStep, next_at, slot_at, same_head, with_cell, with_slot, by_rank, past_if}
 use Rattle.script_plain.proofs.Runs.RunLaws as runs
+use Rattle.script_machine.proofs.Choices as choices
 use Rattle.script_plain.proofs.Runs.StepLaws as steps
 use Rattle.script_plain.proofs.Runs.StepLaws.Takes.{Alone, Left as Leaving, Met as Meets, Fetched, Passed as Passing}
 use Rattle.rcce_run.specs.Sweep.{keep, outgoing, Holds}
@@ -29,8 +30,8 @@ use Rattle.rcce_run.proofs.Holding.{lt_true, some_at, put_each, put_both, posted
 -- a head is the same as itself
 pub head_same : (head : MessageHead) → same_head head head ≡ true
 head_same head =
-    steps.and_of ((head.kind == head.kind) && (head.comm == head.comm)) (head.len == head.len)
-    (steps.and_of (head.kind == head.kind) (head.comm == head.comm) (itself head.kind) (itself head.comm)) (itself head.len)
+    choices.and_of ((head.kind == head.kind) && (head.comm == head.comm)) (head.len == head.len)
+    (choices.and_of (head.kind == head.kind) (head.comm == head.comm) (itself head.kind) (itself head.comm)) (itself head.len)
 
 -- statements of a rank's own lead from one state to another
 pub data Walks {U : Type 0} (next : U → Next U) (v : U) : U → Type 0 where
@@ -292,7 +293,7 @@ module _ {U : Type 0} (nue : ℕ) (keys : ℕ → ℕ → ℕ) (next : U → Nex
         past k = past_if next (in_group nue keys comm root k) (heads k)
 
         inside : (k : ℕ) → k < nue → is_with (keys comm) root k ≡ true → in_group nue keys comm root k ≡ true
-        inside k low member = steps.and_of (nat_lt k nue) (is_with (keys comm) root k) (lt_true k nue low) member
+        inside k low member = choices.and_of (nat_lt k nue) (is_with (keys comm) root k) (lt_true k nue low) member
 
         outside : (k : ℕ) → nue ≤ k → in_group nue keys comm root k ≡ false
         outside k beyond = ap (λ (b : Bool). b && is_with (keys comm) root k) (no_lt k beyond)

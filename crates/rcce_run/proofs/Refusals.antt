@@ -21,9 +21,9 @@ use Rattle.scc_proto.proofs.Words.NoteFacts.{head_is}
 use Rattle.scc_proto.proofs.Pairs.OfferFacts.{offers}
 use Rattle.scc_proto.proofs.Pairs.PhaseFacts.{Raise, when_seen, sending_here, sending_there, post_here, post_there}
 use Rattle.scc_proto.proofs.Tests.{same_or_other, peers_are}
-use Rattle.script_plain.specs.declared.posts.Posted.{Posted}
-use Rattle.script_plain.specs.Next.{Next}
-use Rattle.script_plain.specs.Next.Next.{Ends, Goes, Posts, Sends, Recvs, Bars}
+use Rattle.script_machine.specs.declared.posts.Posted.{Posted}
+use Rattle.script_machine.specs.Next.{Next}
+use Rattle.script_machine.specs.Next.Next.{Ends, Goes, Posts, Sends, Recvs, Bars}
 use Rattle.script_plain.specs.Paths.{Did}
 use Rattle.script_plain.specs.Paths.Did.{Here}
 use Rattle.script_plain.specs.Step.{Configuration, IsStep, next_at, slot_at, same_head, with_cell}

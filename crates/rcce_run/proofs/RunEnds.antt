@@ -9,14 +9,14 @@ use Rattle.scc_proto.specs.Views.{View, view_of}
 use Rattle.scc_proto.specs.Words.{Memory}
 use Rattle.scc_mesh.specs.Scenes.{ChipView, about_in, events_in, records_in}
 use Rattle.script_reader.specs.Script.{Script, rules_of}
-use Rattle.script_plain.specs.declared.posts.Posted.{Posted}
+use Rattle.script_machine.specs.declared.posts.Posted.{Posted}
 use Rattle.script_plain.specs.Collectives.{started}
-use Rattle.script_plain.specs.declared.ends.UeEnd.TheVariants as ue_end
+use Rattle.script_machine.specs.declared.ends.UeEnd.TheVariants as ue_end
 use Rattle.script_plain.specs.Ends.{ended_at}
-use Rattle.script_plain.specs.Local.{Local, end_of, local_next}
+use Rattle.script_machine.specs.Local.{Local, end_of, local_next}
 use Rattle.script_plain.specs.Meaning.{State, next_of, plain_ends, recorded}
-use Rattle.script_plain.specs.Next.{Next}
-use Rattle.script_plain.specs.Next.Next.{Ends}
+use Rattle.script_machine.specs.Next.{Next}
+use Rattle.script_machine.specs.Next.Next.{Ends}
 use Rattle.rcce_ue.specs.Standing.{Tied}
 use Rattle.rcce_ue.specs.Ues.{UeView}
 use Rattle.chip_run.specs.declared.ends.RunEnd.{RunEnd}

@@ -16,10 +16,10 @@ use Rattle.scc_proto.specs.Stages.{OnItsWay, Record}
 use Rattle.scc_proto.specs.Views.{view_of}
 use Rattle.scc_proto.specs.Words.{Memory}
 use Rattle.script_reader.specs.Script.{Script}
-use Rattle.script_plain.specs.declared.posts.Posted.{Posted}
+use Rattle.script_machine.specs.declared.posts.Posted.{Posted}
 use Rattle.script_plain.specs.Collectives.{started}
 use Rattle.script_plain.specs.Meaning.{IsPlainStep, State, keys_of, next_of, plain_end, start_of, steps_left}
-use Rattle.script_plain.specs.Next.Next.{Recvs}
+use Rattle.script_machine.specs.Next.Next.{Recvs}
 use Rattle.script_plain.specs.Step.{IsStep}
 use Rattle.script_plain.proofs.OwnWays.CameDid.{did_matched, logged}
 use Rattle.script_plain.proofs.Orders.EndLaws.{is_still, reached}

@@ -7,9 +7,9 @@ use Rattle.groups.specs.declared.operations.Ty.{Ty}
 use Rattle.script_reader.specs.Script.{Script}
 use Rattle.script_reader.specs.declared.script.Stmt.{Stmt}
 use Rattle.script_reader.specs.declared.script.Stmt.TheVariants as stmt
-use Rattle.script_plain.specs.declared.posts.Posted.{Posted}
+use Rattle.script_machine.specs.declared.posts.Posted.{Posted}
 use Rattle.script_plain.specs.Collectives.{AllGive, Casts, CollectivesHold, Gives, Tells}
-use Rattle.script_plain.specs.Local.{register_at}
+use Rattle.script_machine.specs.Local.{register_at}
 use Rattle.script_plain.specs.Meaning.{State}
 use Rattle.script_plain.specs.Step.{Configuration}
 

@@ -21,10 +21,10 @@ use Rattle.scc_proto.proofs.Pairs.OfferFacts.{posted_last}
 use Rattle.scc_proto.proofs.Pairs.PhaseFacts.{sending_here, post_here}
 use Rattle.scc_proto.proofs.Legality.StepLaws.{itself}
 use Rattle.scc_proto.proofs.Tests.{eqb_same, eqb_other}
-use Rattle.script_plain.specs.declared.posts.Posted.{Posted}
-use Rattle.script_plain.specs.Next.{Next}
-use Rattle.script_plain.specs.Next.Next.{Ends, Goes, Posts, Sends, Recvs, Bars}
-use Rattle.script_plain.proofs.Runs.StepLaws.{and_of, both_true}
+use Rattle.script_machine.specs.declared.posts.Posted.{Posted}
+use Rattle.script_machine.specs.Next.{Next}
+use Rattle.script_machine.specs.Next.Next.{Ends, Goes, Posts, Sends, Recvs, Bars}
+use Rattle.script_machine.proofs.Choices.{and_of, both_true}
 use Rattle.chip_run.specs.Waiting.{SlotWaits, RaiseWaits, TakeWaits, IsLooking, BarWaits, AtRoot, AtMember}
 use Rattle.chip_run.proofs.Offers.{as_many, raise_out}
 use Rattle.rcce_run.specs.Sweep.{Vain, Swept}

@@ -11,9 +11,9 @@ use Rattle.scc_proto.specs.Passed.{slot_of}
 use Rattle.scc_proto.specs.Stages.{Record}
 use Rattle.scc_proto.specs.Views.{view_of}
 use Rattle.scc_proto.specs.Words.{Memory}
-use Rattle.script_plain.specs.declared.posts.Posted.{Posted}
-use Rattle.script_plain.specs.Next.{Next, is_at_barrier}
-use Rattle.script_plain.specs.Next.Next.{Ends, Goes, Posts, Sends, Recvs, Bars}
+use Rattle.script_machine.specs.declared.posts.Posted.{Posted}
+use Rattle.script_machine.specs.Next.{Next, is_at_barrier}
+use Rattle.script_machine.specs.Next.Next.{Ends, Goes, Posts, Sends, Recvs, Bars}
 use Rattle.script_plain.specs.Step.{Configuration, IsStep, next_at, slot_at, all_at_barrier}
 use Rattle.script_plain.proofs.Runs.RunLaws.{stands_there}
 use Rattle.script_plain.proofs.Runs.StepLaws as steps

@@ -5,8 +5,8 @@ use Rattle.scc_base.specs.Setups.{SetupView, setup_key}
 use Rattle.scc_base.proofs.Confluence.{other_end}
 use Rattle.scc_proto.specs.Stages.{Record}
 use Rattle.scc_proto.specs.Words.{Memory}
-use Rattle.script_plain.specs.declared.posts.Posted.{Posted}
-use Rattle.script_plain.specs.Next.{Next}
+use Rattle.script_machine.specs.declared.posts.Posted.{Posted}
+use Rattle.script_machine.specs.Next.{Next}
 use Rattle.script_plain.specs.Step.{Configuration, IsStep}
 use Rattle.script_plain.proofs.Orders.EndLaws.{one_end}
 use Rattle.rcce_run.specs.Sweep.{Holds, Swept, slots_by}

@@ -19,12 +19,12 @@ use Rattle.scc_proto.specs.Words.{IsRun, zeros}
 use Rattle.scc_proto.proofs.Agreement.AgreementLaw.{agreement_of_lists}
 use Rattle.script_reader.specs.Script.{first_split, rules_of}
 use Rattle.script_plain.specs.Collectives.{started}
-use Rattle.script_plain.specs.Local.{gone_on, gone_on_with, local_next, local_start, stopped_at}
+use Rattle.script_machine.specs.Local.{gone_on, gone_on_with, local_next, local_start, stopped_at}
 use Rattle.script_plain.specs.Meaning.{State, next_of}
-use Rattle.script_plain.specs.Next.Next.{Ends, Posts, Recvs, Bars}
+use Rattle.script_machine.specs.Next.Next.{Ends, Posts, Recvs, Bars}
 use Rattle.script_plain.specs.Paths.{Did}
 use Rattle.script_plain.specs.Paths.Did.{Here, Left}
-use Rattle.script_plain.specs.Program.{unrolled}
+use Rattle.script_machine.specs.Program.{unrolled}
 use Rattle.rcce_run.specs.Examples.{three_items, three_script, three_setup, three_events, three_words, three_records, three_message, three_states, three_lasts}
 use Rattle.rcce_run.specs.Scripts.{IsSwept}
 use Rattle.chip_run.specs.Waiting.{AtMember}

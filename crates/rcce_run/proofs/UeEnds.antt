@@ -16,15 +16,15 @@ use Rattle.scc_proto.specs.Words.{Memory}
 use Rattle.scc_mesh.specs.Scenes.{ChipView, about_in, events_in, records_in}
 use Rattle.script_reader.specs.Script.{Script}
 use Rattle.script_reader.specs.Settled.{IsWhole}
-use Rattle.script_plain.specs.declared.posts.Posted.{Posted}
+use Rattle.script_machine.specs.declared.posts.Posted.{Posted}
 use Rattle.script_plain.specs.Collectives.{CollectivesHold, started}
 use Rattle.script_plain.specs.Ends.{Ended, ended, ended_at}
-use Rattle.script_plain.specs.Local.{Local, local_next}
-use Rattle.script_plain.specs.Machine.{MachineView}
+use Rattle.script_machine.specs.Local.{Local, local_next}
+use Rattle.script_machine.specs.Machine.{MachineView}
 use Rattle.script_plain.specs.Meaning.{State, next_of, plain_end, plain_ends, recorded}
-use Rattle.script_plain.specs.Moves.{is_stopped}
-use Rattle.script_plain.specs.Next.{Next, call_of, is_going}
-use Rattle.script_plain.specs.Next.Next.{Ends, Goes, Posts, Sends, Recvs, Bars}
+use Rattle.script_machine.specs.Moves.{is_stopped}
+use Rattle.script_machine.specs.Next.{Next, call_of, is_going}
+use Rattle.script_machine.specs.Next.Next.{Ends, Goes, Posts, Sends, Recvs, Bars}
 use Rattle.script_plain.proofs.Collectives.CollectiveLaws.{plain_end_collectives}
 use Rattle.script_plain.proofs.Orders.OrderLaws.{list_same}
 use Rattle.send_recv.specs.Ops.{SlotAt}

@@ -11,16 +11,16 @@ use Rattle.scc_proto.proofs.Tests.{both_first, peers_from}
 use Rattle.scc_mesh.specs.Scenes.{blank_table, sight_away}
 use Rattle.script_reader.specs.Script.{Script}
 use Rattle.script_reader.specs.Settled.{IsWhole}
-use Rattle.script_plain.specs.declared.posts.Posted.{Posted}
+use Rattle.script_machine.specs.declared.posts.Posted.{Posted}
 use Rattle.script_plain.specs.Collectives.{started}
-use Rattle.script_plain.specs.Local.{Local}
+use Rattle.script_machine.specs.Local.{Local}
 use Rattle.script_plain.specs.Meaning.{State, next_of, recorded}
-use Rattle.script_plain.specs.Next.{Next}
-use Rattle.script_plain.specs.Next.Next.{Recvs}
+use Rattle.script_machine.specs.Next.{Next}
+use Rattle.script_machine.specs.Next.Next.{Recvs}
 use Rattle.script_plain.specs.Ready.{IsReady}
 use Rattle.script_plain.proofs.OwnWays.CameDid.{came_matched}
 use Rattle.script_plain.proofs.ProgramLengths.ReadyLemmas.{ready-law}
-use Rattle.script_plain.proofs.OwnWays.StoppedLaws.{stopped_ends}
+use Rattle.script_machine.proofs.StoppedLaws.{stopped_ends}
 use Rattle.rcce_ue.specs.Standing as ue
 use Rattle.rcce_ue.specs.Ues.{UeView}
 use Rattle.rcce_run.specs.Sweep.{Stood, Running, Stopped}

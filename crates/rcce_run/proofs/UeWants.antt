@@ -4,10 +4,10 @@ use Rattle.scc_base.specs.Calls.{DataCall}
 use Rattle.scc_base.specs.Setups.{SetupView}
 use Rattle.scc_proto.specs.Stages.{Record}
 use Rattle.scc_proto.specs.Views.{View}
-use Rattle.script_plain.specs.Local.{Local}
+use Rattle.script_machine.specs.Local.{Local}
 use Rattle.script_plain.specs.Meaning.{recorded}
-use Rattle.script_plain.specs.Next.{Next, is_going}
-use Rattle.script_plain.specs.Next.Next.{Ends, Goes, Posts, Sends, Recvs, Bars}
+use Rattle.script_machine.specs.Next.{Next, is_going}
+use Rattle.script_machine.specs.Next.Next.{Ends, Goes, Posts, Sends, Recvs, Bars}
 use Rattle.chip_run.specs.Waiting.{SlotWaits, Waits}
 use Rattle.chip_run.specs.Wants.{Want}
 use Rattle.rcce_run.specs.Sweep.{Vain}

@@ -13,9 +13,9 @@ use Rattle.script_reader.specs.declared.script.Item.{Item}
 use Rattle.script_reader.specs.declared.script.Peer.TheVariants as peer
 use Rattle.script_reader.specs.declared.script.Stmt.TheVariants as stmt
 use Rattle.script_reader.specs.declared.script.Who.TheVariants as who
-use Rattle.script_plain.specs.declared.posts.Posted.{Posted}
+use Rattle.script_machine.specs.declared.posts.Posted.{Posted}
 use Rattle.script_plain.specs.Collectives.{started}
-use Rattle.script_plain.specs.Local.{gone_on, local_start, stopped_at}
+use Rattle.script_machine.specs.Local.{gone_on, local_start, stopped_at}
 use Rattle.script_plain.specs.Meaning.{State}
 
 -- rank 0 posts a register without bytes to rank 1; rank 1 asks rank 0 for five bytes; rank 2 enters a barrier of the world

@@ -6,10 +6,10 @@ use Rattle.scc_proto.specs.Passed.{open_call}
 use Rattle.scc_proto.specs.Stages.{Record}
 use Rattle.scc_proto.specs.Words.{Memory}
 use Rattle.script_reader.specs.Script.{Script, rules_of}
-use Rattle.script_plain.specs.declared.posts.Posted.{Posted}
+use Rattle.script_machine.specs.declared.posts.Posted.{Posted}
 use Rattle.script_plain.specs.Collectives.{started}
 use Rattle.script_plain.specs.Meaning.{State, next_of}
-use Rattle.script_plain.specs.Next as next
+use Rattle.script_machine.specs.Next as next
 use Rattle.rcce_run.specs.Sweep.{Swept}
 
 -- the setup is that of the script, the ranks started where the script starts them, and a sweep found every one waiting

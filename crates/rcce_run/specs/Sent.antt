@@ -3,7 +3,7 @@ use Rattle.std.specs.Prelude.{◌≡◌, ◌≤◌, ℕ, ◌*◌, sum_by}
 use Rattle.std.specs.List.{count_by}
 use Rattle.scc_proto.specs.Stages.{Record}
 use Rattle.script_reader.specs.Script.{Script}
-use Rattle.script_plain.specs.Local.{cost_of, local_start}
+use Rattle.script_machine.specs.Local.{cost_of, local_start}
 use Rattle.rcce_ue.specs.Standing.{bytes_sent}
 use Rattle.rcce_ue.specs.Ues.{UeView, counted, is_sending}
 use Rattle.scc_base.specs.Heads.{most_message}

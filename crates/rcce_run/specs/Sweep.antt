@@ -10,9 +10,9 @@ use Rattle.scc_proto.specs.Passed.{slot_of}
 use Rattle.scc_proto.specs.Stages.{Idle, Record}
 use Rattle.scc_proto.specs.Views.{View, view_of}
 use Rattle.scc_proto.specs.Words.{Memory, are_peers}
-use Rattle.script_plain.specs.declared.posts.Posted.{Posted}
-use Rattle.script_plain.specs.Next.{Next}
-use Rattle.script_plain.specs.Next.Next.{Ends, Goes, Posts, Sends, Recvs, Bars}
+use Rattle.script_machine.specs.declared.posts.Posted.{Posted}
+use Rattle.script_machine.specs.Next.{Next}
+use Rattle.script_machine.specs.Next.Next.{Ends, Goes, Posts, Sends, Recvs, Bars}
 use Rattle.script_plain.specs.Paths.{Did}
 use Rattle.script_plain.specs.Step.{Configuration}
 use Rattle.chip_run.specs.Waiting.{BarWaits, RaiseWaits, SlotWaits, TakeWaits}

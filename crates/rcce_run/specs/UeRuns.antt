@@ -12,14 +12,14 @@ use Rattle.scc_proto.specs.Ports.{Sight}
 use Rattle.scc_proto.specs.Stages.{Record}
 use Rattle.scc_mesh.specs.Scenes.{ChipView, IsWhole, about_in, events_in, records_in, table_in}
 use Rattle.script_reader.specs.Script.{Script}
-use Rattle.script_plain.specs.declared.ends.UeEnd.TheVariants as ue_end
-use Rattle.script_plain.specs.declared.posts.Posted.{Posted}
+use Rattle.script_machine.specs.declared.ends.UeEnd.TheVariants as ue_end
+use Rattle.script_machine.specs.declared.posts.Posted.{Posted}
 use Rattle.script_plain.specs.Collectives.{CollectivesHold}
 use Rattle.script_plain.specs.Ends.{Ended, ended_at}
-use Rattle.script_plain.specs.Local.{end_of, local_next, local_start}
-use Rattle.script_plain.specs.Machine.{on_its_way}
+use Rattle.script_machine.specs.Local.{end_of, local_next, local_start}
+use Rattle.script_machine.specs.Machine.{on_its_way}
 use Rattle.script_plain.specs.Meaning.{State, next_of, plain_end, plain_ends}
-use Rattle.script_plain.specs.Next as next
+use Rattle.script_machine.specs.Next as next
 use Rattle.script_plain.specs.Step.{Configuration}
 use Rattle.rcce_ue.specs.Standing.{Tied}
 use Rattle.rcce_ue.specs.Ues.{UeView, in_slot}

@@ -10,7 +10,7 @@ ghost use Rattle.scc_proto.specs.Passed.{slot_of};
 ghost use Rattle.scc_proto.specs.Stages.{Record};
 ghost use Rattle.scc_proto.specs.Views.{view_of};
 ghost use Rattle.scc_proto.specs.Words.{Memory};
-ghost use Rattle.script_plain.specs.declared.posts.Posted.{Posted};
+ghost use Rattle.script_machine.specs.declared.posts.Posted.{Posted};
 ghost use Rattle.script_plain.specs.Meaning.{IsPlainStep, State, keys_of, plain_end};
 ghost use Rattle.script_reader.specs.Script.{Script};
 

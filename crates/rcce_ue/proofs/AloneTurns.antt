@@ -19,11 +19,11 @@ use Rattle.send_recv.specs.Tries.{aim_at}
 use Rattle.send_recv.specs.Turns.{NoLoad, waits_at}
 use Rattle.send_recv.specs.Ranks.{with_slot}
 use Rattle.script_plain.specs.Collectives.{started}
-use Rattle.script_plain.specs.Local.{Local, local_next}
-use Rattle.script_plain.specs.Moves.{is_ended, is_stopped, went}
-use Rattle.script_plain.specs.Next.{Next, is_going}
-use Rattle.script_plain.specs.Next.Next.{Ends, Goes, Posts, Sends, Recvs, Bars}
-use Rattle.script_plain.proofs.OwnWays.StoppedLaws.{stopped_ends}
+use Rattle.script_machine.specs.Local.{Local, local_next}
+use Rattle.script_machine.specs.Moves.{is_ended, is_stopped, went}
+use Rattle.script_machine.specs.Next.{Next, is_going}
+use Rattle.script_machine.specs.Next.Next.{Ends, Goes, Posts, Sends, Recvs, Bars}
+use Rattle.script_machine.proofs.StoppedLaws.{stopped_ends}
 use Rattle.rcce_ue.specs.Left.{left_of, rest_of}
 use Rattle.rcce_ue.specs.Standing.{IsFree, IsNoCall, Tied, keeping}
 use Rattle.rcce_ue.specs.Turns.{AloneDoes, Behind, IsStill, Turns, Within, slot_aim}

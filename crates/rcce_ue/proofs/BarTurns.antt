@@ -34,10 +34,10 @@ use Rattle.barrier.specs.Turns.{BarTurned, Does}
 use Rattle.barrier.specs.declared.stages.BarStage.{BarStage}
 use Rattle.barrier.specs.declared.stages.BarStage.TheVariants as stage
 use Rattle.script_plain.specs.Collectives.{started}
-use Rattle.script_plain.specs.Local.{Local, local_next}
-use Rattle.script_plain.specs.Moves.{is_stopped, passed}
-use Rattle.script_plain.specs.Next.{Next}
-use Rattle.script_plain.specs.Next.Next.{Bars}
+use Rattle.script_machine.specs.Local.{Local, local_next}
+use Rattle.script_machine.specs.Moves.{is_stopped, passed}
+use Rattle.script_machine.specs.Next.{Next}
+use Rattle.script_machine.specs.Next.Next.{Bars}
 use Rattle.rcce_ue.specs.Left.{left_of, next_bound, rest_of}
 use Rattle.rcce_ue.specs.Standing.{IsBarOf, IsFree, Tied, keeping}
 use Rattle.rcce_ue.specs.Turns.{Behind, IsStill, Turns}

@@ -21,16 +21,16 @@ use Rattle.send_recv.specs.Ops.{SlotAt, slot_left}
 use Rattle.send_recv.specs.Turns.{HoldsNoneBy}
 use Rattle.send_recv.proofs.Starts.{receive_starts, send_starts}
 use Rattle.script_plain.specs.Collectives.{started}
-use Rattle.script_plain.specs.Local.{Local, local_next}
-use Rattle.script_plain.specs.Machine.{MachineView, on_its_way}
-use Rattle.script_plain.specs.Moves.{is_stopped}
-use Rattle.script_plain.specs.Next.{Next}
-use Rattle.script_plain.specs.Next.Next.{Ends, Goes, Posts, Sends, Recvs, Bars}
+use Rattle.script_machine.specs.Local.{Local, local_next}
+use Rattle.script_machine.specs.Machine.{MachineView, on_its_way}
+use Rattle.script_machine.specs.Moves.{is_stopped}
+use Rattle.script_machine.specs.Next.{Next}
+use Rattle.script_machine.specs.Next.Next.{Ends, Goes, Posts, Sends, Recvs, Bars}
 use Rattle.script_plain.specs.Ready.{IsReady}
-use Rattle.script_plain.specs.declared.posts.Posted.{Posted}
+use Rattle.script_machine.specs.declared.posts.Posted.{Posted}
 use Rattle.script_plain.proofs.ProgramLengths.ReadyLemmas.{ready-law}
-use Rattle.script_plain.proofs.Runs.StepLaws as steps
-use Rattle.script_plain.proofs.OwnWays.StoppedLaws.{stopped_ends}
+use Rattle.script_machine.proofs.Choices as choices
+use Rattle.script_machine.proofs.StoppedLaws.{stopped_ends}
 use Rattle.rcce_ue.specs.Left.{left_of, next_bound, open_left, rest_behind, rest_of, unless}
 use Rattle.rcce_ue.specs.Standing.{IsFree, IsLastTarget, OpStands, Stood, Tied, bytes_sent, keeping}
 use Rattle.rcce_ue.specs.Standing.Stood.{Runs, Refused}
@@ -51,8 +51,8 @@ peers_of s nue i j same within peer =
     let other = peer.other in
     let down : j < s.nue = omega (arith, same, below) in
     let apart : i ≢ j = λ e. other (sym e) in
-    steps.and_of (nat_lt i s.nue) (nat_lt j s.nue && not (i == j)) (lt-ltb i s.nue low)
-    (steps.and_of (nat_lt j s.nue) (not (i == j)) (lt-ltb j s.nue down) (ap not (eqb_other i j apart)))
+    choices.and_of (nat_lt i s.nue) (nat_lt j s.nue && not (i == j)) (lt-ltb i s.nue low)
+    (choices.and_of (nat_lt j s.nue) (not (i == j)) (lt-ltb j s.nue down) (ap not (eqb_other i j apart)))
 
 -- no register is held, in whichever layout
 pub holds_none : (layout : Layout) (hold : ℕ → Option FlagWords) → ((core : ℕ) → hold core ≡ None) → HoldsNoneBy layout hold

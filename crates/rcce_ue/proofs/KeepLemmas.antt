@@ -19,12 +19,12 @@ use Rattle.send_recv.specs.Turns.{LastHeld, OnlyTries, StoresFromBuffer, waits_a
 use Rattle.sync_flags.specs.Tries.{NoTry, Vain, Fruitful, Tried}
 use Rattle.barrier.specs.Flags.{IsParityOf}
 use Rattle.script_plain.specs.Collectives.{started}
-use Rattle.script_plain.specs.Local.{Local, local_next}
-use Rattle.script_plain.specs.Machine.{MachineView}
-use Rattle.script_plain.specs.Moves.{is_ended, is_stopped}
-use Rattle.script_plain.specs.Next.{Next, is_going}
-use Rattle.script_plain.specs.Next.Next.{Ends, Goes, Posts, Sends, Recvs, Bars}
-use Rattle.script_plain.specs.declared.posts.Posted.{Posted}
+use Rattle.script_machine.specs.Local.{Local, local_next}
+use Rattle.script_machine.specs.Machine.{MachineView}
+use Rattle.script_machine.specs.Moves.{is_ended, is_stopped}
+use Rattle.script_machine.specs.Next.{Next, is_going}
+use Rattle.script_machine.specs.Next.Next.{Ends, Goes, Posts, Sends, Recvs, Bars}
+use Rattle.script_machine.specs.declared.posts.Posted.{Posted}
 use Rattle.rcce_ue.specs.Left.{left_of, unless}
 use Rattle.rcce_ue.specs.Standing.{IsLastTarget, OpStands, Tied, bytes_sent}
 use Rattle.rcce_ue.specs.Turns.{IsBehind, UeDoes, UeMeans, UeTurned, Within, is_over, ue_aim}

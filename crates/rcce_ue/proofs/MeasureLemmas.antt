@@ -15,16 +15,16 @@ use Rattle.send_recv.specs.Sending.{of_chunk}
 use Rattle.send_recv.proofs.Starts.{new_receive_left}
 use Rattle.barrier.specs.Stages.{left_by}
 use Rattle.barrier.specs.declared.stages.BarStage.TheVariants.{Flip}
-use Rattle.script_plain.specs.declared.prims.Source.{Source}
-use Rattle.script_plain.specs.declared.prims.Source.TheVariants as source_of
-use Rattle.script_plain.specs.declared.prims.Standing.{Standing}
-use Rattle.script_plain.specs.declared.prims.Standing.TheVariants as standing
-use Rattle.script_plain.specs.Lengths.{Lengths, asked_length, length_at, lengths_after, lengths_of, source_length, with_register}
-use Rattle.script_plain.specs.Local.{Local, asked_head, local_next, next_by_act, next_by_prim, prim_by_standing, register_at, source_bytes}
-use Rattle.script_plain.specs.Next.{Next}
-use Rattle.script_plain.specs.Next.Next.{Ends, Goes, Posts, Sends, Recvs, Bars}
-use Rattle.script_plain.specs.Program.{Act, Prim}
-use Rattle.script_plain.proofs.ProgramLengths.NextLengths.{lengths_next}
+use Rattle.script_machine.specs.declared.prims.Source.{Source}
+use Rattle.script_machine.specs.declared.prims.Source.TheVariants as source_of
+use Rattle.script_machine.specs.declared.prims.Standing.{Standing}
+use Rattle.script_machine.specs.declared.prims.Standing.TheVariants as standing
+use Rattle.script_machine.specs.Lengths.{Lengths, asked_length, length_at, lengths_after, lengths_of, source_length, with_register}
+use Rattle.script_machine.specs.Local.{Local, asked_head, local_next, next_by_act, next_by_prim, prim_by_standing, register_at, source_bytes}
+use Rattle.script_machine.specs.Next.{Next}
+use Rattle.script_machine.specs.Next.Next.{Ends, Goes, Posts, Sends, Recvs, Bars}
+use Rattle.script_machine.specs.Program.{Act, Prim}
+use Rattle.script_machine.proofs.ProgramLengths.NextLengths.{lengths_next}
 use Rattle.rcce_ue.specs.Left.{barrier_bound, bound_of, bounds_left, next_bound, open_left, rest_of}
 use Rattle.rcce_ue.specs.Ues.{opened}
 use Rattle.rcce_ue.specs.declared.calls.Open.TheVariants.{Sending}

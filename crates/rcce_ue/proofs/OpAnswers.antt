@@ -15,10 +15,10 @@ use Rattle.send_recv.specs.declared.answers.RecvTurn.TheVariants as receive
 use Rattle.send_recv.specs.Ranks.{receiving, sending, with_slot}
 use Rattle.barrier.specs.Stages.{BarAt, BarStands, meeting}
 use Rattle.barrier.specs.Turns.{BarTurned}
-use Rattle.script_plain.specs.Local.{Local, local_next}
-use Rattle.script_plain.specs.Moves.{bytes_out, is_receiving, is_stopped, length_in, passed, refused, taken, went}
-use Rattle.script_plain.specs.Next.{Next, is_going}
-use Rattle.script_plain.specs.Next.Next.{Ends, Goes, Posts, Sends, Recvs, Bars}
+use Rattle.script_machine.specs.Local.{Local, local_next}
+use Rattle.script_machine.specs.Moves.{bytes_out, is_receiving, is_stopped, length_in, passed, refused, taken, went}
+use Rattle.script_machine.specs.Next.{Next, is_going}
+use Rattle.script_machine.specs.Next.Next.{Ends, Goes, Posts, Sends, Recvs, Bars}
 use Rattle.rcce_ue.specs.Standing.{IsRecvOf, Tied}
 use Rattle.rcce_ue.specs.Turns.{Turns}
 use Rattle.rcce_ue.specs.Ues.{UeView, counted, entered, posted_by}

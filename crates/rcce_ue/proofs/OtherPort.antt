@@ -12,9 +12,9 @@ use Rattle.sync_flags.proofs.TurnLemmas.{between_there, record_at_port}
 use Rattle.barrier.specs.Flags.{IsParityOf}
 use Rattle.barrier.proofs.OtherPort.{barrier_there}
 use Rattle.script_plain.specs.Collectives.{started}
-use Rattle.script_plain.specs.Local.{Local, local_next}
-use Rattle.script_plain.specs.Moves.{bytes_out, length_in}
-use Rattle.script_plain.specs.Next.{Next}
+use Rattle.script_machine.specs.Local.{Local, local_next}
+use Rattle.script_machine.specs.Moves.{bytes_out, length_in}
+use Rattle.script_machine.specs.Next.{Next}
 use Rattle.rcce_ue.specs.Standing.{OpStands, Stood, Tied, bytes_sent}
 use Rattle.rcce_ue.specs.Ues.{UeView, counted, is_sending}
 use Rattle.rcce_ue.specs.declared.calls.Open.{Open}

@@ -23,11 +23,11 @@ use Rattle.send_recv.specs.Ranks.{receiving}
 use Rattle.send_recv.proofs.Starts.{slot_stays}
 use Rattle.std.specs.List.{count_by, list_all}
 use Rattle.script_plain.specs.Collectives.{started}
-use Rattle.script_plain.specs.Local.{Local, local_next}
-use Rattle.script_plain.specs.Moves.{is_stopped, length_in, refused, taken}
-use Rattle.script_plain.specs.Next.{Next}
-use Rattle.script_plain.specs.Next.Next.{Recvs}
-use Rattle.script_plain.proofs.OwnWays.StoppedLaws.{refused_stops}
+use Rattle.script_machine.specs.Local.{Local, local_next}
+use Rattle.script_machine.specs.Moves.{is_stopped, length_in, refused, taken}
+use Rattle.script_machine.specs.Next.{Next}
+use Rattle.script_machine.specs.Next.Next.{Recvs}
+use Rattle.script_machine.proofs.StoppedLaws.{refused_stops}
 use Rattle.rcce_ue.specs.Left.{left_of, next_bound, rest_of, unless}
 use Rattle.rcce_ue.specs.Standing.{IsFree, IsRecvOf, Tied, bytes_sent, keeping}
 use Rattle.rcce_ue.specs.Turns.{Behind, IsStill, Turns}

@@ -18,11 +18,11 @@ use Rattle.send_recv.specs.declared.stages.SendStage.{SendStage}
 use Rattle.send_recv.specs.Ranks.{sending}
 use Rattle.send_recv.proofs.Starts.{slot_left_most}
 use Rattle.script_plain.specs.Collectives.{started}
-use Rattle.script_plain.specs.Local.{Local, local_next}
-use Rattle.script_plain.specs.Machine.{on_its_way}
-use Rattle.script_plain.specs.Moves.{bytes_out, is_stopped, passed}
-use Rattle.script_plain.specs.Next.{Next}
-use Rattle.script_plain.specs.Next.Next.{Posts, Sends}
+use Rattle.script_machine.specs.Local.{Local, local_next}
+use Rattle.script_machine.specs.Machine.{on_its_way}
+use Rattle.script_machine.specs.Moves.{bytes_out, is_stopped, passed}
+use Rattle.script_machine.specs.Next.{Next}
+use Rattle.script_machine.specs.Next.Next.{Posts, Sends}
 use Rattle.rcce_ue.specs.Left.{at_end, left_of, next_bound, rest_of}
 use Rattle.rcce_ue.specs.Standing.{IsFree, IsSendOf, Tied, keeping}
 use Rattle.rcce_ue.specs.Turns.{Behind, IsStill, Turns}

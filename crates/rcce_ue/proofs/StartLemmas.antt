@@ -11,7 +11,7 @@ use Rattle.sync_flags.proofs.TurnLemmas.{record_at_start}
 use Rattle.barrier.specs.Flags.{value_at}
 use Rattle.barrier.proofs.OtherPort as barrier
 use Rattle.script_plain.specs.Collectives.{started}
-use Rattle.script_plain.specs.Local.{Local, local_start}
+use Rattle.script_machine.specs.Local.{Local, local_start}
 use Rattle.script_plain.specs.Paths.Came.{Began}
 use Rattle.rcce_ue.specs.Bounds.{bounds_of, visits}
 use Rattle.rcce_ue.specs.Left.{left_of, rest_of}

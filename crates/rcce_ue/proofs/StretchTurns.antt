@@ -10,8 +10,8 @@ use Rattle.send_recv.specs.Receiving.{RecvStands, RecvTurned}
 use Rattle.send_recv.specs.Sending.{SendStands}
 use Rattle.send_recv.specs.Stretches as line
 use Rattle.send_recv.specs.Stretches.{WroteLines, WroteOne, WroteMore, ReadLines, ReadOne, ReadMore}
-use Rattle.script_plain.specs.Local.{local_next}
-use Rattle.script_plain.specs.Moves.{bytes_out, length_in}
+use Rattle.script_machine.specs.Local.{local_next}
+use Rattle.script_machine.specs.Moves.{bytes_out, length_in}
 use Rattle.rcce_ue.specs.Standing.{Tied}
 use Rattle.rcce_ue.specs.Stretches.{Moves, MovedOnce, MovedOn, is_reading, is_writing}
 use Rattle.rcce_ue.specs.Ues.{UeView}

@@ -5,8 +5,8 @@ use Rattle.scc_base.specs.Setups.{SetupView}
 use Rattle.script_reader.specs.Script.{Script, has_rank}
 use Rattle.script_reader.specs.declared.script.Item.{Item}
 use Rattle.script_reader.specs.declared.script.Stmt.{Stmt}
-use Rattle.script_plain.specs.Program.{Act, Prim, Unrolled, acts_by, acts_of, begins, call_steps, collective_of, copies, in_front, nesting_at, part_of, prims_of, program_of, repeated, setup_of, single_of, unrolled}
-use Rattle.script_plain.specs.declared.prims.Collective.{Collective}
+use Rattle.script_machine.specs.Program.{Act, Prim, Unrolled, acts_by, acts_of, begins, call_steps, collective_of, copies, in_front, nesting_at, part_of, prims_of, program_of, repeated, setup_of, single_of, unrolled}
+use Rattle.script_machine.specs.declared.prims.Collective.{Collective}
 use Rattle.script_reader.specs.declared.effect.Nesting.{Nesting}
 use Rattle.script_reader.specs.declared.effect.Nesting.TheVariants as nesting
 use Rattle.std.specs.Option.{option_to_list}

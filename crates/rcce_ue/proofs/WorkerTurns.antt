@@ -20,11 +20,11 @@ use Rattle.send_recv.specs.Ops.{RecvAt, SendAt}
 use Rattle.send_recv.specs.Turns as sr
 use Rattle.barrier.specs.Flags.{IsParityOf}
 use Rattle.barrier.specs.Stages.{BarAt}
-use Rattle.script_plain.specs.Local.{Local, local_next}
-use Rattle.script_plain.specs.Moves.{bytes_out, is_ended, is_stopped, length_in}
-use Rattle.script_plain.specs.Next.{Next}
-use Rattle.script_plain.specs.Next.Next.{Ends, Goes, Posts, Sends, Recvs, Bars}
-use Rattle.script_plain.proofs.OwnWays.StoppedLaws.{stopped_ends}
+use Rattle.script_machine.specs.Local.{Local, local_next}
+use Rattle.script_machine.specs.Moves.{bytes_out, is_ended, is_stopped, length_in}
+use Rattle.script_machine.specs.Next.{Next}
+use Rattle.script_machine.specs.Next.Next.{Ends, Goes, Posts, Sends, Recvs, Bars}
+use Rattle.script_machine.proofs.StoppedLaws.{stopped_ends}
 use Rattle.rcce_ue.specs.Standing.{IsBarOf, IsRecvOf, IsSendOf, OpStands, Tied}
 use Rattle.rcce_ue.specs.Stretches.{MovedOn, MovedOnce, UeMoves}
 use Rattle.rcce_ue.specs.Turns.{UeTurned, aim_by, ue_aim}

@@ -3,10 +3,10 @@ use Rattle.std.specs.Prelude.{ℕ, ◌+◌, ◌-◌, ◌*◌, if◌then◌else�
 use Rattle.scc_base.specs.Setups.{SetupView}
 use Rattle.script_reader.specs.Script.{Script, has_rank}
 use Rattle.script_reader.specs.declared.script.Item.{Item}
-use Rattle.script_plain.specs.Lengths.{lengths_of}
-use Rattle.script_plain.specs.Local.{local_start}
-use Rattle.script_plain.specs.Program.{call_steps, collective_of, nesting_at, program_of, setup_of}
-use Rattle.script_plain.specs.declared.prims.Collective.{Collective}
+use Rattle.script_machine.specs.Lengths.{lengths_of}
+use Rattle.script_machine.specs.Local.{local_start}
+use Rattle.script_machine.specs.Program.{call_steps, collective_of, nesting_at, program_of, setup_of}
+use Rattle.script_machine.specs.declared.prims.Collective.{Collective}
 use Rattle.script_reader.specs.declared.effect.Nesting.{Nesting}
 use Rattle.script_reader.specs.declared.effect.Nesting.TheVariants as nesting
 use Rattle.std.specs.Prelude.{Option, Some, None}

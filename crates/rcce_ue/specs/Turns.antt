@@ -21,10 +21,10 @@ use Rattle.sync_flags.specs.Tries.{Aim, Tried}
 use Rattle.barrier.specs.Flags.{value_at}
 use Rattle.barrier.specs.Stages as barrier
 use Rattle.barrier.specs.Turns as barrier_turn
-use Rattle.script_plain.specs.Local.{Local, local_next}
-use Rattle.script_plain.specs.Moves.{bytes_out, is_ended, is_stopped, length_in}
-use Rattle.script_plain.specs.Next.{Next, is_going}
-use Rattle.script_plain.specs.Next.Next.{Ends, Goes, Posts, Sends, Recvs, Bars}
+use Rattle.script_machine.specs.Local.{Local, local_next}
+use Rattle.script_machine.specs.Moves.{bytes_out, is_ended, is_stopped, length_in}
+use Rattle.script_machine.specs.Next.{Next, is_going}
+use Rattle.script_machine.specs.Next.Next.{Ends, Goes, Posts, Sends, Recvs, Bars}
 use Rattle.rcce_ue.specs.Left.{left_of}
 use Rattle.rcce_ue.specs.Standing.{Tied}
 use Rattle.rcce_ue.specs.Ues.{UeView, opened}

@@ -9,11 +9,11 @@ use Rattle.send_recv.specs.Ops.{SlotAt, new_receive, new_send}
 use Rattle.barrier.specs.Stages.{new_barrier}
 use Rattle.script_reader.specs.Script.{rules_of}
 use Rattle.script_reader.specs.Settled.{IsWhole}
-use Rattle.script_plain.specs.Local.{local_next}
-use Rattle.script_plain.specs.Machine.{MachineView, on_its_way}
-use Rattle.script_plain.specs.Next.{Next, call_of}
-use Rattle.script_plain.specs.Next.Next.{Posts}
-use Rattle.script_plain.specs.declared.posts.OnItsWay.{OnItsWay}
+use Rattle.script_machine.specs.Local.{local_next}
+use Rattle.script_machine.specs.Machine.{MachineView, on_its_way}
+use Rattle.script_machine.specs.Next.{Next, call_of}
+use Rattle.script_machine.specs.Next.Next.{Posts}
+use Rattle.script_machine.specs.declared.posts.OnItsWay.{OnItsWay}
 use Rattle.rcce_ue.specs.declared.calls.Open.{Open}
 use Rattle.rcce_ue.specs.declared.calls.Open.TheVariants.{Nothing, Sending, Receiving, Meeting}
 

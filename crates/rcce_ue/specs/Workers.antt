@@ -3,10 +3,10 @@ use Rattle.std.specs.Prelude.{◌≡◌, ℕ, if◌then◌else◌, List, Option,
 use Rattle.scc_base.specs.Setups.{SetupView}
 use Rattle.scc_base.specs.declared.events.Event.{Event}
 use Rattle.scc_proto.specs.Ports.{Sight}
-use Rattle.script_plain.specs.Local.{local_next}
-use Rattle.script_plain.specs.Moves.{is_stopped}
-use Rattle.script_plain.specs.Next.{Next}
-use Rattle.script_plain.specs.Next.Next.{Ends, Goes, Posts, Sends, Recvs, Bars}
+use Rattle.script_machine.specs.Local.{local_next}
+use Rattle.script_machine.specs.Moves.{is_stopped}
+use Rattle.script_machine.specs.Next.{Next}
+use Rattle.script_machine.specs.Next.Next.{Ends, Goes, Posts, Sends, Recvs, Bars}
 use Rattle.chip_run.specs.Conducts.{Conduct, WorkerView}
 use Rattle.chip_run.specs.Turns.{RankHoldsNone}
 use Rattle.chip_run.specs.Wants.{Want}

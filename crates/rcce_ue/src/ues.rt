@@ -1,7 +1,7 @@
 //! A unit of execution: one script on one core.
 
 ghost use Rattle.std.specs.Prelude.{◌≡◌};
-ghost use Rattle.script_plain.specs.Local.{local_next};
+ghost use Rattle.script_machine.specs.Local.{local_next};
 ghost use Rattle.rcce_ue.specs.Ues.{posted_by};
 
 use crate::calls::{Open, begin};
@@ -11,7 +11,7 @@ use line_cache::Evict;
 use put_get::Core;
 use scc_base::{Call, Head, Rank, Setup, Turn};
 use scc_proto::Port;
-use script_plain::{Machine, OnItsWay, PrintedItem, UeEnd};
+use script_machine::{Machine, OnItsWay, PrintedItem, UeEnd};
 use script_reader::Scripts;
 use send_recv::{RecvTurn, Slot};
 use std::alloc::{AllocError, Global};
@@ -71,8 +71,8 @@ impl<'s, V: Evict> Ue<'s, V> {
     ghost use Rattle.put_get.specs.Cores.{MadeSteps};
     ghost use Rattle.send_recv.specs.Turns.{waits_at};
     ghost use Rattle.script_plain.specs.Collectives.{started};
-    ghost use Rattle.script_plain.specs.Moves.{bytes_out, is_passable, is_receiving, is_stopped, length_in, passed, refused, taken, went};
-    ghost use Rattle.script_plain.specs.Next.{is_going};
+    ghost use Rattle.script_machine.specs.Moves.{bytes_out, is_passable, is_receiving, is_stopped, length_in, passed, refused, taken, went};
+    ghost use Rattle.script_machine.specs.Next.{is_going};
     ghost use Rattle.rcce_ue.specs.Bounds.{bounds_of, visits};
     ghost use Rattle.rcce_ue.specs.Left.{left_of};
     ghost use Rattle.rcce_ue.specs.Standing.{Tied};
@@ -192,7 +192,7 @@ impl<'s, V: Evict + Drop> Ue<'s, V> {
     ghost use Rattle.std.specs.Prelude.{◌≡◌, ◌≤◌, ◌<◌, ◌+◌, [], IfOk};
     ghost use Rattle.scc_proto.specs.Ports.{Sight};
     ghost use Rattle.script_reader.specs.Script.{rules_of};
-    ghost use Rattle.script_plain.specs.Local.{local_start};
+    ghost use Rattle.script_machine.specs.Local.{local_start};
     ghost use Rattle.rcce_ue.specs.Bounds.{bounds_of, visits};
     ghost use Rattle.rcce_ue.specs.Left.{left_of};
     ghost use Rattle.rcce_ue.specs.Standing.{Tied};
@@ -235,11 +235,11 @@ impl<'s, V: Evict + Drop> Ue<'s, V> {
 impl<'s, V: Evict> Ue<'s, V> {
     ghost use Rattle.std.specs.Prelude.{◌≡◌, ◌<◌, false, not, length, slice_get, Option, Some};
     ghost use Rattle.std.specs.Option.{option_map};
-    ghost use Rattle.script_plain.specs.Local.{end_of};
-    ghost use Rattle.script_plain.specs.Machine.{on_its_way};
-    ghost use Rattle.script_plain.specs.Moves.{is_stopped};
-    ghost use Rattle.script_plain.specs.Next.{is_going};
-    ghost use Rattle.script_plain.specs.declared.posts.Posted.{Posted};
+    ghost use Rattle.script_machine.specs.Local.{end_of};
+    ghost use Rattle.script_machine.specs.Machine.{on_its_way};
+    ghost use Rattle.script_machine.specs.Moves.{is_stopped};
+    ghost use Rattle.script_machine.specs.Next.{is_going};
+    ghost use Rattle.script_machine.specs.declared.posts.Posted.{Posted};
     ghost use Rattle.rcce_ue.specs.Ues.{in_slot};
 
     /// Whether no statement of the rank's own stands next, so that it can be told how the run stands.

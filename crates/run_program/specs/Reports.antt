@@ -1,8 +1,8 @@
 -- What a run of `rccerun` writes (this project's profile).
 use Rattle.std.specs.Prelude.{ℕ, ◌+◌, List, [], ◌∷◌, ◌++◌, map, slice_index_or, Option, Some, None}
-use Rattle.script_plain.specs.declared.ends.UeEnd.{UeEnd}
-use Rattle.script_plain.specs.declared.ends.UeEnd.TheVariants as ue_end
-use Rattle.script_plain.specs.Printed.{Printed}
+use Rattle.script_machine.specs.declared.ends.UeEnd.{UeEnd}
+use Rattle.script_machine.specs.declared.ends.UeEnd.TheVariants as ue_end
+use Rattle.script_machine.specs.Printed.{Printed}
 use Rattle.script_plain.specs.Ends.{Ended, all_finished}
 use Rattle.script_plain.specs.Meaning.{plain_ends}
 use Rattle.script_reader.specs.Script.{Script}

@@ -2,7 +2,7 @@
 use Rattle.std.specs.Prelude.{◌≡◌, ℕ, ◌*◌, ◌<◌, ◌≤◌, Option, None, Some, List, length, slice_get, slice_index_or, sum_by}
 use Rattle.script_reader.specs.Script.{Script}
 use Rattle.script_plain.specs.Ends.{ended_at}
-use Rattle.script_plain.specs.Local.{cost_of, local_start}
+use Rattle.script_machine.specs.Local.{cost_of, local_start}
 use Rattle.script_plain.specs.Meaning.{State, plain_end, plain_ends}
 use Rattle.script_gen.specs.Outcome.{sends_of_call, sent_bytes_of}
 use Rattle.script_gen.specs.Scripts.{gen_script_of}

@@ -11,7 +11,7 @@ use groups::Ty;
 use rcce_io::Piece::{Hex, Number, Text};
 use rcce_io::{Sink, TextSource, WriteFault, write_texts};
 use scc_base::{Call, Head, Rank};
-use script_plain::{PrintedItem, UeEnd};
+use script_machine::{PrintedItem, UeEnd};
 use script_reader::Form;
 
 /// The name of a type of values.

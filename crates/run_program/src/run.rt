@@ -8,7 +8,7 @@ use line_cache::Choice;
 use rcce_io::{Sink, WriteFault};
 use rcce_run::Crew;
 use scc_base::Rank;
-use script_plain::{PrintedItem, UeEnd};
+use script_machine::{PrintedItem, UeEnd};
 use script_reader::Scripts;
 use std::marker::Model;
 

@@ -8,7 +8,7 @@ use line_cache::Evict;
 use rcce_ue::Ue;
 use scc_base::{CoreId, Layout, Setup};
 use scc_mesh::Chip;
-use script_plain::UeEnd;
+use script_machine::UeEnd;
 use script_reader::Scripts;
 use std::alloc::{AllocError, Global};
 

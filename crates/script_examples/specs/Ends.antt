@@ -8,10 +8,10 @@ use Rattle.script_reader.specs.declared.fault.ReadFault.{ReadFault}
 use Rattle.script_reader.specs.declared.script.Form.TheVariants as form
 use Rattle.script_reader.specs.Faults.{◌>>=◌}
 use Rattle.script_reader.specs.Reading.{parse_script}
-use Rattle.script_plain.specs.declared.ends.UeEnd.TheVariants as ue_end
+use Rattle.script_machine.specs.declared.ends.UeEnd.TheVariants as ue_end
 use Rattle.script_plain.specs.Ends.{Ended}
 use Rattle.script_plain.specs.Meaning.{plain_ends}
-use Rattle.script_plain.specs.Printed.{Printed}
+use Rattle.script_machine.specs.Printed.{Printed}
 
 -- what the ranks of a script leave behind at the end of its run, or the first fault of the script
 abbrev pub ends_of_text : List ℕ → ℕ → Result (List Ended) ReadFault

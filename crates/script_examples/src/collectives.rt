@@ -1,5 +1,5 @@
 //! Barriers and collective calls of all ranks and of groups.
-#![tactic(auto, unfolding(scc_base::specs::Communicators::key_of, texts::specs::Numbers::number_of, script_plain::specs::Local::local_next, script_plain::specs::Program::unrolled, hex::specs::Hex::decode_pairs))]
+#![tactic(auto, unfolding(scc_base::specs::Communicators::key_of, texts::specs::Numbers::number_of, script_machine::specs::Local::local_next, script_machine::specs::Program::unrolled, hex::specs::Hex::decode_pairs))]
 
 ghost use Rattle.std.specs.Prelude.{◌≡◌, [], ◌∷◌, codes, Ok, neg_ℤ, pos};
 ghost use Rattle.scc_base.specs.Heads.{plain_head};

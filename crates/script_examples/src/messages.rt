@@ -1,5 +1,5 @@
 //! Messages between two ranks and in a ring.
-#![tactic(auto, unfolding(texts::specs::Numbers::number_of, script_plain::specs::Local::local_next, script_plain::specs::Program::unrolled, hex::specs::Hex::decode_pairs))]
+#![tactic(auto, unfolding(texts::specs::Numbers::number_of, script_machine::specs::Local::local_next, script_machine::specs::Program::unrolled, hex::specs::Hex::decode_pairs))]
 
 ghost use Rattle.std.specs.Prelude.{◌≡◌, [], ◌∷◌, codes, Ok, pos};
 ghost use Rattle.scc_base.specs.Heads.{plain_head};

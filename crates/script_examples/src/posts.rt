@@ -1,5 +1,5 @@
 //! Messages that a rank leaves in its buffer.
-#![tactic(auto, unfolding(texts::specs::Numbers::number_of, script_plain::specs::Local::local_next, script_plain::specs::Program::unrolled, hex::specs::Hex::decode_pairs))]
+#![tactic(auto, unfolding(texts::specs::Numbers::number_of, script_machine::specs::Local::local_next, script_machine::specs::Program::unrolled, hex::specs::Hex::decode_pairs))]
 
 ghost use Rattle.std.specs.Prelude.{◌≡◌, [], ◌∷◌, codes, Ok, Err};
 ghost use Rattle.scc_base.specs.Heads.{plain_head};

@@ -1,5 +1,5 @@
 //! What a rank does by itself.
-#![tactic(auto, unfolding(texts::specs::Numbers::number_of, script_plain::specs::Local::local_next, script_plain::specs::Program::unrolled))]
+#![tactic(auto, unfolding(texts::specs::Numbers::number_of, script_machine::specs::Local::local_next, script_machine::specs::Program::unrolled))]
 
 ghost use Rattle.std.specs.Prelude.{◌≡◌, [], ◌∷◌, codes, Ok, pos};
 ghost use Rattle.groups.specs.declared.operations.Ty.TheVariants.{Int};

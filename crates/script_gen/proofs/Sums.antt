@@ -11,16 +11,16 @@ use Rattle.scc_base.specs.Groups.{is_with}
 use Rattle.scc_base.specs.Heads.{MessageHead}
 use Rattle.script_reader.specs.Script.{Script}
 use Rattle.script_plain.specs.declared.matches.Match.{Match}
-use Rattle.script_plain.specs.declared.posts.Posted.{Posted}
-use Rattle.script_plain.specs.declared.prims.Standing.{Standing}
-use Rattle.script_plain.specs.declared.prims.Standing.TheVariants as standing
+use Rattle.script_machine.specs.declared.posts.Posted.{Posted}
+use Rattle.script_machine.specs.declared.prims.Standing.{Standing}
+use Rattle.script_machine.specs.declared.prims.Standing.TheVariants as standing
 use Rattle.script_plain.specs.Collectives.{started}
-use Rattle.script_plain.specs.Local.{Local, local_next, next_by_act, next_by_prim, prim_by_standing}
-use Rattle.script_plain.specs.Matches.{brought, brought_by, line_at, line_of, lowest_brought, match_of, matches_on, plain_matches, step_brought, taken}
+use Rattle.script_machine.specs.Local.{Local, local_next, next_by_act, next_by_prim, prim_by_standing, line_of}
+use Rattle.script_plain.specs.Matches.{brought, brought_by, line_at, lowest_brought, match_of, matches_on, plain_matches, step_brought, brought_by_take}
 use Rattle.script_plain.specs.Meaning.{State, keys_of, next_of, plain_end, recorded, start_of, steps_left}
-use Rattle.script_plain.specs.Next.{Next, is_at_barrier, past_barrier}
-use Rattle.script_plain.specs.Next.Next.{Ends, Goes, Posts, Sends, Recvs, Bars}
-use Rattle.script_plain.specs.Program.{Act, Prim}
+use Rattle.script_machine.specs.Next.{Next, is_at_barrier, past_barrier}
+use Rattle.script_machine.specs.Next.Next.{Ends, Goes, Posts, Sends, Recvs, Bars}
+use Rattle.script_machine.specs.Program.{Act, Prim}
 use Rattle.script_plain.specs.Step.{Configuration, all_at_barrier, by_rank, lowest, lowest_step, next_at, past_if, run_on, slot_at, step_of}
 use Rattle.script_plain.proofs.OwnWays.CameDid.{logged}
 use Rattle.script_plain.proofs.Messages.KeptLaws.{AllKept, KeepsNext, kept_runs}
@@ -176,7 +176,7 @@ module _ (m : DataCall → ℕ) (g : MessageHead → ℕ) (is : Measures m g) (l
       let stays : counted (refuse sent) ≡ counted here.0 + 0 = ap (sum_by m) ((logged here.0 (Recvs j asked take refuse) here.2).1 sent) ∙ omega arith in
       let now = more_at c.cells i (refuse sent) here.0 0 here.1 stays in
       let none : brings (brought next_of line c i) ≡ 0 =
-      ap (λ (n : Next State). brings (brought_by line c i n)) at ∙ ap (λ (o : Option Posted). brings (taken i j asked (line_at line c i) o)) slot in
+      ap (λ (n : Next State). brings (brought_by line c i n)) at ∙ ap (λ (o : Option Posted). brings (brought_by_take i j asked (line_at line c i) o)) slot in
       subst (Adds c i) (sym made) (now ∙ ap (λ (n : ℕ). total c + n) (sym none))
   step_adds keys c d i quiet (Passed comm after at root all made) =
       let now : sum_by counted (by_rank (λ rank. past_if next_of (is_with (keys comm) i rank)) c.cells) ≡ sum_by counted c.cells + 0 = passed_counted c comm (is_with (keys comm) i) all ∙ omega arith in

@@ -15,9 +15,9 @@ use Rattle.script_reader.specs.Effects.{effect_of}
 use Rattle.script_reader.specs.Script.{Script, has_rank}
 use Rattle.script_reader.specs.declared.effect.Nesting.{Nesting}
 use Rattle.script_reader.specs.declared.effect.Nesting.TheVariants as nesting
-use Rattle.script_plain.specs.declared.prims.Operands.{Operands}
-use Rattle.script_plain.specs.Program.{Act, Prim, Unrolled, acts_of, call_steps, can_call, copies, in_front, nesting_at, part_of, begins, prims_of, program_of, repeated, setup_of, unrolled}
-use Rattle.script_plain.specs.Program.Act.{Post}
+use Rattle.script_machine.specs.declared.prims.Operands.{Operands}
+use Rattle.script_machine.specs.Program.{Act, Prim, Unrolled, acts_of, call_steps, can_call, copies, in_front, nesting_at, part_of, begins, prims_of, program_of, repeated, setup_of, unrolled}
+use Rattle.script_machine.specs.Program.Act.{Post}
 use Rattle.script_gen.specs.Scripts.{gen_script_of, lone_script, ring_script}
 use Rattle.script_gen.specs.Texts.{turns_of}
 use Rattle.script_gen.proofs.Checks.{allreduce_short}

@@ -1,7 +1,7 @@
 //! The laws of generated scripts: what the reader makes of them, and what their ranks send.
 
 ghost use Rattle.std.specs.Prelude.{◌≡◌, ◌≤◌, ℕ, Ok, length};
-ghost use Rattle.script_plain.specs.Local.{cost_of, local_start};
+ghost use Rattle.script_machine.specs.Local.{cost_of, local_start};
 ghost use Rattle.script_plain.specs.Matches.{plain_matches};
 ghost use Rattle.script_plain.specs.Meaning.{plain_end};
 ghost use Rattle.script_reader.specs.Reading.{parse_script};

@@ -5,7 +5,7 @@ use Rattle.std.specs.List.{count_by}
 use Rattle.scc_base.specs.Calls.{DataCall}
 use Rattle.scc_base.specs.Calls.DataCall.{Send, Recv, Post, Bar}
 use Rattle.script_plain.specs.Meaning.{State, next_of}
-use Rattle.script_plain.specs.Next.{is_at_barrier}
+use Rattle.script_machine.specs.Next.{is_at_barrier}
 use Rattle.script_plain.specs.Step.{Configuration}
 
 -- whether a call is a barrier of this communicator

@@ -6,18 +6,14 @@ use Rattle.scc_base.specs.Heads.{MessageHead}
 use Rattle.scc_base.specs.Setups.{SetupView}
 use Rattle.scc_base.specs.declared.calls.Call.{Call}
 use Rattle.scc_base.specs.declared.calls.Call.TheVariants as call
-use Rattle.script_plain.specs.declared.posts.Posted.{Posted}
-use Rattle.script_plain.specs.declared.prims.Action.{Action}
+use Rattle.script_machine.specs.declared.posts.Posted.{Posted}
 use Rattle.script_plain.specs.declared.steps.Step.{Step}
 use Rattle.script_plain.specs.declared.steps.Step.TheVariants as step
 use Rattle.script_plain.specs.declared.matches.Match.{Match}
-use Rattle.script_plain.specs.Local.{Local, cost_of, local_next}
-use Rattle.script_plain.specs.Matches.{brought, line_of, step_brought}
-use Rattle.script_plain.specs.Next.{Next, call_of, is_going}
-use Rattle.script_plain.specs.Next.Next.{Ends, Goes, Posts, Sends, Recvs, Bars}
-use Rattle.script_plain.specs.Program.{Act}
-use Rattle.script_plain.specs.Program.Act.{Set, Own, Send, Post, Recv, Gather, Bar, Begin, Fold, Accept, Finish}
-use Rattle.script_plain.specs.Walk.{act_meant}
+use Rattle.script_machine.specs.Local.{Local, cost_of, local_next, line_of}
+use Rattle.script_plain.specs.Matches.{brought, step_brought}
+use Rattle.script_machine.specs.Next.{Next, call_of, is_going}
+use Rattle.script_machine.specs.Next.Next.{Ends, Goes, Posts, Sends, Recvs, Bars}
 use Rattle.script_plain.specs.Step.{Configuration, same_head, all_at_barrier, step_of, lowest_step, run_on}
 
 -- a setup with as many ranks as these, each with a slot, and with sixteen communicators
@@ -101,24 +97,6 @@ HasRefused (Posts message after) sent new = ⊥
 HasRefused (Sends to head bytes after) sent new = ⊥
 HasRefused (Recvs from head take refuse) sent new = new ≡ refuse sent
 HasRefused (Bars comm after) sent new = ⊥
-
--- whether a primitive is one of the rank alone
-abbrev pub is_own_act : Act → Bool
-is_own_act (Set reg content) = true
-is_own_act (Own own) = true
-is_own_act (Send to head source) = false
-is_own_act (Post to reg) = false
-is_own_act (Recv from reg head) = false
-is_own_act (Gather from head sized) = false
-is_own_act (Bar comm) = false
-is_own_act (Begin reg) = true
-is_own_act (Fold op ty) = true
-is_own_act (Accept reg) = true
-is_own_act (Finish reg) = true
-
--- whether an action is the rank's own: it needs no other rank
-abbrev pub is_own : Action → Bool
-is_own action = is_own_act (act_meant action)
 
 -- the call at which a rank stands
 abbrev pub call_at : List Local → ℕ → Option Call

@@ -2,11 +2,11 @@
 use Rattle.std.specs.Prelude.{ℕ, Bool, true, false, List, length, map, Option, None, slice_index_or}
 use Rattle.std.specs.List.{list_all, range_with_len}
 use Rattle.std.specs.Option.{option_map}
-use Rattle.script_plain.specs.declared.ends.UeEnd.{UeEnd}
-use Rattle.script_plain.specs.declared.ends.UeEnd.TheVariants as ue_end
-use Rattle.script_plain.specs.declared.posts.Posted.{Posted}
-use Rattle.script_plain.specs.Printed.{Printed}
-use Rattle.script_plain.specs.Local.{Local, end_of, local_at, nobody}
+use Rattle.script_machine.specs.declared.ends.UeEnd.{UeEnd}
+use Rattle.script_machine.specs.declared.ends.UeEnd.TheVariants as ue_end
+use Rattle.script_machine.specs.declared.posts.Posted.{Posted}
+use Rattle.script_machine.specs.Printed.{Printed}
+use Rattle.script_machine.specs.Local.{Local, end_of, local_at, nobody}
 
 -- how a rank's run ended, the items that it printed, and the target of its posted message that was not taken
 pub record Ended : Type 0 where

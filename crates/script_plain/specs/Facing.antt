@@ -2,21 +2,12 @@
 use Rattle.std.specs.Prelude.{◌≡◌, ◌≢◌, ℕ, ◌<◌, ◌==◌, Bool, true, false, List, None}
 use Rattle.std.specs.Option.{option_map_or}
 use Rattle.std.specs.Prelude.{slice_get}
-use Rattle.script_plain.specs.declared.facing.Facing.{Facing}
-use Rattle.script_plain.specs.declared.facing.Facing.TheVariants as facing
-use Rattle.script_plain.specs.Local.{Local, local_next}
-use Rattle.script_plain.specs.Next.{Next}
-use Rattle.script_plain.specs.Next.Next.{Ends, Goes, Posts, Sends, Recvs, Bars}
+use Rattle.script_machine.specs.declared.facing.Facing.{Facing}
+use Rattle.script_machine.specs.declared.facing.Facing.TheVariants as facing
+use Rattle.script_machine.specs.Local.{Local, local_next}
+use Rattle.script_machine.specs.Next.{facing_of}
+use Rattle.script_machine.specs.Next.Next.{Ends}
 use Rattle.script_plain.specs.Step.{Configuration, step_of}
-
--- the rank at the other end of a message, or the group of a barrier
-abbrev pub facing_of : {U : Type 0} → Next U → Facing
-facing_of Ends = facing.Nobody
-facing_of (Goes after) = facing.Nobody
-facing_of (Posts message after) = facing.Nobody
-facing_of (Sends to head bytes after) = facing.One to
-facing_of (Recvs from head take refuse) = facing.One from
-facing_of (Bars comm after) = facing.Group
 
 -- whom rank i faces: nobody where there is no such rank
 abbrev pub facing_at : List Local → ℕ → Facing

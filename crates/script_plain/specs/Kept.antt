@@ -4,10 +4,10 @@ use Rattle.std.specs.Prelude.{◌⊎◌}
 use Rattle.scc_base.specs.Heads.{MessageHead, most_post}
 use Rattle.script_reader.specs.Checks.{length_at}
 use Rattle.script_reader.specs.Script.{Script}
-use Rattle.script_plain.specs.Local.{Local, register_at}
-use Rattle.script_plain.specs.Next.{Next}
-use Rattle.script_plain.specs.Next.Next.{Ends, Goes, Posts, Sends, Recvs, Bars}
-use Rattle.script_plain.specs.Program.{Act, Prim}
+use Rattle.script_machine.specs.Local.{Local, register_at}
+use Rattle.script_machine.specs.Next.{Next}
+use Rattle.script_machine.specs.Next.Next.{Ends, Goes, Posts, Sends, Recvs, Bars}
+use Rattle.script_machine.specs.Program.{Act, Prim}
 
 -- the length of each register of a rank, where it is set
 abbrev pub reckoned_at : Script → ℕ → ℕ → Option ℕ

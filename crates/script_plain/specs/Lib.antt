@@ -1,8 +1,4 @@
-pub mod Program
-pub mod Walk
-pub mod Next
 pub mod Facing
-pub mod Local
 pub mod Ends
 pub mod Step
 pub mod Paths
@@ -13,15 +9,6 @@ pub mod Messages
 pub mod Matches
 pub mod HeldUp
 pub mod Collectives
-pub mod Moves
-pub mod Lengths
-pub mod Machine
-pub mod Depths
-pub mod Rooms
-pub mod Holds
 pub mod Kept
-pub mod Printed
 pub mod Ready
-pub mod CallLists
 pub mod Reached
-pub mod Passes

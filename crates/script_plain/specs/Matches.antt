@@ -3,17 +3,13 @@ use Rattle.std.specs.Prelude.{ℕ, zero, suc, ◌+◌, if◌then◌else◌, is_s
 use Rattle.std.specs.Option.{option_map_or}
 use Rattle.scc_base.specs.Heads.{MessageHead}
 use Rattle.script_plain.specs.declared.matches.Match.{Match}
-use Rattle.script_plain.specs.declared.posts.Posted.{Posted}
-use Rattle.script_plain.specs.Local.{Local, next_prim}
+use Rattle.script_machine.specs.declared.posts.Posted.{Posted}
+use Rattle.script_machine.specs.Local.{line_of}
 use Rattle.script_plain.specs.Meaning.{keys_of, next_of, start_of, steps_left}
-use Rattle.script_plain.specs.Next.{Next}
-use Rattle.script_plain.specs.Next.Next.{Ends, Goes, Posts, Sends, Recvs, Bars}
+use Rattle.script_machine.specs.Next.{Next}
+use Rattle.script_machine.specs.Next.Next.{Ends, Goes, Posts, Sends, Recvs, Bars}
 use Rattle.script_plain.specs.Step.{Configuration, lowest_step, next_at, same_head, slot_at, step_of}
 use Rattle.script_reader.specs.Script.{Script}
-
--- the line of the statement that a rank does next
-abbrev pub line_of : Local → ℕ
-line_of u = option_map_or (λ prim. prim.line) (next_prim u) 0
 
 -- the line of the statement at which rank i stands
 abbrev pub line_at : {U : Type 0} → (U → ℕ) → Configuration U → ℕ → ℕ
@@ -25,9 +21,10 @@ match_of from to head send_line recv_line =
     record { from = from; to = to; head = head; send_line = send_line; recv_line = recv_line }
 
 -- the message in a slot, where rank i takes it at a receive from j of this head, in this line. (Else i refuses it.)
-abbrev pub taken : ℕ → ℕ → MessageHead → ℕ → Option Posted → List Match
-taken i j asked line None = []
-taken i j asked line (Some message) = if same_head message.head asked then match_of j i message.head message.line line ∷ [] else []
+abbrev pub brought_by_take : ℕ → ℕ → MessageHead → ℕ → Option Posted → List Match
+brought_by_take i j asked line None = []
+brought_by_take i j asked line (Some message) =
+    if same_head message.head asked then match_of j i message.head message.line line ∷ [] else []
 
 -- the message that an enabled step of rank i brings, if it brings one: that of a match or of a take
 abbrev pub brought_by : {U : Type 0} → (U → ℕ) → Configuration U → ℕ → Next U → List Match
@@ -35,7 +32,7 @@ brought_by line c i Ends = []
 brought_by line c i (Goes after) = []
 brought_by line c i (Posts message after) = []
 brought_by line c i (Sends to head bytes after) = match_of i to head (line_at line c i) (line_at line c to) ∷ []
-brought_by line c i (Recvs from head take refuse) = taken i from head (line_at line c i) (slot_at c from)
+brought_by line c i (Recvs from head take refuse) = brought_by_take i from head (line_at line c i) (slot_at c from)
 brought_by line c i (Bars comm after) = []
 
 -- the messages that the step of a rank brings: one, or none

@@ -7,9 +7,9 @@ use Rattle.scc_base.specs.Calls.DataCall.{Send, Recv, Post, Bar}
 use Rattle.scc_base.specs.Communicators.{key_of}
 use Rattle.script_reader.specs.Script.{Script, rules_of}
 use Rattle.script_plain.specs.Ends.{Ended, ends_of}
-use Rattle.script_plain.specs.Local.{Local, local_start, local_next, cost_of}
-use Rattle.script_plain.specs.Next.{Next}
-use Rattle.script_plain.specs.Next.Next.{Ends, Goes, Posts, Sends, Recvs, Bars}
+use Rattle.script_machine.specs.Local.{Local, local_start, local_next, cost_of}
+use Rattle.script_machine.specs.Next.{Next}
+use Rattle.script_machine.specs.Next.Next.{Ends, Goes, Posts, Sends, Recvs, Bars}
 use Rattle.script_plain.specs.Step.{Configuration, IsStep, lowest_step, run_on}
 
 -- a rank with the calls that it has done so far, in order and with their bytes

@@ -6,8 +6,8 @@ use Rattle.scc_base.specs.Communicators.{rule_of}
 use Rattle.scc_base.specs.Heads.{IsHead, IsPostHead}
 use Rattle.scc_base.specs.declared.communicators.CommRule.TheVariants.{Absent}
 use Rattle.script_reader.specs.Script.{Script, rules_of}
-use Rattle.script_plain.specs.Next.{Next}
-use Rattle.script_plain.specs.Next.Next.{Ends, Goes, Posts, Sends, Recvs, Bars}
+use Rattle.script_machine.specs.Next.{Next}
+use Rattle.script_machine.specs.Next.Next.{Ends, Goes, Posts, Sends, Recvs, Bars}
 
 -- what stands next is no call, or one that the rank can make: a message with another rank of the run, with a head that a
 -- message may have and as many bytes as it says; a post of one chunk at most; a barrier of a communicator that is there

@@ -3,7 +3,7 @@
 ghost use Rattle.std.specs.Prelude.{◌≡◌, ◌==◌, ◌<◌, length, IsTrue};
 ghost use Rattle.scc_base.specs.Groups.{is_with, root_in};
 ghost use Rattle.scc_base.specs.Setups.{setup_key};
-ghost use Rattle.script_plain.specs.Local.{local_next};
+ghost use Rattle.script_machine.specs.Local.{local_next};
 ghost use Rattle.script_reader.specs.Script.{rules_of};
 ghost use Rattle.script_plain.specs.Step.{all_at_barrier, by_rank, past_if};
 

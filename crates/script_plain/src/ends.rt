@@ -5,59 +5,12 @@ ghost use Rattle.script_plain.specs.Code.{IsNoneGoing};
 ghost use Rattle.script_plain.specs.Ends.{all_finished, ends_of};
 
 use crate::posts::Left;
-use crate::prints::{PrintedItem, Prints};
 use crate::ues::Ue;
-use scc_base::{Call, Head, Rank};
+use scc_base::Rank;
+use script_machine::{PrintedItem, Prints, UeEnd};
 use script_reader::Scripts;
 use std::alloc::{AllocError, Global};
 use std::marker::Model;
-
-/// How the run of a rank ended.
-#[derive(Drop, PartialEq, Eq)]
-pub enum UeEnd {
-    /// Its program is done.
-    Finished,
-    /// It waits at the call of this line.
-    Waits {
-        line: u32,
-        call: Call,
-    },
-    /// A message came from this rank that has another head than the receive of this line asked for.
-    Mismatch {
-        line: u32,
-        from: Rank,
-        sent: Head,
-        asked: Head,
-    },
-}
-
-impl UeEnd {
-    ghost use Rattle.std.specs.Prelude.{◌≡◌};
-
-    /// A copy of the end.
-    pub fn copy(&self) -> UeEnd
-        ensures { result ≡ self.now }
-    {
-        match self {
-            UeEnd::Finished => UeEnd::Finished,
-            UeEnd::Waits { line, call } => UeEnd::Waits {
-                line: *line,
-                call: call.copy(),
-            },
-            UeEnd::Mismatch {
-                line,
-                from,
-                sent,
-                asked,
-            } => UeEnd::Mismatch {
-                line: *line,
-                from: *from,
-                sent: *sent,
-                asked: *asked,
-            },
-        }
-    }
-}
 
 /// What a rank's run leaves behind.
 #[derive(Drop)]
@@ -93,8 +46,8 @@ impl Model for End {
 impl Rest {
     ghost use Rattle.std.specs.Prelude.{◌≡◌, false};
     ghost use Rattle.script_plain.specs.Ends.{ended};
-    ghost use Rattle.script_plain.specs.Local.{local_next};
-    ghost use Rattle.script_plain.specs.Next.{is_going};
+    ghost use Rattle.script_machine.specs.Local.{local_next};
+    ghost use Rattle.script_machine.specs.Next.{is_going};
 
     /// What is left of a rank with this message in its slot.
     fn of(alloc: Global, ue: &mut Ue<'_>, slot: &Option<Left>) -> Rest

@@ -5,16 +5,7 @@ ghost use Rattle.script_plain.specs.Facing.{AreAside, IsAside, facing_at, heeds}
 
 use crate::ues::Ue;
 use scc_base::Rank;
-
-/// Whom a rank faces in what stands next.
-#[derive(Clone, Copy)]
-pub enum Facing {
-    Nobody,
-    /// The rank at the other end of a message.
-    One { rank: Rank },
-    /// The group of a barrier.
-    Group,
-}
+use script_machine::Facing;
 
 /// Whether a rank that faces these may come to own a step as another rank comes to face those.
 fn heeds(facing: &Facing, rank: Rank, there: &Facing) -> bool

@@ -8,7 +8,7 @@ ghost use Rattle.script_plain.specs.Meaning.{IsPlainStep, State, keys_of, next_o
 ghost use Rattle.script_plain.specs.Paths.{Came, Did};
 ghost use Rattle.script_plain.specs.Reached.{IsReached};
 ghost use Rattle.script_plain.specs.Step.{Configuration};
-ghost use Rattle.script_plain.specs.declared.posts.Posted.{Posted};
+ghost use Rattle.script_machine.specs.declared.posts.Posted.{Posted};
 
 /// Two enabled steps of different owners stay enabled after each other, and come to one configuration in either order.
 pub fn steps_commute()

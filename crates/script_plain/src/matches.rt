@@ -4,8 +4,8 @@ ghost use Rattle.std.specs.Prelude.{◌≡◌, ◌≢◌, ◌<◌, ◌∷◌, �
 ghost use Rattle.scc_base.specs.Setups.{setup_key};
 ghost use Rattle.script_plain.specs.Code.{BringsAt, BringsLowest, IsRun, config, decision};
 ghost use Rattle.script_plain.specs.Facing.{IsStillTo};
-ghost use Rattle.script_plain.specs.Local.{cost_of, local_next};
-ghost use Rattle.script_plain.specs.Matches.{brought, line_at, line_of, matches_on, plain_matches};
+ghost use Rattle.script_machine.specs.Local.{cost_of, local_next, line_of};
+ghost use Rattle.script_plain.specs.Matches.{brought, line_at, matches_on, plain_matches};
 ghost use Rattle.script_plain.specs.Meaning.{ends_at, plain_ends};
 ghost use Rattle.script_plain.specs.Step.{lowest_step, run_on};
 ghost use Rattle.script_plain.specs.declared.steps.Step.TheVariants as variant;

@@ -2,29 +2,11 @@
 
 ghost use Rattle.std.specs.Prelude.{◌≡◌};
 ghost use Rattle.std.specs.Option.{option_map};
-ghost use Rattle.script_plain.specs.Machine.{on_its_way};
+ghost use Rattle.script_machine.specs.Machine.{on_its_way};
 
-use crate::registers::Register;
-use scc_base::{Head, PostHead, Rank};
+use scc_base::{Head, Rank};
+use script_machine::{OnItsWay, Posted, Register};
 use std::marker::Model;
-
-/// A message that its sender left behind and that nobody took yet: for which rank, its head and bytes, and the line of
-/// the statement that posted it.
-#[derive(Drop)]
-pub struct Posted {
-    pub to: Rank,
-    pub head: PostHead,
-    pub bytes: Register,
-    pub line: u32,
-}
-
-/// A message that was posted and not taken yet, without its bytes.
-#[derive(Clone, Copy)]
-pub struct OnItsWay {
-    pub line: u32,
-    pub to: Rank,
-    pub head: PostHead,
-}
 
 /// A message that was posted and not taken yet. It has as many bytes as its head says.
 #[derive(Drop)]
@@ -34,7 +16,7 @@ pub struct Left {
 
 impl Model for Left {
     ghost use Rattle.std.specs.Prelude.{◌≡◌, length};
-    ghost use Rattle.script_plain.specs.declared.posts.Posted.{Posted};
+    ghost use Rattle.script_machine.specs.declared.posts.Posted.{Posted};
 
     ghost Value = { Posted };
 
@@ -45,7 +27,7 @@ impl Model for Left {
 
 impl Left {
     ghost use Rattle.std.specs.Prelude.{◌≡◌, length};
-    ghost use Rattle.script_plain.specs.Machine.{on_its_way};
+    ghost use Rattle.script_machine.specs.Machine.{on_its_way};
 
     pub fn of(message: Posted) -> Left
         requires { length message.bytes ≡ message.head.len }

@@ -6,7 +6,7 @@ ghost use Rattle.script_plain.specs.Barriers.{AreMet};
 ghost use Rattle.script_plain.specs.Collectives.{CollectivesHold};
 ghost use Rattle.script_plain.specs.Code.{GoesOn, IsRun, StepsAt, Sweeps, config, decision};
 ghost use Rattle.script_reader.specs.Script.{rules_of};
-ghost use Rattle.script_plain.specs.Local.{cost_of, local_next};
+ghost use Rattle.script_machine.specs.Local.{cost_of, local_next};
 ghost use Rattle.script_plain.specs.Meaning.{keys_of, locals_of, plain_end, plain_ends, plain_step, start_of};
 ghost use Rattle.script_plain.specs.Meaning.{ends_at};
 ghost use Rattle.script_plain.specs.Step.{lowest_step, run_on};

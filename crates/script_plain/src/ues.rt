@@ -1,13 +1,9 @@
 //! A rank in a run, which drives the machine of its program.
-#![tactic(auto, unfolding(crate::specs::Local::local_next))]
+#![tactic(auto, unfolding(script_machine::specs::Local::local_next))]
 
-use crate::ends::UeEnd;
-use crate::facing::Facing;
-use crate::machines::Machine;
-use crate::posts::{Left, Posted, in_slot};
-use crate::prints::Prints;
-use crate::registers::Register;
+use crate::posts::{Left, in_slot};
 use scc_base::{Call, Head, Rank, Setup};
+use script_machine::{Facing, Machine, Posted, Prints, Register, UeEnd};
 use script_reader::Scripts;
 use std::alloc::{AllocError, Global};
 use std::marker::Model;
@@ -19,7 +15,7 @@ pub struct Ue<'s> {
 }
 
 impl<'s> Model for Ue<'s> {
-    ghost use Rattle.script_plain.specs.Local.{Local};
+    ghost use Rattle.script_machine.specs.Local.{Local};
     ghost use Rattle.script_plain.specs.Kept.{Fits, reckoned_at};
 
     ghost Value = { Local };
@@ -31,14 +27,12 @@ impl<'s> Model for Ue<'s> {
 
 impl<'s> Ue<'s> {
     ghost use Rattle.std.specs.Prelude.{◌≡◌, ◌<◌, false, length, IfOk, IsTrue};
-    ghost use Rattle.script_plain.specs.Local.{end_of, local_next, local_start};
-    ghost use Rattle.script_plain.specs.Facing.{facing_of};
-    ghost use Rattle.script_plain.specs.Next.{call_of, is_at_barrier, is_going, past_barrier};
-    ghost use Rattle.script_plain.specs.Next.Next.{Goes};
+    ghost use Rattle.script_machine.specs.Local.{end_of, local_next, local_start, line_of};
+    ghost use Rattle.script_machine.specs.Next.{facing_of, call_of, is_at_barrier, is_going, past_barrier};
+    ghost use Rattle.script_machine.specs.Next.Next.{Goes};
     ghost use Rattle.script_reader.specs.Script.{rules_of};
     ghost use Rattle.script_plain.specs.Code.{HasLength, HasPosted, HasRefused, HasSent, HasTaken, IsAtPost, IsAtReceive, IsAtSend};
-    ghost use Rattle.script_plain.specs.Matches.{line_of};
-    ghost use Rattle.script_plain.specs.Moves.{length_in};
+    ghost use Rattle.script_machine.specs.Moves.{length_in};
 
     /// A rank before its first statement.
     pub fn new(

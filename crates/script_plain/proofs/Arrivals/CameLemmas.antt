@@ -11,19 +11,19 @@ use Rattle.groups.specs.declared.collectives.Coll.TheVariants as coll
 use Rattle.script_reader.specs.Script.{Script}
 use Rattle.script_reader.specs.declared.script.Stmt.{Stmt}
 use Rattle.script_reader.specs.declared.script.Stmt.TheVariants as stmt
-use Rattle.script_plain.specs.declared.prims.Operands.{Operands}
+use Rattle.script_machine.specs.declared.prims.Operands.{Operands}
 use Rattle.script_plain.specs.Collectives.{IsOther, gone_through}
 use Rattle.script_plain.specs.Meaning.{State}
 use Rattle.script_plain.specs.Messages.{is_of, received_by}
-use Rattle.script_plain.specs.Program.{Act, Prim, can_call}
-use Rattle.script_plain.specs.Program.Act.{Begin}
+use Rattle.script_machine.specs.Program.{Act, Prim, can_call}
+use Rattle.script_machine.specs.Program.Act.{Begin}
 use Rattle.script_plain.specs.Step.{Configuration}
 use Rattle.script_plain.proofs.Collectives.CollectiveGroups.{gathers}
 use Rattle.script_plain.proofs.Collectives.CollectivePaths.{Facing, IsIn, chosen, chosen_append, grows, through_both}
 use Rattle.script_plain.proofs.Arrivals.MessageCounts.{all_counted, gathers_get_each, gathers_send_none, got_in, got_so_far, has_kind, receipts_counted, sends_counted, sent_in, sent_so_far, some_counted}
 use Rattle.script_plain.proofs.Collectives.ReductionPaths.{gathers_length, split_at}
 use Rattle.script_plain.proofs.Arrivals.StatementSends.{IsCallOf, IsReduceOf, MakesOne}
-use Rattle.script_plain.proofs.Runs.StepLaws as steps
+use Rattle.script_machine.proofs.Choices as choices
 
 -- each rank of the script has a state
 pub cell_at : (script : Script) (c : Configuration State) (rank : ℕ) → length c.cells ≡ script.nue → rank < script.nue → (u : State) × (slice_get c.cells rank ≡ Some u)
@@ -86,7 +86,7 @@ root_place_is s comm place root rank low at =
 
 -- the root that a call names is in the group
 pub root_below : (s : SetupView) (comm place rank : ℕ) → can_call s rank (coll.Reduce comm place 0) ≡ true → place < size_of s comm rank
-root_below s comm place rank callable = let parts = steps.both_true _ _ callable in ltb-true place (size_of s comm rank) parts.1
+root_below s comm place rank callable = let parts = choices.both_true _ _ callable in ltb-true place (size_of s comm rank) parts.1
 
 -- a reduction of one of the others is one to the root in question
 pub reduce_is : (s : SetupView) (comm place root rank : ℕ) → IsOther s comm place root rank → (statement : Stmt) → IsReduceOf s rank comm root statement → IsCallOf s rank (stmt.Reduce comm place) (coll.Reduce comm place 0) statement

@@ -13,15 +13,15 @@ use Rattle.groups.specs.declared.operations.Ty.{Ty}
 use Rattle.script_reader.specs.Script.{Script}
 use Rattle.script_reader.specs.declared.script.Stmt.{Stmt}
 use Rattle.script_reader.specs.declared.script.Stmt.TheVariants as stmt
-use Rattle.script_plain.specs.declared.prims.Operands.{Operands}
-use Rattle.script_plain.specs.declared.prims.Source.{Source}
-use Rattle.script_plain.specs.declared.prims.Source.TheVariants as source_of
-use Rattle.script_plain.specs.declared.prims.Standing.TheVariants as standing
+use Rattle.script_machine.specs.declared.prims.Operands.{Operands}
+use Rattle.script_machine.specs.declared.prims.Source.{Source}
+use Rattle.script_machine.specs.declared.prims.Source.TheVariants as source_of
+use Rattle.script_machine.specs.declared.prims.Standing.TheVariants as standing
 use Rattle.script_plain.specs.Collectives.{AreCountedAlike, IsOther, Made, StandsAt, gone_by, gone_through, started}
 use Rattle.script_plain.specs.Collectives.Made.{Done, Then}
 use Rattle.script_plain.specs.Meaning.{State, next_of}
-use Rattle.script_plain.specs.Program.{Act, Prim, acts_of, parts_of, program_of, setup_of}
-use Rattle.script_plain.specs.Program.Act.{Send, Begin, Finish}
+use Rattle.script_machine.specs.Program.{Act, Prim, acts_of, parts_of, program_of, setup_of}
+use Rattle.script_machine.specs.Program.Act.{Send, Begin, Finish}
 use Rattle.script_plain.proofs.Collectives.BroadcastLaws.{bcast_operands}
 use Rattle.script_plain.proofs.Collectives.CollectiveGroups.{AreApart, Each, bcast_parts, folds_parts, gathers, is_in_others, others_apart}
 use Rattle.script_plain.proofs.Collectives.CollectivePaths.{Facing, IsIn}
@@ -31,7 +31,7 @@ use Rattle.script_plain.proofs.OwnWays.ProgramLaws.{past_act, program_made, stay
 use Rattle.script_plain.proofs.Collectives.ReductionLaws.{all_down_parts, down_sends}
 use Rattle.script_plain.proofs.Collectives.ReductionPaths.{fold_operands}
 use Rattle.script_plain.proofs.Arrivals.StatementSends.{by_part, quiet_allreduce, quiet_bcast, quiet_reduce}
-use Rattle.script_plain.proofs.Runs.StepLaws as steps
+use Rattle.script_machine.proofs.Choices as choices
 
 -- what is left adds
 abbrev total_left : (Act → ℕ) → List Prim → ℕ
@@ -92,7 +92,7 @@ apart_in x y (z ∷ list) apart (inl is) = λ e. apart.0 (e ∙ sym is)
 apart_in x y (z ∷ list) apart (inr within) = apart_in x y list apart.1 within
 
 one_here : (passes : Bool) (x y : ℕ) → passes ≡ true → x ≡ y → one_if (passes && (x == y)) ≡ 1
-one_here passes x y is same = ap one_if (steps.and_of passes (x == y) is (eq-eqb x y same))
+one_here passes x y is same = ap one_if (choices.and_of passes (x == y) is (eq-eqb x y same))
 
 -- a send to each of a list, and a receive from each
 module _ (kind comm : ℕ) (head : MessageHead) where

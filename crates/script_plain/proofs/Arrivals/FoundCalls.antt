@@ -10,7 +10,7 @@ use Rattle.script_reader.specs.Script.{Script}
 use Rattle.script_plain.specs.Collectives.{AreOwnWays, CameTo, IsOfRank, Made, StandsAt, gone_through, started}
 use Rattle.script_plain.specs.Meaning.{State}
 use Rattle.script_plain.specs.Messages.{is_of, sent_by}
-use Rattle.script_plain.specs.Program.{Act, Prim, acts_of, setup_of}
+use Rattle.script_machine.specs.Program.{Act, Prim, acts_of, setup_of}
 use Rattle.script_plain.specs.Step.{Configuration}
 use Rattle.script_plain.proofs.Collectives.CollectivePaths.{Facing, chosen, through_both}
 use Rattle.script_plain.proofs.Arrivals.MessageCounts.{Counts, sends_counted, sent_in, sent_so_far, some_counted, total_of}

@@ -6,19 +6,19 @@ use Rattle.std.proofs.lemmas.List.{append-nil}
 use Rattle.scc_base.specs.Calls.{DataCall, Message}
 use Rattle.scc_base.specs.Calls.DataCall.{Send, Recv, Post, Bar}
 use Rattle.scc_base.specs.Heads.{MessageHead}
-use Rattle.script_plain.specs.declared.prims.Operands.{Operands}
-use Rattle.script_plain.specs.declared.prims.Source.{Source}
+use Rattle.script_machine.specs.declared.prims.Operands.{Operands}
+use Rattle.script_machine.specs.declared.prims.Source.{Source}
 use Rattle.script_plain.specs.Collectives.{gone_by, gone_through}
-use Rattle.script_plain.specs.Local.{asked_head, message_of, next_by_act, source_bytes, with_length}
+use Rattle.script_machine.specs.Local.{asked_head, message_of, next_by_act, source_bytes, with_length}
 use Rattle.script_plain.specs.Meaning.{State, next_of, recorded}
 use Rattle.script_plain.specs.Messages.{is_of, received_by, sent_by}
-use Rattle.script_plain.specs.Next.{Next}
-use Rattle.script_plain.specs.Program.{Act, Prim}
+use Rattle.script_machine.specs.Next.{Next}
+use Rattle.script_machine.specs.Program.{Act, Prim}
 use Rattle.script_plain.proofs.Collectives.CollectiveGroups.{AreApart, Each, gathers}
 use Rattle.script_plain.proofs.Collectives.CollectivePaths.{Facing, IsIn, chosen, chosen_append, faced}
 use Rattle.script_plain.proofs.Orders.OrderLaws.{different}
 use Rattle.script_plain.proofs.OwnWays.ProgramLaws.{past_act}
-use Rattle.script_plain.proofs.Runs.StepLaws as steps
+use Rattle.script_machine.proofs.Choices as choices
 
 -- a count of what a rank has done, and what each act adds to it
 pub record Counts (measure : State → ℕ) (adds : Act → ℕ) : Type 0 where
@@ -90,8 +90,8 @@ one_more test part calls call n adds =
 
 -- that makes one message, if it is for the rank in question
 one_chosen : (test : Message → Bool) (m : Message) (passes here : Bool) → test m ≡ passes → length (filter test (if here then m ∷ [] else [])) ≡ one_if (passes && here)
-one_chosen test m true true is = ap length (steps.chosen (test m) (m ∷ []) [] is)
-one_chosen test m false true is = ap length (steps.other (test m) (m ∷ []) [] is)
+one_chosen test m true true is = ap length (choices.chosen (test m) (m ∷ []) [] is)
+one_chosen test m false true is = ap length (choices.other (test m) (m ∷ []) [] is)
 one_chosen test m true false is = refl
 one_chosen test m false false is = refl
 
@@ -181,6 +181,6 @@ module _ (kind comm : ℕ) (o : Operands) (head : MessageHead) where
   pub gathers_get_each : (from : ℕ) → has_kind kind comm head ≡ true → (list : List ℕ) → IsIn from list → 1 ≤ total_of (got_in kind comm from) (gathers o head list)
   gathers_get_each from mine [] within = absurd within
   gathers_get_each from mine (x ∷ list) (inl is) =
-      let one : one_if (has_kind kind comm head && (x == from)) ≡ 1 = ap one_if (steps.and_of (has_kind kind comm head) (x == from) mine (eq-eqb x from is)) in
+      let one : one_if (has_kind kind comm head && (x == from)) ≡ 1 = ap one_if (choices.and_of (has_kind kind comm head) (x == from) mine (eq-eqb x from is)) in
       omega (arith, one)
   gathers_get_each from mine (x ∷ list) (inr within) = let more = gathers_get_each from mine list within in omega (arith, more)

@@ -16,14 +16,14 @@ use Rattle.groups.specs.declared.operations.Ty.{Ty}
 use Rattle.script_reader.specs.Script.{Script}
 use Rattle.script_reader.specs.declared.script.Stmt.{Stmt}
 use Rattle.script_reader.specs.declared.script.Stmt.TheVariants as stmt
-use Rattle.script_plain.specs.declared.prims.Operands.{Operands}
-use Rattle.script_plain.specs.declared.prims.Source.TheVariants as source_of
+use Rattle.script_machine.specs.declared.prims.Operands.{Operands}
+use Rattle.script_machine.specs.declared.prims.Source.TheVariants as source_of
 use Rattle.script_plain.specs.Collectives.{AllCame, AllGive, AreOwnWays, CameTo, Casts, Gives, IsOther, OthersGave, OthersGaveToAll, RootCame, Tells, gone_through}
-use Rattle.script_plain.specs.Local.{register_at}
+use Rattle.script_machine.specs.Local.{register_at}
 use Rattle.script_plain.specs.Meaning.{State}
 use Rattle.script_plain.specs.Messages.{AreDelivered, is_of, received_by, sent_by}
-use Rattle.script_plain.specs.Program.{Act, Prim, acts_of, can_call, setup_of}
-use Rattle.script_plain.specs.Program.Act.{Begin, Finish, Gather, Accept, Send}
+use Rattle.script_machine.specs.Program.{Act, Prim, acts_of, can_call, setup_of}
+use Rattle.script_machine.specs.Program.Act.{Begin, Finish, Gather, Accept, Send}
 use Rattle.script_plain.specs.Step.{Configuration}
 use Rattle.script_plain.proofs.Collectives.BroadcastLaws.{bcast_accepts, broadcast, faces, own_kind}
 use Rattle.script_plain.proofs.Collectives.CollectiveFits.{AreFit}

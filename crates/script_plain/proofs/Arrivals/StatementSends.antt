@@ -13,10 +13,10 @@ use Rattle.groups.specs.declared.operations.Op.{Op}
 use Rattle.groups.specs.declared.operations.Ty.{Ty}
 use Rattle.script_reader.specs.declared.script.Stmt.{Stmt}
 use Rattle.script_reader.specs.declared.script.Stmt.TheVariants as stmt
-use Rattle.script_plain.specs.declared.prims.Operands.{Operands}
-use Rattle.script_plain.specs.declared.prims.Source.TheVariants as source_of
-use Rattle.script_plain.specs.Program.{Act, acts_of, can_call, parts_of}
-use Rattle.script_plain.specs.Program.Act.{Send, Begin, Finish}
+use Rattle.script_machine.specs.declared.prims.Operands.{Operands}
+use Rattle.script_machine.specs.declared.prims.Source.TheVariants as source_of
+use Rattle.script_machine.specs.Program.{Act, acts_of, can_call, parts_of}
+use Rattle.script_machine.specs.Program.Act.{Send, Begin, Finish}
 use Rattle.script_plain.proofs.Collectives.CollectiveGroups.{bcast_parts, folds_parts, gathers, others_apart}
 use Rattle.script_plain.proofs.Arrivals.MessageCounts.{gathers_send_none, has_kind, most_if, none_if, sends_once, sends_other, sent_in, total_both, total_of}
 use Rattle.script_plain.proofs.Collectives.BroadcastLaws.{bcast_operands}

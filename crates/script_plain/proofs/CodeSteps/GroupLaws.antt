@@ -11,9 +11,9 @@ use Rattle.scc_base.specs.declared.communicators.CommRule.{CommRule}
 use Rattle.scc_base.specs.declared.communicators.CommRule.TheVariants.{Absent}
 use Rattle.scc_base.proofs.ChangeLaws.{true_or_false}
 use Rattle.scc_base.proofs.GroupFacts.{root_is, root_once, same_root}
-use Rattle.script_plain.specs.Next.{Next, is_at_barrier, past_barrier}
+use Rattle.script_machine.specs.Next.{Next, is_at_barrier, past_barrier}
 use Rattle.script_plain.specs.Step.{all_at_barrier, by_rank, past_if}
-use Rattle.script_plain.proofs.Runs.StepLaws as steps
+use Rattle.script_machine.proofs.Choices as choices
 use Rattle.script_plain.proofs.Runs.RunLaws.{get-by_rank, stand_there, stands_there}
 use Rattle.script_plain.proofs.Orders.OrderLaws.{different, get_set, kept, list_same}
 
@@ -118,13 +118,13 @@ past_takes next test us before n u is member here =
     at_rank k same (Some v) o =
         let v_is : u ≡ v = same_Some u v (sym here ∙ ap (slice_get us) (sym same) ∙ o) in
         let now : below (n + 1) test k ≡ true = ap (λ (b : Bool). b && test k) (lt-ltb k (n + 1) (omega (arith, same))) ∙ ap test same ∙ member in
-        ap Some (steps.chosen (k == n) (past_barrier (next u) u) (past_if next (below n test k) v) (eq-eqb k n same)
-        ∙ ap (λ (w : _). past_barrier (next w) w) v_is ∙ sym (steps.chosen (below (n + 1) test k) (past_barrier (next v) v) v now))
+        ap Some (choices.chosen (k == n) (past_barrier (next u) u) (past_if next (below n test k) v) (eq-eqb k n same)
+        ∙ ap (λ (w : _). past_barrier (next w) w) v_is ∙ sym (choices.chosen (below (n + 1) test k) (past_barrier (next v) v) v now))
 
     elsewhere : (k : ℕ) → k ≢ n → (o : Option _) → option_map (λ v. if k == n then past_barrier (next u) u else v) (option_map (past_if next (below n test k)) o) ≡ option_map (past_if next (below (n + 1) test k)) o
     elsewhere k apart None = refl
     elsewhere k apart (Some v) =
-        ap Some (steps.other (k == n) (past_barrier (next u) u) (past_if next (below n test k) v) (different k n apart)
+        ap Some (choices.other (k == n) (past_barrier (next u) u) (past_if next (below n test k) v) (different k n apart)
         ∙ ap (λ (b : Bool). past_if next b v) (below_more test n k apart))
 
     each : (k : ℕ) → option_map (λ v. if k == n then past_barrier (next u) u else v) (option_map (past_if next (below n test k)) (slice_get us k)) ≡ option_map (past_if next (below (n + 1) test k)) (slice_get us k)

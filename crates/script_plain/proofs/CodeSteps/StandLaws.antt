@@ -7,17 +7,18 @@ use Rattle.std.proofs.lemmas.Option.{get_or_from_slice_get, slice_get_within}
 use Rattle.scc_base.specs.Groups.{is_with, root_in}
 use Rattle.scc_base.specs.Heads.{MessageHead}
 use Rattle.scc_base.specs.declared.calls.Call.{Call}
-use Rattle.script_plain.specs.declared.posts.Posted.{Posted}
+use Rattle.script_machine.specs.declared.posts.Posted.{Posted}
 use Rattle.script_plain.specs.declared.steps.Step.{Step}
 use Rattle.script_plain.specs.declared.steps.Step.TheVariants as step
 use Rattle.script_plain.specs.Code.{HasLength, HasPosted, HasRefused, HasSent, HasTaken, IsAtPost, IsAtReceive, IsAtSend, call_decision, config, decision, match_decision, post_decision, receive_decision}
-use Rattle.script_plain.specs.Local.{Local, local_next}
-use Rattle.script_plain.specs.Moves.{length_in}
-use Rattle.script_plain.specs.Next.{Next, call_of, is_going}
-use Rattle.script_plain.specs.Next.Next.{Ends, Goes, Posts, Sends, Recvs, Bars}
+use Rattle.script_machine.specs.Local.{Local, local_next}
+use Rattle.script_machine.specs.Moves.{length_in}
+use Rattle.script_machine.specs.Next.{Next, call_of, is_going}
+use Rattle.script_machine.specs.Next.Next.{Ends, Goes, Posts, Sends, Recvs, Bars}
 use Rattle.script_plain.specs.Step.{all_at_barrier, by_rank, next_at, past_if, same_head, slot_at, step_of}
 use Rattle.script_plain.proofs.CodeSteps.CodeLaws.{fetches}
 use Rattle.script_plain.proofs.Runs.RunLaws.{there}
+use Rattle.script_machine.proofs.Choices as choices
 use Rattle.script_plain.proofs.Runs.StepLaws as steps
 use Rattle.script_plain.proofs.CodeSteps.UeLaws.{same_long}
 
@@ -75,7 +76,7 @@ module _ (keys : ℕ → ℕ → ℕ) (ues : List Local) (slots : List (Option P
   of_test : (to : ℕ) (head : MessageHead) (bytes : List ℕ) (after : Local) (from : ℕ) (asked : MessageHead) (take : List ℕ → Local) (refuse : MessageHead → Local) (b : Bool) → next_at local_next (config ues slots) i ≡ Sends to head bytes after → slot_at (config ues slots) i ≡ None → next_at local_next (config ues slots) to ≡ Recvs from asked take refuse → ((from == i) && same_head head asked) ≡ b → Stands (cond b (step.Matches to) step.Stays)
   of_test to head bytes after from asked take refuse false stands slot met is = tt
   of_test to head bytes after from asked take refuse true stands slot met is =
-      let tests = steps.both_true (from == i) (same_head head asked) is in
+      let tests = choices.both_true (from == i) (same_head head asked) is in
       record {
         head = head;
         bytes = bytes;
@@ -116,7 +117,7 @@ module _ (keys : ℕ → ℕ → ℕ) (ues : List Local) (slots : List (Option P
   of_other : (from : ℕ) (asked : MessageHead) (take : List ℕ → Local) (refuse : MessageHead → Local) (to : ℕ) (sent : MessageHead) (bytes : List ℕ) (after : Local) (b : Bool) → next_at local_next (config ues slots) i ≡ Recvs from asked take refuse → slot_at (config ues slots) from ≡ None → next_at local_next (config ues slots) from ≡ Sends to sent bytes after → ((to == i) && not (same_head sent asked)) ≡ b → Stands (cond b (step.Mismatches sent) step.Stays)
   of_other from asked take refuse to sent bytes after false stands slot met is = tt
   of_other from asked take refuse to sent bytes after true stands slot met is =
-      let tests = steps.both_true (to == i) (not (same_head sent asked)) is in
+      let tests = choices.both_true (to == i) (not (same_head sent asked)) is in
       record {
         from = from;
         asked = asked;
@@ -124,7 +125,7 @@ module _ (keys : ℕ → ℕ → ℕ) (ues : List Local) (slots : List (Option P
         refuse = refuse;
         stands = stands;
         refuses = steps.answered keys local_next (config ues slots) (config (set ues i (refuse sent)) slots) i
-            (steps.Takes.RefusedSend from asked take refuse sent bytes after stands slot (met ∙ ap (λ (r : ℕ). Sends r sent bytes after) (eqb-true to i tests.0)) (steps.not_true (same_head sent asked) tests.1) refl);
+            (steps.Takes.RefusedSend from asked take refuse sent bytes after stands slot (met ∙ ap (λ (r : ℕ). Sends r sent bytes after) (eqb-true to i tests.0)) (choices.not_true (same_head sent asked) tests.1) refl);
       }
 
   of_receive : (from : ℕ) (asked : MessageHead) (take : List ℕ → Local) (refuse : MessageHead → Local) (o : Option Posted) (m : Next Local) → next_at local_next (config ues slots) i ≡ Recvs from asked take refuse → slot_at (config ues slots) from ≡ o → next_at local_next (config ues slots) from ≡ m → Stands (receive_decision i from asked o (call_of m))
@@ -141,7 +142,7 @@ module _ (keys : ℕ → ℕ → ℕ) (ues : List Local) (slots : List (Option P
   of_bar : (comm : ℕ) (after : Local) (b : Bool) → next_at local_next (config ues slots) i ≡ Bars comm after → ((root_in (keys comm) i == i) && all_at_barrier local_next comm (is_with (keys comm) i) ues) ≡ b → Stands (cond b (step.Passes comm) step.Stays)
   of_bar comm after false stands is = tt
   of_bar comm after true stands is =
-      let tests = steps.both_true (root_in (keys comm) i == i) (all_at_barrier local_next comm (is_with (keys comm) i) ues) is in
+      let tests = choices.both_true (root_in (keys comm) i == i) (all_at_barrier local_next comm (is_with (keys comm) i) ues) is in
       record { after = after; stands = stands; root = eqb-true (root_in (keys comm) i) i tests.0; all = tests.1 }
 
   of_next : (n : Next Local) → next_at local_next (config ues slots) i ≡ n → Stands (cond (is_going n) step.Goes (call_decision keys ues slots i (call_of n)))
@@ -242,14 +243,14 @@ module _ (keys : ℕ → ℕ → ℕ) (ues : List Local) (slots : List (Option P
   decided u met s here still call is =
       let found : decision keys ues slots i ≡ call_decision keys ues slots i met =
       ap (λ (o : Option Local). cond (is_going (option_map_or local_next o Ends)) step.Goes (call_decision keys ues slots i (call_of (option_map_or local_next o Ends)))) here
-      ∙ steps.other (is_going (local_next u)) step.Goes (call_decision keys ues slots i (call_of (local_next u))) still
+      ∙ choices.other (is_going (local_next u)) step.Goes (call_decision keys ues slots i (call_of (local_next u))) still
       ∙ ap (call_decision keys ues slots i) call in
       is ∙ sym found
 
   pub decided_going : (u : Local) → slice_get ues i ≡ Some u → is_going (local_next u) ≡ true → step.Goes ≡ decision keys ues slots i
   decided_going u here going =
       sym (ap (λ (o : Option Local). cond (is_going (option_map_or local_next o Ends)) step.Goes (call_decision keys ues slots i (call_of (option_map_or local_next o Ends)))) here
-      ∙ steps.chosen (is_going (local_next u)) step.Goes (call_decision keys ues slots i (call_of (local_next u))) going)
+      ∙ choices.chosen (is_going (local_next u)) step.Goes (call_decision keys ues slots i (call_of (local_next u))) going)
 
 module _ (keys : ℕ → ℕ → ℕ) (ues : List Local) (slots : List (Option Posted)) (i j : ℕ) where
   pub delivers : decision keys ues slots i ≡ step.Matches j → IsDelivery ues slots i j

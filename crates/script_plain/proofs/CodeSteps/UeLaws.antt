@@ -4,19 +4,19 @@ use Rattle.std.specs.Option.{option_map_or}
 use Rattle.std.proofs.lemmas.Bool.{eqb-true}
 use Rattle.std.proofs.lemmas.Option.{same_Some}
 use Rattle.scc_base.specs.Heads.{MessageHead}
-use Rattle.script_plain.specs.declared.posts.OnItsWay.{OnItsWay}
-use Rattle.script_plain.specs.declared.posts.Posted.{Posted}
+use Rattle.script_machine.specs.declared.posts.OnItsWay.{OnItsWay}
+use Rattle.script_machine.specs.declared.posts.Posted.{Posted}
 use Rattle.script_plain.specs.declared.steps.Step.TheVariants as step
 use Rattle.script_plain.specs.Code.{HasLength, HasPosted, HasRefused, HasSent, HasTaken, IsAtPost, IsAtReceive, IsAtSend, config, decision}
 use Rattle.script_plain.specs.Kept.{Fits, FitsNext}
-use Rattle.script_plain.specs.Local.{Local, local_next}
-use Rattle.script_plain.specs.Machine.{on_its_way}
-use Rattle.script_plain.specs.Moves.{bytes_out, is_passable, is_receiving, length_in, passed, post_of, refused, taken, went}
-use Rattle.script_plain.specs.Next.{Next, is_at_barrier, is_going, past_barrier}
-use Rattle.script_plain.specs.Next.Next.{Ends, Goes, Posts, Sends, Recvs, Bars}
+use Rattle.script_machine.specs.Local.{Local, local_next}
+use Rattle.script_machine.specs.Machine.{on_its_way}
+use Rattle.script_machine.specs.Moves.{bytes_out, is_passable, is_receiving, length_in, passed, post_of, refused, taken, went}
+use Rattle.script_machine.specs.Next.{Next, is_at_barrier, is_going, past_barrier}
+use Rattle.script_machine.specs.Next.Next.{Ends, Goes, Posts, Sends, Recvs, Bars}
 use Rattle.script_plain.specs.Step.{same_head, slot_at}
 use Rattle.script_plain.proofs.CodeSteps.CodeLaws.{fetches}
-use Rattle.script_plain.proofs.Runs.StepLaws.{both_true}
+use Rattle.script_machine.proofs.Choices.{both_true}
 
 module _ (had : ℕ → Option ℕ) where
   pub fits_went : (n : Next Local) (u : Local) → FitsNext had n → is_going n ≡ true → Fits had (went n u)

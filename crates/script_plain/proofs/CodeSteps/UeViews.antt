@@ -1,10 +1,10 @@
 -- A rank as it is seen, and its machine: they have one next step, and past it the registers keep their lengths.
 use Rattle.std.proofs.Common.{◌≡◌, true, subst, sym}
 use Rattle.script_plain.specs.Kept.{Fits, reckoned_at}
-use Rattle.script_plain.specs.Local.{Local, local_next}
-use Rattle.script_plain.specs.Machine.{MachineView}
-use Rattle.script_plain.specs.Moves.{is_passable, passed}
-use Rattle.script_plain.specs.Next.{Next}
+use Rattle.script_machine.specs.Local.{Local, local_next}
+use Rattle.script_machine.specs.Machine.{MachineView}
+use Rattle.script_machine.specs.Moves.{is_passable, passed}
+use Rattle.script_machine.specs.Next.{Next}
 use Rattle.script_plain.proofs.CodeSteps.UeLaws.{fits_passed}
 use Rattle.script_plain.proofs.ProgramLengths.LengthPaths.{fits_next}
 

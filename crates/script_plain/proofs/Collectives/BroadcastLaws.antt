@@ -15,21 +15,21 @@ use Rattle.groups.specs.declared.operations.Ty.TheVariants as ty
 use Rattle.script_reader.specs.Script.{Script}
 use Rattle.script_reader.specs.declared.script.Stmt.{Stmt}
 use Rattle.script_reader.specs.declared.script.Stmt.TheVariants as stmt
-use Rattle.script_plain.specs.declared.prims.Operands.{Operands}
-use Rattle.script_plain.specs.declared.prims.Source.{Source}
-use Rattle.script_plain.specs.declared.prims.Source.TheVariants as source_of
+use Rattle.script_machine.specs.declared.prims.Operands.{Operands}
+use Rattle.script_machine.specs.declared.prims.Source.{Source}
+use Rattle.script_machine.specs.declared.prims.Source.TheVariants as source_of
 use Rattle.script_plain.specs.Collectives.{AreBroadcast, HasDone, IsOther, StandsAt, gone_by, gone_through}
-use Rattle.script_plain.specs.Local.{Local, asked_head, gone_on_gathering, gone_on_with, register_at}
+use Rattle.script_machine.specs.Local.{Local, asked_head, gone_on_gathering, gone_on_with, register_at}
 use Rattle.script_plain.specs.Meaning.{State, next_of}
 use Rattle.script_plain.specs.Messages.{AreDelivered, is_of, received_by, sent_by}
-use Rattle.script_plain.specs.Program.{Act, Prim, acts_of, can_call, parts_of, setup_of}
-use Rattle.script_plain.specs.Program.Act.{Send, Gather, Accept}
+use Rattle.script_machine.specs.Program.{Act, Prim, acts_of, can_call, parts_of, setup_of}
+use Rattle.script_machine.specs.Program.Act.{Send, Gather, Accept}
 use Rattle.script_plain.specs.Step.{Configuration}
 use Rattle.script_plain.proofs.Collectives.CollectiveFits.{AreFit}
 use Rattle.script_plain.proofs.Collectives.CollectiveGroups.{bcast_parts, is_in_others, other_has, root_has}
 use Rattle.script_plain.proofs.Collectives.CollectivePaths.{Facing, by_send, chosen, chosen_one, faced, first_sent, get_last, keeps, past}
 use Rattle.script_plain.proofs.Messages.MessageLaws.{received_as_sent}
-use Rattle.script_plain.proofs.Runs.StepLaws as steps
+use Rattle.script_machine.proofs.Choices as choices
 
 -- a rank at a statement faces what the statement makes
 pub faces : (script : Script) (rank : ℕ) (statement : Stmt) (u : State) (stood : StandsAt script rank statement u) (acts : List Act) → acts_of (setup_of script) rank statement ≡ acts → Facing stood.item.line acts stood.rest u
@@ -40,7 +40,7 @@ faces script rank statement u stood acts is = record {
 
 -- a message of this kind in this communicator
 pub own_kind : (kind : Kind) (comm len : ℕ) → (((head_of kind comm len).kind == kind_number kind) && ((head_of kind comm len).comm == comm)) ≡ true
-own_kind kind comm len = steps.and_of (kind_number kind == kind_number kind) (comm == comm) (eq-eqb (kind_number kind) (kind_number kind) refl) (eq-eqb comm comm refl)
+own_kind kind comm len = choices.and_of (kind_number kind == kind_number kind) (comm == comm) (eq-eqb (kind_number kind) (kind_number kind) refl) (eq-eqb comm comm refl)
 
 pub asked_kind : (u : Local) (head : MessageHead) (sized : Option ℕ) (kind comm : ℕ) → ((head.kind == kind) && (head.comm == comm)) ≡ true → (((asked_head u head sized).kind == kind) && ((asked_head u head sized).comm == comm)) ≡ true
 asked_kind u head None kind comm mine = mine
@@ -94,7 +94,7 @@ accepts kind comm line from dst head sized rest u (one ∷ last ∷ []) mine two
     there : slice_get (chosen (is_of kind comm) (received_by from) w.matched) (length (chosen (is_of kind comm) (received_by from) u.matched)) ≡ Some m
     there =
         ap (λ (l : List Message). slice_get l (length (chosen (is_of kind comm) (received_by from) u.matched)))
-        (chosen_one (is_of kind comm) (received_by from) u.matched (Recv from (asked_head u.local head sized) one) m (steps.chosen (from == from) (m ∷ []) [] (eq-eqb from from refl)) (asked_kind u.local head sized kind comm mine))
+        (chosen_one (is_of kind comm) (received_by from) u.matched (Recv from (asked_head u.local head sized) one) m (choices.chosen (from == from) (m ∷ []) [] (eq-eqb from from refl)) (asked_kind u.local head sized kind comm mine))
         ∙ get_last (chosen (is_of kind comm) (received_by from) u.matched) m
 
     found : (later : List (List ℕ)) → slice_get (chosen (is_of kind comm) (received_by from) (gone_through later (gone_through (one ∷ last ∷ []) u)).matched) (length (chosen (is_of kind comm) (received_by from) u.matched)) ≡ Some m

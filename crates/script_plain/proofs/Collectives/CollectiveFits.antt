@@ -12,13 +12,13 @@ use Rattle.script_reader.specs.Script.{Script}
 use Rattle.script_reader.specs.Settled.{IsWhole}
 use Rattle.script_reader.specs.declared.script.Stmt.{Stmt}
 use Rattle.script_reader.specs.declared.script.Stmt.TheVariants as stmt
-use Rattle.script_plain.specs.declared.prims.Collective.{Collective}
+use Rattle.script_machine.specs.declared.prims.Collective.{Collective}
 use Rattle.script_plain.specs.Collectives.{CameTo, HasDone, StandsAt, gone_through}
-use Rattle.script_plain.specs.Local.{register_at}
+use Rattle.script_machine.specs.Local.{register_at}
 use Rattle.script_plain.specs.Meaning.{IsPlainStep, State, keys_of, start_of}
-use Rattle.script_plain.specs.Program.{can_call, collective_of, setup_of}
+use Rattle.script_machine.specs.Program.{can_call, collective_of, setup_of}
 use Rattle.script_plain.specs.Step.{Configuration}
-use Rattle.script_plain.proofs.ProgramLengths.CallableLaws.{callable}
+use Rattle.script_machine.proofs.ProgramLengths.CallableLaws.{callable}
 use Rattle.script_plain.proofs.Collectives.CollectivePaths.{through_both}
 use Rattle.script_plain.proofs.ProgramLengths.LengthLaws.{rank_within, reduced_to_all_whole, reduced_whole}
 

@@ -11,14 +11,14 @@ use Rattle.groups.specs.Collectives.{comm_of, fold_each, other_steps, others_of,
 use Rattle.groups.specs.declared.collectives.Coll.{Coll}
 use Rattle.groups.specs.declared.collectives.Step.{Step}
 use Rattle.groups.proofs.StepLemmas.{get_above, get_below}
-use Rattle.script_plain.specs.declared.prims.Operands.{Operands}
-use Rattle.script_plain.specs.declared.prims.Source.TheVariants as source_of
+use Rattle.script_machine.specs.declared.prims.Operands.{Operands}
+use Rattle.script_machine.specs.declared.prims.Source.TheVariants as source_of
 use Rattle.script_plain.specs.Collectives.{IsOther}
-use Rattle.script_plain.specs.Program.{Act, begins, call_steps, can_call, part_of, parts_of}
-use Rattle.script_plain.specs.Program.Act.{Send, Gather, Fold}
+use Rattle.script_machine.specs.Program.{Act, begins, call_steps, can_call, part_of, parts_of}
+use Rattle.script_machine.specs.Program.Act.{Send, Gather, Fold}
 use Rattle.script_plain.proofs.Collectives.CollectivePaths.{IsIn}
 use Rattle.script_plain.proofs.Orders.OrderLaws.{different}
-use Rattle.script_plain.proofs.Runs.StepLaws as steps
+use Rattle.script_machine.proofs.Choices as choices
 
 -- each of a list, and no two equal
 abbrev pub Each : (ℕ → Type 0) → List ℕ → Type 0
@@ -143,14 +143,14 @@ module _ (s : SetupView) (comm place root : ℕ) where
 pub root_has : (s : SetupView) (c : Coll) (root : ℕ) → can_call s root c ≡ true → place_of s (comm_of c) root ≡ root_place c
     → call_steps s root c ≡ root_steps c (others_of s (comm_of c) root (root_place c))
 root_has s c root callable at =
-    steps.chosen (can_call s root c) (steps_of s root c) [] callable
-    ∙ steps.chosen (place_of s (comm_of c) root == root_place c) _ _ (eq-eqb (place_of s (comm_of c) root) (root_place c) at)
+    choices.chosen (can_call s root c) (steps_of s root c) [] callable
+    ∙ choices.chosen (place_of s (comm_of c) root == root_place c) _ _ (eq-eqb (place_of s (comm_of c) root) (root_place c) at)
 
 pub other_has : (s : SetupView) (c : Coll) (root rank : ℕ) → can_call s rank c ≡ true → IsOther s (comm_of c) (root_place c) root rank
     → call_steps s rank c ≡ other_steps c root
 other_has s c root rank callable is =
-    steps.chosen (can_call s rank c) (steps_of s rank c) [] callable
-    ∙ steps.other (place_of s (comm_of c) rank == root_place c) _ _ (different (place_of s (comm_of c) rank) (root_place c) (other_place s (comm_of c) (root_place c) root rank is))
+    choices.chosen (can_call s rank c) (steps_of s rank c) [] callable
+    ∙ choices.other (place_of s (comm_of c) rank == root_place c) _ _ (different (place_of s (comm_of c) rank) (root_place c) (other_place s (comm_of c) (root_place c) root rank is))
     ∙ ap (other_steps c) (root_found s (comm_of c) (root_place c) root rank is)
 
 -- sends of the source to each of the others

@@ -10,19 +10,19 @@ use Rattle.scc_base.specs.Calls.{DataCall, Message}
 use Rattle.scc_base.specs.Calls.DataCall.{Send}
 use Rattle.scc_base.specs.Heads.{MessageHead}
 use Rattle.groups.proofs.StepLemmas.{get_front, get_behind}
-use Rattle.script_plain.specs.declared.prims.Source.{Source}
-use Rattle.script_plain.specs.declared.prims.Source.TheVariants as source_of
-use Rattle.script_plain.specs.declared.prims.Standing.TheVariants as standing
+use Rattle.script_machine.specs.declared.prims.Source.{Source}
+use Rattle.script_machine.specs.declared.prims.Source.TheVariants as source_of
+use Rattle.script_machine.specs.declared.prims.Standing.TheVariants as standing
 use Rattle.script_plain.specs.Collectives.{gone_by, gone_through}
-use Rattle.script_plain.specs.Local.{gone_on, local_next, next_by_act, next_by_prim, prim_by_standing, source_bytes, with_length}
+use Rattle.script_machine.specs.Local.{gone_on, local_next, next_by_act, next_by_prim, prim_by_standing, source_bytes, with_length}
 use Rattle.script_plain.specs.Meaning.{State, next_of, recorded}
 use Rattle.script_plain.specs.Messages.{is_of, sent_by}
-use Rattle.script_plain.specs.Next.{Next}
-use Rattle.script_plain.specs.Next.Next.{Ends, Goes, Posts, Sends, Recvs, Bars}
-use Rattle.script_plain.specs.Program.{Act, Prim}
+use Rattle.script_machine.specs.Next.{Next}
+use Rattle.script_machine.specs.Next.Next.{Ends, Goes, Posts, Sends, Recvs, Bars}
+use Rattle.script_machine.specs.Program.{Act, Prim}
 use Rattle.script_plain.proofs.Messages.MessageLaws.{Logs, logs}
 use Rattle.script_plain.proofs.Orders.OrderLaws.{different}
-use Rattle.script_plain.proofs.Runs.StepLaws as steps
+use Rattle.script_machine.proofs.Choices as choices
 
 -- the messages of a kind in a communicator among those that calls make
 abbrev pub chosen : (Message → Bool) → (DataCall → List Message) → List DataCall → List Message
@@ -43,7 +43,7 @@ pub chosen_one : (test : Message → Bool) (part : DataCall → List Message) (c
 chosen_one test part calls call m one passes =
     chosen_append test part calls (call ∷ [])
     ∙ ap (λ (l : List Message). chosen test part calls ++ filter test (l ++ [])) one
-    ∙ ap (λ (l : List Message). chosen test part calls ++ l) (steps.chosen (test m) (m ∷ []) [] passes)
+    ∙ ap (λ (l : List Message). chosen test part calls ++ l) (choices.chosen (test m) (m ∷ []) [] passes)
 
 -- the entry behind a list
 pub get_last : (l : List Message) (m : Message) → slice_get (l ++ m ∷ []) (length l) ≡ Some m
@@ -128,7 +128,7 @@ first_sent kind comm line i head source X tail rest (to ∷ list) u (bytes ∷ p
 
     here : to ≡ i → m ≡ record { head = with_length head (length X); bytes = X }
     here is =
-        let more = chosen_one (is_of kind comm) (sent_by i) u.matched (Send to sent.head sent.bytes) sent (steps.chosen (to == i) (sent ∷ []) [] (eq-eqb to i is)) mine in
+        let more = chosen_one (is_of kind comm) (sent_by i) u.matched (Send to sent.head sent.bytes) sent (choices.chosen (to == i) (sent ∷ []) [] (eq-eqb to i is)) mine in
         let stood : slice_get (chosen (is_of kind comm) (sent_by i) v.matched) (length (chosen (is_of kind comm) (sent_by i) u.matched)) ≡ Some sent =
         ap (λ (l : List Message). slice_get l (length (chosen (is_of kind comm) (sent_by i) u.matched))) more ∙ get_last (chosen (is_of kind comm) (sent_by i) u.matched) sent in
         let kept = keeps (is_of kind comm) (sent_by i) path v (length (chosen (is_of kind comm) (sent_by i) u.matched)) sent stood in
@@ -140,7 +140,7 @@ first_sent kind comm line i head source X tail rest (to ∷ list) u (bytes ∷ p
         → slice_get (chosen (is_of kind comm) (sent_by i) (gone_through path w).matched) (length (chosen (is_of kind comm) (sent_by i) w.matched)) ≡ Some m → m ≡ record { head = with_length head (length X); bytes = X })
         → m ≡ record { head = with_length head (length X); bytes = X }
     there apart again =
-        let none : sent_by i (Send to sent.head sent.bytes) ≡ [] = steps.other (to == i) (sent ∷ []) [] (different to i apart) in
+        let none : sent_by i (Send to sent.head sent.bytes) ≡ [] = choices.other (to == i) (sent ∷ []) [] (different to i apart) in
         let same = chosen_none (is_of kind comm) (sent_by i) u.matched (Send to sent.head sent.bytes) none in
         again v
         (past line rest (map (λ to. Act.Send to head source) list ++ tail) u (Act.Send to head source) facing v refl refl)

@@ -19,14 +19,14 @@ use Rattle.groups.specs.declared.operations.Ty.{Ty}
 use Rattle.script_reader.specs.Script.{Script}
 use Rattle.script_reader.specs.declared.script.Stmt.{Stmt}
 use Rattle.script_reader.specs.declared.script.Stmt.TheVariants as stmt
-use Rattle.script_plain.specs.declared.prims.Operands.{Operands}
-use Rattle.script_plain.specs.declared.prims.Source.TheVariants as source_of
+use Rattle.script_machine.specs.declared.prims.Operands.{Operands}
+use Rattle.script_machine.specs.declared.prims.Source.TheVariants as source_of
 use Rattle.script_plain.specs.Collectives.{AreReduced, AreReducedToAll, AreToldAll, CameTo, Gives, HasDone, IsOther, gone_by, gone_through}
-use Rattle.script_plain.specs.Local.{asked_head, folded, gone_on, gone_on_folding, gone_on_gathering, register_at, with_length}
+use Rattle.script_machine.specs.Local.{asked_head, folded, gone_on, gone_on_folding, gone_on_gathering, register_at, with_length}
 use Rattle.script_plain.specs.Meaning.{State, next_of}
 use Rattle.script_plain.specs.Messages.{AreDelivered, is_of, received_by, sent_by}
-use Rattle.script_plain.specs.Program.{Act, Prim, acts_of, can_call, part_of, parts_of, setup_of}
-use Rattle.script_plain.specs.Program.Act.{Send, Gather, Begin, Fold, Accept, Finish}
+use Rattle.script_machine.specs.Program.{Act, Prim, acts_of, can_call, part_of, parts_of, setup_of}
+use Rattle.script_machine.specs.Program.Act.{Send, Gather, Begin, Fold, Accept, Finish}
 use Rattle.script_plain.specs.Step.{Configuration}
 use Rattle.script_plain.proofs.Collectives.BroadcastLaws.{Unchanged, accepts, faces, own_kind, past_sends}
 use Rattle.script_plain.proofs.Collectives.CollectiveFits.{AreFit, came_to}
@@ -34,7 +34,7 @@ use Rattle.script_plain.proofs.Collectives.CollectiveGroups.{AreApart, Each, eac
 use Rattle.script_plain.proofs.Collectives.CollectivePaths.{Facing, by_send, chosen, chosen_none, faced, first_sent, past, through_both}
 use Rattle.script_plain.proofs.Messages.MessageLaws.{received_as_sent}
 use Rattle.script_plain.proofs.Collectives.ReductionPaths.{AreQuiet, Comes, Counted, Folded, fold_operands, gathers_length, gathers_quiet, past_folds, split_at}
-use Rattle.script_plain.proofs.Runs.StepLaws as steps
+use Rattle.script_machine.proofs.Choices as choices
 
 -- nothing is sent on the way through quiet acts
 pub quiet_path : (test : Message → Bool) (i line : ℕ) (tail : List Act) (rest : List Prim) (acts : List Act) (u : State) (path : List (List ℕ))
@@ -162,8 +162,8 @@ allreduce_at_other s comm root rank dst src op ty callable is = ap (parts_of (fo
 -- a rank that runs is one of the ranks
 pub below_of : (s : SetupView) (c : Coll) (root : ℕ) → can_call s root c ≡ true → root < s.nue
 below_of s c root callable =
-    let one = steps.both_true _ _ callable in
-    let two = steps.both_true _ _ one.0 in
+    let one = choices.both_true _ _ callable in
+    let two = choices.both_true _ _ one.0 in
     ltb-true root s.nue two.1
 
 pub reduced : (script : Script) (c : Configuration State) → AreDelivered c → AreFit script c → AreReduced script c

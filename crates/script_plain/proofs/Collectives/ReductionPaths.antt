@@ -8,17 +8,17 @@ use Rattle.groups.specs.Folds.{bytes_in, fold_of, fold_values}
 use Rattle.groups.specs.declared.operations.Op.{Op}
 use Rattle.groups.specs.declared.operations.Ty.{Ty}
 use Rattle.groups.proofs.FoldLemmas.{fold_length}
-use Rattle.script_plain.specs.declared.prims.Operands.{Operands}
+use Rattle.script_machine.specs.declared.prims.Operands.{Operands}
 use Rattle.script_plain.specs.Collectives.{gone_by, gone_through}
-use Rattle.script_plain.specs.Local.{folded, gone_on_folding, gone_on_gathering, register_at, with_length}
+use Rattle.script_machine.specs.Local.{folded, gone_on_folding, gone_on_gathering, register_at, with_length}
 use Rattle.script_plain.specs.Meaning.{State, next_of}
 use Rattle.script_plain.specs.Messages.{is_of, received_by}
-use Rattle.script_plain.specs.Program.{Act, Prim}
-use Rattle.script_plain.specs.Program.Act.{Gather, Begin, Fold}
+use Rattle.script_machine.specs.Program.{Act, Prim}
+use Rattle.script_machine.specs.Program.Act.{Gather, Begin, Fold}
 use Rattle.script_plain.proofs.Collectives.CollectiveGroups.{AreApart, Each, each_both, each_on, gathers}
 use Rattle.script_plain.proofs.Collectives.CollectivePaths.{Facing, chosen, chosen_none, chosen_one, faced, get_last, keeps, past}
 use Rattle.script_plain.proofs.Orders.OrderLaws.{different}
-use Rattle.script_plain.proofs.Runs.StepLaws as steps
+use Rattle.script_machine.proofs.Choices as choices
 
 -- what a fold is given: the messages of the others are as long as the source
 abbrev pub fold_operands : Op → Ty → ℕ → ℕ → Operands
@@ -74,7 +74,7 @@ module _ (kind comm line dst src : ℕ) (op : Op) (ty : Ty) (head : MessageHead)
     registers = refl;
     accumulator = is_folded ∙ ap (fold_values op ty u.local.accumulator) given.0;
     long = ap length is_folded ∙ fold_length op ty u.local.accumulator one (record { same = even_one; whole = whole_acc });
-    others = λ k apart. ap length (chosen_none (is_of kind comm) (received_by k) u.matched (Recv j asked one) (steps.other (j == k) (m ∷ []) [] (different j k apart)));
+    others = λ k apart. ap length (chosen_none (is_of kind comm) (received_by k) u.matched (Recv j asked one) (choices.other (j == k) (m ∷ []) [] (different j k apart)));
   }
     where
       asked : MessageHead
@@ -104,7 +104,7 @@ module _ (kind comm line dst src : ℕ) (op : Op) (ty : Ty) (head : MessageHead)
       there : slice_get (chosen (is_of kind comm) (received_by j) w.matched) (length (chosen (is_of kind comm) (received_by j) u.matched)) ≡ Some m
       there =
           ap (λ (l : List Message). slice_get l (length (chosen (is_of kind comm) (received_by j) u.matched)))
-          (chosen_one (is_of kind comm) (received_by j) u.matched (Recv j asked one) m (steps.chosen (j == j) (m ∷ []) [] (eq-eqb j j refl)) mine)
+          (chosen_one (is_of kind comm) (received_by j) u.matched (Recv j asked one) m (choices.chosen (j == j) (m ∷ []) [] (eq-eqb j j refl)) mine)
           ∙ get_last (chosen (is_of kind comm) (received_by j) u.matched) m
 
       found : slice_get (chosen (is_of kind comm) (received_by j) final.matched) (count j) ≡ Some m
@@ -125,8 +125,8 @@ module _ (kind comm line dst src : ℕ) (op : Op) (ty : Ty) (head : MessageHead)
 
       is_folded : folded op ty u.local.accumulator one ≡ fold_values op ty u.local.accumulator one
       is_folded =
-          steps.chosen ((length u.local.accumulator == length one) && (length u.local.accumulator % bytes_in ty == 0)) _ _
-          (steps.and_of (length u.local.accumulator == length one) (length u.local.accumulator % bytes_in ty == 0)
+          choices.chosen ((length u.local.accumulator == length one) && (length u.local.accumulator % bytes_in ty == 0)) _ _
+          (choices.and_of (length u.local.accumulator == length one) (length u.local.accumulator % bytes_in ty == 0)
           (eq-eqb (length u.local.accumulator) (length one) even_one) (eq-eqb (length u.local.accumulator % bytes_in ty) 0 whole_acc))
 
   pub past_folds : (list : List ℕ) (u : State) (path later : List (List ℕ))

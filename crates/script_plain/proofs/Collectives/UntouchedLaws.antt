@@ -9,11 +9,11 @@ use Rattle.script_reader.specs.Script.{Script}
 use Rattle.script_reader.specs.Settled.{IsWhole}
 use Rattle.script_reader.specs.declared.script.Stmt.{Stmt}
 use Rattle.script_reader.specs.declared.script.Stmt.TheVariants as stmt
-use Rattle.script_plain.specs.declared.prims.Source.TheVariants as source_of
+use Rattle.script_machine.specs.declared.prims.Source.TheVariants as source_of
 use Rattle.script_plain.specs.Collectives.{AreUntouched, HasDone}
 use Rattle.script_plain.specs.Meaning.{State}
-use Rattle.script_plain.specs.Program.{Prim, acts_of, setup_of}
-use Rattle.script_plain.specs.Program.Act.{Send}
+use Rattle.script_machine.specs.Program.{Prim, acts_of, setup_of}
+use Rattle.script_machine.specs.Program.Act.{Send}
 use Rattle.script_plain.proofs.Collectives.BroadcastLaws.{bcast_at_root, faces, past_sends}
 use Rattle.script_plain.proofs.Collectives.CollectiveFits.{may_cast, may_reduce}
 use Rattle.script_plain.proofs.Collectives.ReductionLaws.{reduce_at_other}

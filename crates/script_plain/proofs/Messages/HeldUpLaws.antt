@@ -12,19 +12,19 @@ use Rattle.scc_base.specs.Heads.{MessageHead}
 use Rattle.scc_base.proofs.GroupFacts.{root_once, root_with, root_within, with_same, with_true}
 use Rattle.script_reader.specs.Script.{Script}
 use Rattle.script_reader.specs.Settled.{IsWhole}
-use Rattle.script_plain.specs.declared.posts.Posted.{Posted}
-use Rattle.script_plain.specs.declared.prims.Standing.{Standing}
-use Rattle.script_plain.specs.declared.prims.Standing.TheVariants as standing
+use Rattle.script_machine.specs.declared.posts.Posted.{Posted}
+use Rattle.script_machine.specs.declared.prims.Standing.{Standing}
+use Rattle.script_machine.specs.declared.prims.Standing.TheVariants as standing
 use Rattle.script_plain.specs.Collectives.{started}
 use Rattle.script_plain.specs.Ends.{Ended, ended, ended_at, nothing_ended}
 use Rattle.script_plain.specs.HeldUp.{HasCause, IsAwaited, IsExplained, ended_at_barrier}
-use Rattle.script_plain.specs.Local.{Local, end_by_prim, end_by_slot, end_by_standing, end_of, local_at, nobody, local_next, next_by_act, next_by_prim, prim_by_standing, waits_at}
+use Rattle.script_machine.specs.Local.{Local, end_by_prim, end_by_slot, end_by_standing, end_of, local_at, nobody, local_next, next_by_act, next_by_prim, prim_by_standing, waits_at}
 use Rattle.script_plain.specs.Meaning.{State, keys_of, locals_of, next_of, plain_end, plain_ends, recorded, seen_of, start_of}
-use Rattle.script_plain.specs.Next.{Next, call_of, is_at_barrier}
-use Rattle.script_plain.specs.Next.Next.{Ends, Goes, Posts, Sends, Recvs, Bars}
-use Rattle.script_plain.specs.Program.{Act, Prim}
+use Rattle.script_machine.specs.Next.{Next, call_of, is_at_barrier}
+use Rattle.script_machine.specs.Next.Next.{Ends, Goes, Posts, Sends, Recvs, Bars}
+use Rattle.script_machine.specs.Program.{Act, Prim}
 use Rattle.script_plain.specs.Step.{Configuration, all_at_barrier, next_at, slot_at, step_of}
-use Rattle.script_plain.proofs.ProgramLengths.AimLemmas.{AreAimed, IsAimedAct, program_aimed}
+use Rattle.script_machine.proofs.ProgramLengths.AimLemmas.{AreAimed, IsAimedAct, program_aimed}
 use Rattle.script_plain.proofs.Messages.KeptLaws.{AllKept, KeepsNext, kept_runs}
 use Rattle.script_plain.proofs.Messages.MessageLaws.{empty_slot, to_plain_end}
 use Rattle.script_plain.proofs.OwnWays.OwnWayLaws.{start_cell}

@@ -7,11 +7,11 @@ use Rattle.std.proofs.lemmas.Option.{slice_get-map}
 use Rattle.script_reader.specs.Script.{Script}
 use Rattle.script_plain.specs.declared.matches.Match.{Match}
 use Rattle.script_plain.specs.Code.{BringsAt, BringsLowest}
-use Rattle.script_plain.specs.Local.{Local, cost_of, local_next}
-use Rattle.script_plain.specs.Matches.{brought, brought_by, line_at, line_of, lowest_brought, match_of, matches_on, plain_matches, step_brought, taken}
+use Rattle.script_machine.specs.Local.{Local, cost_of, local_next, line_of}
+use Rattle.script_plain.specs.Matches.{brought, brought_by, line_at, lowest_brought, match_of, matches_on, plain_matches, step_brought, brought_by_take}
 use Rattle.script_plain.specs.Meaning.{State, keys_of, locals_of, next_of, seen_of, start_of, steps_left}
-use Rattle.script_plain.specs.Next.{Next}
-use Rattle.script_plain.specs.Next.Next.{Ends, Goes, Posts, Sends, Recvs, Bars}
+use Rattle.script_machine.specs.Next.{Next}
+use Rattle.script_machine.specs.Next.Next.{Ends, Goes, Posts, Sends, Recvs, Bars}
 use Rattle.script_plain.specs.Step.{Configuration, lowest, lowest_step, next_at, slot_at, step_of}
 use Rattle.script_plain.proofs.Runs.Costs.{Lowers, next_map}
 use Rattle.script_plain.proofs.Runs.PlainLaws.{local_lowers, state_seen}
@@ -70,7 +70,7 @@ module _ {U V : Type 0} (f : U → V) (keys : ℕ → ℕ → ℕ) (next : U →
   brought_by-map c i (Sends to head bytes after) =
       ap (λ (k : ℕ). match_of i to head k (line_at line (view_of f c) to) ∷ []) (line-map c i)
       ∙ ap (λ (k : ℕ). match_of i to head (line_at (λ u. line (f u)) c i) k ∷ []) (line-map c to)
-  brought_by-map c i (Recvs from head take refuse) = ap (λ (k : ℕ). taken i from head k (slot_at c from)) (line-map c i)
+  brought_by-map c i (Recvs from head take refuse) = ap (λ (k : ℕ). brought_by_take i from head k (slot_at c from)) (line-map c i)
   brought_by-map c i (Bars comm after) = refl
 
   brought-map : (c : Configuration U) (i : ℕ) → brought seen line (view_of f c) i ≡ brought next (λ u. line (f u)) c i

@@ -16,17 +16,18 @@ use Rattle.scc_base.specs.Runs.{EndsAt, Runs}
 use Rattle.scc_base.proofs.Confluence.{other_end}
 use Rattle.groups.proofs.StepLemmas.{get_front}
 use Rattle.script_reader.specs.Script.{Script}
-use Rattle.script_plain.specs.declared.posts.Posted.{Posted}
-use Rattle.script_plain.specs.Local.{Local, local_next, local_start}
+use Rattle.script_machine.specs.declared.posts.Posted.{Posted}
+use Rattle.script_machine.specs.Local.{Local, local_next, local_start}
 use Rattle.script_plain.specs.Meaning.{IsPlainStep, State, keys_of, next_of, plain_end, recorded, start_of, steps_left}
 use Rattle.script_plain.specs.Messages.{AreDelivered, AreReceivedAsSent, is_of, received_by, received_from, sent_by, sent_to, waiting_for}
-use Rattle.script_plain.specs.Next.{Next, is_at_barrier, past_barrier}
-use Rattle.script_plain.specs.Next.Next.{Ends, Goes, Posts, Sends, Recvs, Bars}
+use Rattle.script_machine.specs.Next.{Next, is_at_barrier, past_barrier}
+use Rattle.script_machine.specs.Next.Next.{Ends, Goes, Posts, Sends, Recvs, Bars}
 use Rattle.script_plain.specs.Step.{Configuration, next_at, slot_at, all_at_barrier, by_rank, past_if, same_head}
 use Rattle.script_plain.proofs.Orders.EndLaws.{reached}
 use Rattle.script_plain.proofs.Orders.OrderLaws.{different, get_set}
 use Rattle.script_plain.proofs.Runs.PlainLaws.{plain_end_still}
 use Rattle.script_plain.proofs.Runs.RunLaws.{get-by_rank, length-step, stands_there, there}
+use Rattle.script_machine.proofs.Choices as choices
 use Rattle.script_plain.proofs.Runs.StepLaws as steps
 use Rattle.script_plain.proofs.Runs.StepLaws.Takes.{Alone, Left, Met, Fetched, RefusedPost, RefusedSend, Passed}
 
@@ -105,7 +106,7 @@ module _ (M N : ℕ → List DataCall) (i : ℕ) (call : DataCall) (more : Longe
 
       elsewhere : b ≢ i → sent_to b (M j) ≡ received_from j (N b)
       elsewhere apart =
-          let none : waiting_for b (Some m) ≡ [] = steps.other (m.to == b) (record { head = m.head; bytes = m.bytes } ∷ []) [] (different m.to b (λ e. apart (sym e ∙ mine))) in
+          let none : waiting_for b (Some m) ≡ [] = choices.other (m.to == b) (record { head = m.head; bytes = m.bytes } ∷ []) [] (different m.to b (λ e. apart (sym e ∙ mine))) in
           fit j b
           ∙ ap (λ (o : Option Posted). received_from j (M b) ++ waiting_for b o) full
           ∙ ap (λ (l : List Message). received_from j (M b) ++ l) none
@@ -159,14 +160,14 @@ standing c i n stands is_some =
 
 -- a rank's state is written
 pub cell_there : (us : List State) (i : ℕ) (v w : State) → slice_get us i ≡ Some w → slice_get (set us i v) i ≡ Some v
-cell_there us i v w here = get_set us i v i ∙ ap (option_map (λ u. if i == i then v else u)) here ∙ ap Some (steps.chosen (i == i) v w (eq-eqb i i refl))
+cell_there us i v w here = get_set us i v i ∙ ap (option_map (λ u. if i == i then v else u)) here ∙ ap Some (choices.chosen (i == i) v w (eq-eqb i i refl))
 
 pub cell_other : (us : List State) (i : ℕ) (v : State) (k : ℕ) → k ≢ i → slice_get (set us i v) k ≡ slice_get us k
 cell_other us i v k apart = get_set us i v k ∙ same (slice_get us k)
   where
     same : (o : Option State) → option_map (λ u. if k == i then v else u) o ≡ o
     same None = refl
-    same (Some u) = ap Some (steps.other (k == i) v u (different k i apart))
+    same (Some u) = ap Some (choices.other (k == i) v u (different k i apart))
 
 cell_more : (us : List State) (i : ℕ) (v w : State) (call : DataCall) → slice_get us i ≡ Some w → v.matched ≡ w.matched ++ call ∷ [] → Longer (calls_in us) (calls_in (set us i v)) i call
 cell_more us i v w call here more = record {
@@ -197,8 +198,8 @@ within_cells us i u here =
 -- equal heads
 pub same_heads : (sent asked : MessageHead) → same_head sent asked ≡ true → sent ≡ asked
 same_heads sent asked same =
-    let parts = steps.both_true ((sent.kind == asked.kind) && (sent.comm == asked.comm)) (sent.len == asked.len) same in
-    let front = steps.both_true (sent.kind == asked.kind) (sent.comm == asked.comm) parts.0 in
+    let parts = choices.both_true ((sent.kind == asked.kind) && (sent.comm == asked.comm)) (sent.len == asked.len) same in
+    let front = choices.both_true (sent.kind == asked.kind) (sent.comm == asked.comm) parts.0 in
     let kind : sent.kind ≡ asked.kind = eqb-true sent.kind asked.kind front.0 in
     let comm : sent.comm ≡ asked.comm = eqb-true sent.comm asked.comm front.1 in
     let len : sent.len ≡ asked.len = eqb-true sent.len asked.len parts.1 in
@@ -262,8 +263,8 @@ fits_step keys c d i even (Met j head bytes after asked take refuse stands slot 
     subst FitsIn (sym made)
     (get (calls_in (set c.cells i after)) (calls_in (set (set c.cells i after) j (take bytes))) j (Recv i asked bytes) (cell_more (set c.cells i after) j (take bytes) peer.0 _ left (peer.2.0 bytes))
     full (slot_at c) i m into.there refl out (λ b. refl)
-    (λ a odd. steps.other (i == a) (record { head = asked; bytes = bytes } ∷ []) [] (different i a (λ e. odd (sym e))))
-    (steps.chosen (i == i) _ [] (eq-eqb i i refl) ∙ ap (λ (h : MessageHead). record { head = h; bytes = bytes } ∷ []) (sym (same_heads head asked same)) ∙ sym (steps.chosen (j == j) _ [] (eq-eqb j j refl)))
+    (λ a odd. choices.other (i == a) (record { head = asked; bytes = bytes } ∷ []) [] (different i a (λ e. odd (sym e))))
+    (choices.chosen (i == i) _ [] (eq-eqb i i refl) ∙ ap (λ (h : MessageHead). record { head = h; bytes = bytes } ∷ []) (sym (same_heads head asked same)) ∙ sym (choices.chosen (j == j) _ [] (eq-eqb j j refl)))
     between)
 fits_step keys c d i even (Fetched j asked take refuse message stands slot mine same made) fit =
     let here = standing c i (Recvs j asked take refuse) stands (λ e. cc) in
@@ -271,8 +272,8 @@ fits_step keys c d i even (Fetched j asked take refuse message stands slot mine 
     subst FitsIn (sym made)
     (get (calls_in c.cells) (calls_in (set c.cells i (take message.bytes))) i (Recv j asked message.bytes) (cell_more c.cells i (take message.bytes) here.0 _ here.1 (here.2.0 message.bytes))
     (slot_at c) (λ k. slice_index_or (set c.slots j None) k None) j message slot mine (slot_written c.slots j None low) (λ b. refl)
-    (λ a odd. steps.other (j == a) (record { head = asked; bytes = message.bytes } ∷ []) [] (different j a (λ e. odd (sym e))))
-    (steps.chosen (j == j) _ [] (eq-eqb j j refl) ∙ ap (λ (h : MessageHead). record { head = h; bytes = message.bytes } ∷ []) (sym (same_heads message.head asked same)) ∙ sym (steps.chosen (message.to == i) _ [] (eq-eqb message.to i mine)))
+    (λ a odd. choices.other (j == a) (record { head = asked; bytes = message.bytes } ∷ []) [] (different j a (λ e. odd (sym e))))
+    (choices.chosen (j == j) _ [] (eq-eqb j j refl) ∙ ap (λ (h : MessageHead). record { head = h; bytes = message.bytes } ∷ []) (sym (same_heads message.head asked same)) ∙ sym (choices.chosen (message.to == i) _ [] (eq-eqb message.to i mine)))
     fit)
   where
     slot_within : (j < length c.slots) ⊎ (length c.slots ≤ j) → j < length c.slots

@@ -3,10 +3,10 @@ use Rattle.std.proofs.Common.{◌≡◌, ℕ, ◌+◌, ◌<◌, ◌≤◌, List,
 use Rattle.std.specs.List.{range_with_len}
 use Rattle.std.proofs.lemmas.List.{get_or_read, get_or-set_other}
 use Rattle.std.proofs.lemmas.List.FromFn.{length-map-range_with_len, map-range_with_len_more}
-use Rattle.script_plain.specs.declared.posts.Posted.{Posted}
+use Rattle.script_machine.specs.declared.posts.Posted.{Posted}
 use Rattle.script_plain.specs.Ends.{Ended, ended, ends_of}
 use Rattle.script_plain.specs.Step.{Configuration}
-use Rattle.script_plain.specs.Local.{Local, local_at, nobody}
+use Rattle.script_machine.specs.Local.{Local, local_at, nobody}
 
 -- what one rank more leaves behind
 pub ends_more : (initial ues : List Local) (slots : List (Option Posted)) (before after : List Ended) (i : ℕ) (u : Local) (slot : Option Posted) (made : Ended) →

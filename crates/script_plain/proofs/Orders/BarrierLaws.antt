@@ -13,15 +13,16 @@ use Rattle.scc_base.specs.Runs.{EndsAt, Runs}
 use Rattle.scc_base.proofs.Confluence.{other_end}
 use Rattle.script_reader.specs.Script.{Script}
 use Rattle.script_plain.specs.Barriers.{AreMet, finished_barriers, is_barrier}
-use Rattle.script_plain.specs.Local.{Local, local_next, local_start}
+use Rattle.script_machine.specs.Local.{Local, local_next, local_start}
 use Rattle.script_plain.specs.Meaning.{IsPlainStep, State, keys_of, next_of, plain_end, recorded, start_of, steps_left}
-use Rattle.script_plain.specs.Next.{Next, is_at_barrier, past_barrier}
-use Rattle.script_plain.specs.Next.Next.{Ends, Goes, Posts, Sends, Recvs, Bars}
+use Rattle.script_machine.specs.Next.{Next, is_at_barrier, past_barrier}
+use Rattle.script_machine.specs.Next.Next.{Ends, Goes, Posts, Sends, Recvs, Bars}
 use Rattle.script_plain.specs.Step.{Configuration, next_at, all_at_barrier, by_rank, past_if, step_of}
 use Rattle.script_plain.proofs.Orders.EndLaws.{reached}
 use Rattle.script_plain.proofs.Orders.OrderLaws.{different, get_set}
 use Rattle.script_plain.proofs.Runs.PlainLaws.{plain_end_still}
 use Rattle.script_plain.proofs.Runs.RunLaws.{get-by_rank, stands_there, there}
+use Rattle.script_machine.proofs.Choices as choices
 use Rattle.script_plain.proofs.Runs.StepLaws as steps
 use Rattle.script_plain.proofs.Runs.StepLaws.Takes.{Alone, Left, Met, Fetched, RefusedPost, RefusedSend, Passed}
 
@@ -124,7 +125,7 @@ module _ {U : Type 0} (keys : ℕ → ℕ → ℕ) (next : U → Next U) (count 
       let peer = standing c j (Recvs i asked take refuse) meets (λ e. cc) in
       let apart : j ≢ i = λ e. let both : Recvs i asked take refuse ≡ Sends j head bytes after = sym meets ∙ ap (next_at next c) e ∙ stands in cc in
       let left : slice_get (set c.cells i after) j ≡ Some peer.0 =
-      get_set c.cells i after j ∙ ap (option_map (λ u. if j == i then after else u)) peer.1 ∙ ap Some (steps.other (j == i) after peer.0 (different j i apart)) in
+      get_set c.cells i after j ∙ ap (option_map (λ u. if j == i then after else u)) peer.1 ∙ ap Some (choices.other (j == i) after peer.0 (different j i apart)) in
       subst (Rises c) (sym made) (flat c _ (λ comm k v is.
       let (u, at, first) = set_counted (set c.cells i after) j (take bytes) peer.0 left (λ x. (peer.2 x).0 bytes) comm k v is in
       let (w, was, second) = set_counted c.cells i after here.0 here.1 here.2 comm k u at in

@@ -4,7 +4,7 @@ use Rattle.std.specs.Option.{option_map_or, option_or}
 use Rattle.std.proofs.lemmas.Bool.{cases_eq}
 use Rattle.scc_base.specs.Runs.{EndsAt, IsStill, NoneBelow, Runs}
 use Rattle.scc_base.proofs.Confluence as confluence
-use Rattle.script_plain.specs.Next.{Next}
+use Rattle.script_machine.specs.Next.{Next}
 use Rattle.script_plain.specs.Step.{Configuration, IsStep, step_of, lowest, lowest_step, run_on}
 use Rattle.script_plain.proofs.Runs.Costs.{Lowers}
 use Rattle.script_plain.proofs.Orders.OrderLaws as orders

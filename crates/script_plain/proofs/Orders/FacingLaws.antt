@@ -8,26 +8,27 @@ use Rattle.std.proofs.lemmas.List.{length-set}
 use Rattle.std.proofs.lemmas.Option.{slice_get-get_or, slice_get_within, unwrap_or-slice_get}
 use Rattle.scc_base.specs.Groups.{is_with, root_in}
 use Rattle.scc_base.specs.Heads.{MessageHead}
-use Rattle.script_plain.specs.declared.facing.Facing.{Facing}
-use Rattle.script_plain.specs.declared.facing.Facing.TheVariants as facing
+use Rattle.script_machine.specs.declared.facing.Facing.{Facing}
+use Rattle.script_machine.specs.declared.facing.Facing.TheVariants as facing
 use Rattle.script_plain.specs.declared.matches.Match.{Match}
-use Rattle.script_plain.specs.declared.posts.Posted.{Posted}
+use Rattle.script_machine.specs.declared.posts.Posted.{Posted}
 use Rattle.script_plain.specs.Code.{BringsAt, BringsLowest}
-use Rattle.script_plain.specs.Facing.{AreAside, IsAside, IsStillTo, facing_at, facing_of, heeds}
-use Rattle.script_plain.specs.Local.{Local, local_next}
-use Rattle.script_plain.specs.Matches.{brought, line_of, lowest_brought}
-use Rattle.script_plain.specs.Next.{Next, is_at_barrier}
-use Rattle.script_plain.specs.Next.Next.{Ends, Goes, Posts, Sends, Recvs, Bars}
+use Rattle.script_plain.specs.Facing.{AreAside, IsAside, IsStillTo, facing_at, heeds}
+use Rattle.script_machine.specs.Next.{facing_of, Next, is_at_barrier}
+use Rattle.script_machine.specs.Local.{Local, local_next, line_of}
+use Rattle.script_plain.specs.Matches.{brought, lowest_brought}
+use Rattle.script_machine.specs.Next.Next.{Ends, Goes, Posts, Sends, Recvs, Bars}
 use Rattle.script_plain.specs.Step.{Configuration, next_at, slot_at, with_cell, with_slot, post_step, match_step, receive_step, all_at_barrier, barrier_step, by_rank, past_if, step_by, step_of, lowest, lowest_step}
 use Rattle.script_plain.proofs.Orders.OrderLaws.{different, get_set, kept}
 use Rattle.script_plain.proofs.Runs.RunLaws as runs
+use Rattle.script_machine.proofs.Choices as choices
 use Rattle.script_plain.proofs.Runs.StepLaws as steps
 use Rattle.script_plain.proofs.Runs.StepLaws.Takes.{Alone, Left, Met, Fetched, RefusedPost, RefusedSend, Passed}
 
 -- a write leaves the other elements
 set_other : {A : Type 0} (xs : List A) (i : ℕ) (v : A) (k : ℕ) → k ≢ i → slice_get (set xs i v) k ≡ slice_get xs k
 set_other xs i v k apart =
-    get_set xs i v k ∙ kept (λ u. cond (k == i) v u) (slice_get xs k) (λ u here. steps.other (k == i) v u (different k i apart))
+    get_set xs i v k ∙ kept (λ u. cond (k == i) v u) (slice_get xs k) (λ u here. choices.other (k == i) v u (different k i apart))
 
 not_same : (a b : ℕ) → (a == b) ≡ false → a ≢ b
 not_same a b is e = let yes : (a == b) ≡ true = eq-eqb a b e in absurd (cc)
@@ -156,11 +157,11 @@ module _ {U : Type 0} (keys : ℕ → ℕ → ℕ) (next : U → Next U) where
       by : (b : Bool) → ((root_in (keys comm) k == k) && all_at_barrier next comm (is_with (keys comm) k) d.cells) ≡ b → cond b (Some (record d { cells = by_rank (λ rank. past_if next (is_with (keys comm) k rank)) d.cells })) None ≡ None
       by false is = refl
       by true is =
-          let parts = steps.both_true (root_in (keys comm) k == k) (all_at_barrier next comm (is_with (keys comm) k) d.cells) is in
+          let parts = choices.both_true (root_in (keys comm) k == k) (all_at_barrier next comm (is_with (keys comm) k) d.cells) is in
           let before : ((root_in (keys comm) k == k) && all_at_barrier next comm (is_with (keys comm) k) c.cells) ≡ true =
-          steps.and_of (root_in (keys comm) k == k) (all_at_barrier next comm (is_with (keys comm) k) c.cells) parts.0 (all_before c d i j comm (is_with (keys comm) k) keeps one other parts.1) in
+          choices.and_of (root_in (keys comm) k == k) (all_at_barrier next comm (is_with (keys comm) k) c.cells) parts.0 (all_before c d i j comm (is_with (keys comm) k) keeps one other parts.1) in
           let enabled : barrier_step keys next c k comm ≡ Some (record c { cells = by_rank (λ rank. past_if next (is_with (keys comm) k rank)) c.cells }) =
-          steps.chosen ((root_in (keys comm) k == k) && all_at_barrier next comm (is_with (keys comm) k) c.cells) _ _ before in
+          choices.chosen ((root_in (keys comm) k == k) && all_at_barrier next comm (is_with (keys comm) k) c.cells) _ _ before in
           let never : Some (record c { cells = by_rank (λ rank. past_if next (is_with (keys comm) k rank)) c.cells }) ≡ None = sym enabled ∙ none in
           absurd (cc)
 

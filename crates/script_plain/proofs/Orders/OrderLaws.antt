@@ -8,10 +8,11 @@ use Rattle.scc_base.specs.Groups.{is_with, root_in}
 use Rattle.scc_base.specs.Heads.{MessageHead}
 use Rattle.scc_base.proofs.ChangeLaws.{true_or_false}
 use Rattle.scc_base.proofs.GroupFacts.{root_once, true_with, with_self}
-use Rattle.script_plain.specs.declared.posts.Posted.{Posted}
-use Rattle.script_plain.specs.Next.{Next, is_at_barrier}
-use Rattle.script_plain.specs.Next.Next.{Ends, Goes, Posts, Sends, Recvs, Bars}
+use Rattle.script_machine.specs.declared.posts.Posted.{Posted}
+use Rattle.script_machine.specs.Next.{Next, is_at_barrier}
+use Rattle.script_machine.specs.Next.Next.{Ends, Goes, Posts, Sends, Recvs, Bars}
 use Rattle.script_plain.specs.Step.{Configuration, next_at, slot_at, with_cell, with_slot, same_head, by_rank, past_if, step_of}
+use Rattle.script_machine.proofs.Choices as choices
 use Rattle.script_plain.proofs.Runs.StepLaws as steps
 use Rattle.script_plain.proofs.Runs.StepLaws.Takes.{Alone, Left, Met, Fetched, RefusedPost, RefusedSend, Passed}
 use Rattle.script_plain.proofs.Runs.RunLaws as runs
@@ -52,8 +53,8 @@ pub get_set : {A : Type 0} (xs : List A) (i : ℕ) (v : A) (k : ℕ) → slice_g
 get_set [] i v k = refl
 get_set (x ∷ xs) zero v zero = refl
 get_set (x ∷ xs) zero v (suc k) =
-    sym (kept (λ u. if suc k == 0 then v else u) (slice_get xs k) (λ u is. steps.other (suc k == 0) v u (different (suc k) 0 (λ e. absurd (omega (arith, e))))))
-get_set (x ∷ xs) (suc i) v zero = ap Some (sym (steps.other (0 == suc i) v x (different 0 (suc i) (λ e. absurd (omega (arith, e))))))
+    sym (kept (λ u. if suc k == 0 then v else u) (slice_get xs k) (λ u is. choices.other (suc k == 0) v u (different (suc k) 0 (λ e. absurd (omega (arith, e))))))
+get_set (x ∷ xs) (suc i) v zero = ap Some (sym (choices.other (0 == suc i) v x (different 0 (suc i) (λ e. absurd (omega (arith, e))))))
 get_set (x ∷ xs) (suc i) v (suc k) =
     get_set xs i v k ∙ ap (λ (b : Bool). option_map (λ u. if b then v else u) (slice_get xs k)) (sym (suc_same k i))
 
@@ -144,7 +145,7 @@ module _ {U : Type 0} (keys : ℕ → ℕ → ℕ) (next : U → Next U) where
       (true_or_false (k == i))
 
   kept_out : {A : Type 0} (cells : ℕ → Bool) (i : ℕ) (v : A) → cells i ≡ true → (k : ℕ) (u : A) → cells k ≡ false → (if k == i then v else u) ≡ u
-  kept_out cells i v inside k u out = steps.other (k == i) v u (outside cells i inside k out)
+  kept_out cells i v inside k u out = choices.other (k == i) v u (outside cells i inside k out)
 
   -- one rank's state is written
   frame_one : (c : Configuration U) (a i : ℕ) (v : U) (cells slots : ℕ → Bool) → cells i ≡ true → ((k : ℕ) → cells k ≡ true → cell_owner c k ≡ a) → ((k : ℕ) → slots k ≡ true → slot_owner c k ≡ a) → ((s : Configuration U) → Agrees cells slots c s → step_of keys next s a ≡ Some (with_cell s i v)) → Frame c a
@@ -221,9 +222,9 @@ module _ {U : Type 0} (keys : ℕ → ℕ → ℕ) (next : U → Next U) where
       (Left message after (same_next c s a (Posts message after) (agrees.same_cells a (eq-eqb a a refl)) stands) (same_slot c s a None (agrees.same_slots a (eq-eqb a a refl)) slot) refl))
   frame_kind c d a (Met j head bytes after asked take refuse stands slot there same made) =
       let sends : sender_owner a j head (next_at next c j) ≡ a =
-      ap (sender_owner a j head) there ∙ steps.chosen (same_head head asked) a j same in
+      ap (sender_owner a j head) there ∙ choices.chosen (same_head head asked) a j same in
       let receives : receiver_owner j a asked (slot_at c a) (next_at next c a) ≡ a =
-      ap (λ (o : Option Posted). receiver_owner j a asked o (next_at next c a)) slot ∙ ap (receiver_owner j a asked None) stands ∙ steps.chosen (same_head head asked) a j same in
+      ap (λ (o : Option Posted). receiver_owner j a asked o (next_at next c a)) slot ∙ ap (receiver_owner j a asked None) stands ∙ choices.chosen (same_head head asked) a j same in
       frame_two c a a j after (take bytes) (both a j) (only a) (in_both_one a j) (in_both_two a j)
       (two_of (λ k. cell_owner c k ≡ a) a j (owned_one c a a (Sends j head bytes after) stands sends) (owned_one c j a (Recvs a asked take refuse) there receives))
       (one_of (λ k. slot_owner c k ≡ a) a (slot_owned_one c a a None (Sends j head bytes after) slot stands sends))
@@ -244,9 +245,9 @@ module _ {U : Type 0} (keys : ℕ → ℕ → ℕ) (next : U → Next U) where
       (RefusedPost j asked take refuse message (same_next c s a (Recvs j asked take refuse) (agrees.same_cells a (eq-eqb a a refl)) stands) (same_slot c s j (Some message) (agrees.same_slots j (eq-eqb j j refl)) slot) mine same refl))
   frame_kind c d a (RefusedSend j asked take refuse sent bytes after stands slot there same made) =
       let sends : sender_owner j a sent (next_at next c a) ≡ a =
-      ap (sender_owner j a sent) stands ∙ steps.other (same_head sent asked) j a same in
+      ap (sender_owner j a sent) stands ∙ choices.other (same_head sent asked) j a same in
       let receives : receiver_owner a j asked (slot_at c j) (next_at next c j) ≡ a =
-      ap (λ (o : Option Posted). receiver_owner a j asked o (next_at next c j)) slot ∙ ap (receiver_owner a j asked None) there ∙ steps.other (same_head sent asked) j a same in
+      ap (λ (o : Option Posted). receiver_owner a j asked o (next_at next c j)) slot ∙ ap (receiver_owner a j asked None) there ∙ choices.other (same_head sent asked) j a same in
       frame_one c a a (refuse sent) (both a j) (only j) (in_both_one a j)
       (two_of (λ k. cell_owner c k ≡ a) a j (owned_one c a a (Recvs j asked take refuse) stands receives) (owned_one c j a (Sends a sent bytes after) there sends))
       (one_of (λ k. slot_owner c k ≡ a) j (slot_owned_one c j a None (Sends a sent bytes after) slot there sends))
@@ -264,7 +265,7 @@ module _ {U : Type 0} (keys : ℕ → ℕ → ℕ) (next : U → Next U) where
             owned_one c k a (next u) (ap (λ (o : Option U). option_map_or next o Ends) here)
             (barrier_owner c k comm (next u) (runs.stands_there next comm group c.cells k u all member here) ∙ root_once (keys comm) k a (true_with (keys comm) a k member) ∙ root);
         slot_owned = λ k is. absurd (cc);
-        cell_kept = λ k u out. steps.other (group k) _ u out;
+        cell_kept = λ k u out. choices.other (group k) _ u out;
         slot_kept = λ k o out. refl;
         moves = λ s agrees. (
           record s { cells = by_rank (λ rank. past_if next (group rank)) s.cells },

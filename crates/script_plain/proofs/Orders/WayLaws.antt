@@ -2,7 +2,7 @@
 use Rattle.std.proofs.Common.{◌≡◌, ◌≢◌, ℕ, ◌+◌, ◌<◌, ◌≤◌, Bool, true, false, None, Some, length, sym, ◌∙◌, subst, arith, sum_by, ⊎_elim}
 use Rattle.std.proofs.lemmas.Bool.{cases_eq, cases_lt}
 use Rattle.script_plain.specs.Code.{GoesOn, IsOnTheWay, Moves, StepsAt, Sweeps}
-use Rattle.script_plain.specs.Local.{Local, cost_of, local_next}
+use Rattle.script_machine.specs.Local.{Local, cost_of, local_next}
 use Rattle.script_plain.specs.Step.{Configuration, step_of, lowest_step, run_on}
 use Rattle.script_plain.proofs.Orders.EndLaws.{any_step}
 use Rattle.script_plain.proofs.Runs.PlainLaws.{local_lowers}

@@ -6,20 +6,20 @@ use Rattle.scc_base.specs.Calls as calls
 use Rattle.scc_base.specs.Heads.{plain_head}
 use Rattle.scc_base.specs.declared.calls.Call.{Call}
 use Rattle.scc_base.specs.declared.calls.Call.TheVariants as call
-use Rattle.script_plain.specs.declared.posts.Posted.{Posted}
-use Rattle.script_plain.specs.declared.prims.Source.TheVariants as source
-use Rattle.script_plain.specs.CallLists.{called, calls_from}
-use Rattle.script_plain.specs.Lengths.{Lengths, lengths_after, lengths_of}
-use Rattle.script_plain.specs.Local.{Local, local_next, next_by_act, next_by_prim, next_prim, with_length}
-use Rattle.script_plain.specs.Moves.{length_in}
-use Rattle.script_plain.specs.Next.{Next, call_of}
-use Rattle.script_plain.specs.Next.Next.{Goes, Posts, Sends, Recvs, Bars}
+use Rattle.script_machine.specs.declared.posts.Posted.{Posted}
+use Rattle.script_machine.specs.declared.prims.Source.TheVariants as source
+use Rattle.script_machine.specs.CallLists.{called, calls_from}
+use Rattle.script_machine.specs.Lengths.{Lengths, lengths_after, lengths_of}
+use Rattle.script_machine.specs.Local.{Local, local_next, next_by_act, next_by_prim, next_prim, with_length}
+use Rattle.script_machine.specs.Moves.{length_in}
+use Rattle.script_machine.specs.Next.{Next, call_of}
+use Rattle.script_machine.specs.Next.Next.{Goes, Posts, Sends, Recvs, Bars}
 use Rattle.script_plain.specs.Paths.{Did}
 use Rattle.script_plain.specs.Paths.Did.{Here, Own, Left, Sent, Got, Met}
-use Rattle.script_plain.specs.Program.{Act, Prim}
-use Rattle.script_plain.specs.Program.Act.{Set, Send, Post, Recv, Gather}
-use Rattle.script_plain.proofs.ProgramLengths.NextLengths.{after, length_index, lengths_next}
-use Rattle.script_plain.proofs.ProgramLengths.RoomLaws.{prim_left}
+use Rattle.script_machine.specs.Program.{Act, Prim}
+use Rattle.script_machine.specs.Program.Act.{Set, Send, Post, Recv, Gather}
+use Rattle.script_machine.proofs.ProgramLengths.NextLengths.{after, length_index, lengths_next}
+use Rattle.script_machine.proofs.ProgramLengths.RoomLaws.{prim_left}
 
 -- the call of a primitive is the one that stands next there
 called_next : (u : Local) (line : ℕ) (act : Act) → called (lengths_of u) act ≡ option_to_list (call_of (next_by_act u line act))

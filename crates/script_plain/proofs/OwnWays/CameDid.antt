@@ -3,11 +3,11 @@ use Rattle.std.proofs.Common.{◌≡◌, List, [], ◌∷◌, ◌++◌, Option, 
 use Rattle.std.proofs.lemmas.List.{append-nil}
 use Rattle.scc_base.specs.Calls.{DataCall}
 use Rattle.scc_base.specs.Calls.DataCall.{Send, Recv, Post, Bar}
-use Rattle.script_plain.specs.declared.posts.Posted.{Posted}
-use Rattle.script_plain.specs.Local.{local_next}
+use Rattle.script_machine.specs.declared.posts.Posted.{Posted}
+use Rattle.script_machine.specs.Local.{local_next}
 use Rattle.script_plain.specs.Meaning.{State, next_of}
-use Rattle.script_plain.specs.Next.{Next}
-use Rattle.script_plain.specs.Next.Next.{Goes, Posts, Sends, Recvs, Bars}
+use Rattle.script_machine.specs.Next.{Next}
+use Rattle.script_machine.specs.Next.Next.{Goes, Posts, Sends, Recvs, Bars}
 use Rattle.script_plain.specs.Paths.{Did, Came}
 use Rattle.script_plain.specs.Paths.Did.{Here, Own, Left, Sent, Got, Met}
 use Rattle.script_plain.specs.Paths.Came.{Began, Went, Leaves, Passed, Took, Joined}

@@ -4,10 +4,10 @@ use Rattle.std.proofs.lemmas.List.{length-append, length-map}
 use Rattle.scc_base.specs.Runs.{Runs}
 use Rattle.script_reader.specs.Script.{Script}
 use Rattle.script_reader.specs.declared.script.Stmt.{Stmt}
-use Rattle.script_plain.specs.declared.prims.Standing.TheVariants as standing
+use Rattle.script_machine.specs.declared.prims.Standing.TheVariants as standing
 use Rattle.script_plain.specs.Collectives.{AreDone, HasDone, HasStatement, gone_by, gone_through, made_by, started}
 use Rattle.script_plain.specs.Meaning.{IsPlainStep, State, keys_of, next_of, start_of}
-use Rattle.script_plain.specs.Program.{Prim, acts_of, setup_of}
+use Rattle.script_machine.specs.Program.{Prim, acts_of, setup_of}
 use Rattle.script_plain.specs.Step.{Configuration}
 use Rattle.script_plain.proofs.Collectives.CollectivePaths.{through_both}
 use Rattle.script_plain.proofs.OwnWays.OwnWayLaws.{IsAsFar, own_as_far}

@@ -10,16 +10,16 @@ use Rattle.scc_base.specs.Runs.{Runs}
 use Rattle.script_reader.specs.Script.{Script}
 use Rattle.script_plain.specs.Collectives.{AreOwnWays, gone_by, gone_through, started}
 use Rattle.scc_base.specs.Calls.{DataCall}
-use Rattle.script_plain.specs.Program.{Act, Prim}
-use Rattle.script_plain.specs.Local.{Local, local_next, next_by_act, next_by_prim, prim_by_standing}
+use Rattle.script_machine.specs.Program.{Act, Prim}
+use Rattle.script_machine.specs.Local.{Local, local_next, next_by_act, next_by_prim, prim_by_standing}
 use Rattle.script_plain.specs.Meaning.{IsPlainStep, State, keys_of, next_of, recorded, start_of}
-use Rattle.script_plain.specs.Next.{Next, is_at_barrier, past_barrier}
-use Rattle.script_plain.specs.Next.Next.{Ends, Goes, Posts, Sends, Recvs, Bars}
+use Rattle.script_machine.specs.Next.{Next, is_at_barrier, past_barrier}
+use Rattle.script_machine.specs.Next.Next.{Ends, Goes, Posts, Sends, Recvs, Bars}
 use Rattle.script_plain.specs.Step.{Configuration, next_at, all_at_barrier, by_rank, past_if}
 use Rattle.script_plain.proofs.Collectives.CollectivePaths.{through_both}
 use Rattle.script_plain.proofs.Messages.MessageLaws.{Logs, cell_other, cell_there, logs}
 use Rattle.script_plain.proofs.Runs.RunLaws.{get-by_rank, stands_there, there}
-use Rattle.script_plain.proofs.OwnWays.StoppedLaws.{StopsAt, stopped_ends, stops_next}
+use Rattle.script_machine.proofs.StoppedLaws.{StopsAt, stopped_ends, stops_next}
 use Rattle.script_plain.proofs.Runs.StepLaws as steps
 use Rattle.script_plain.proofs.Runs.StepLaws.Takes.{Alone, Left, Met, Fetched, RefusedPost, RefusedSend, Passed}
 

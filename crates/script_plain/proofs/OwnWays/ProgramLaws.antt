@@ -5,18 +5,18 @@ use Rattle.std.proofs.lemmas.List.{append-nil}
 use Rattle.scc_base.specs.Setups.{SetupView}
 use Rattle.script_reader.specs.declared.script.Item.{Item}
 use Rattle.script_reader.specs.Script.{Script, has_rank}
-use Rattle.script_plain.specs.declared.prims.Standing.TheVariants as standing
+use Rattle.script_machine.specs.declared.prims.Standing.TheVariants as standing
 pub use Rattle.script_plain.specs.Collectives.{IsOfRank, Made, made_by}
 use Rattle.script_plain.specs.Collectives.Made.{Done, Then}
 use Rattle.script_plain.specs.Collectives.{gone_by, gone_through, started}
-use Rattle.script_plain.specs.Local.{next_by_act, next_by_prim, local_next, prim_by_standing}
+use Rattle.script_machine.specs.Local.{next_by_act, next_by_prim, local_next, prim_by_standing}
 use Rattle.script_plain.specs.Meaning.{State, next_of, recorded}
-use Rattle.script_plain.specs.Next.{Next}
-use Rattle.script_plain.specs.Next.Next.{Ends}
-use Rattle.script_plain.specs.Program.{Act, Prim, acts_of, prims_of, program_of, setup_of}
+use Rattle.script_machine.specs.Next.{Next}
+use Rattle.script_machine.specs.Next.Next.{Ends}
+use Rattle.script_machine.specs.Program.{Act, Prim, acts_of, prims_of, program_of, setup_of}
 use Rattle.script_plain.proofs.Collectives.CollectivePaths.{Facing, faced, past, through_both}
 use Rattle.script_plain.proofs.Collectives.ReductionPaths.{split_at}
-use Rattle.script_plain.proofs.Walks.UnrolledLaws.{hold_program}
+use Rattle.script_machine.proofs.Walks.UnrolledLaws.{hold_program}
 
 module _ (s : SetupView) (rank : ℕ) (items : List Item) where
   pub made_both : (a b : List Prim) → Made s rank items a → Made s rank items b → Made s rank items (a ++ b)

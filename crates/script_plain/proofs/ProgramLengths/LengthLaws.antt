@@ -17,15 +17,15 @@ use Rattle.script_reader.specs.Script.{Script, has_rank, rules_of}
 use Rattle.script_reader.specs.Settled.{IsWhole}
 use Rattle.script_reader.specs.declared.script.Item.{Item}
 use Rattle.script_reader.specs.declared.script.Stmt.TheVariants as stmt
-use Rattle.script_plain.specs.declared.posts.Posted.{Posted}
+use Rattle.script_machine.specs.declared.posts.Posted.{Posted}
 use Rattle.script_plain.specs.Collectives.{gone_through, started}
-use Rattle.script_plain.specs.Local.{register_at}
+use Rattle.script_machine.specs.Local.{register_at}
 use Rattle.script_plain.specs.Meaning.{IsPlainStep, State, keys_of, next_of, start_of}
-use Rattle.script_plain.specs.Next.{Next, is_at_barrier, past_barrier}
-use Rattle.script_plain.specs.Next.Next.{Ends, Goes, Posts, Sends, Recvs, Bars}
-use Rattle.script_plain.specs.Program.{setup_of}
+use Rattle.script_machine.specs.Next.{Next, is_at_barrier, past_barrier}
+use Rattle.script_machine.specs.Next.Next.{Ends, Goes, Posts, Sends, Recvs, Bars}
+use Rattle.script_machine.specs.Program.{setup_of}
 use Rattle.script_plain.specs.Step.{Configuration, all_at_barrier, by_rank, next_at, past_if, same_head, slot_at}
-use Rattle.script_plain.proofs.ProgramLengths.LengthLemmas.{IsEven, Reckons, reckoned}
+use Rattle.script_machine.proofs.ProgramLengths.LengthLemmas.{IsEven, Reckons, reckoned}
 use Rattle.script_plain.specs.Kept.{Holds, reckoned_at}
 use Rattle.script_plain.proofs.ProgramLengths.LengthPaths.{AreFitting, IsSound, SoundNext, fitting_before, sound_next, sound_through}
 use Rattle.script_plain.proofs.ProgramLengths.LengthPrograms.{keeps_items}

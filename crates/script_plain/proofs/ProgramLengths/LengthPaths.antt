@@ -6,19 +6,19 @@ use Rattle.std.proofs.lemmas.Option.{same_Some}
 use Rattle.scc_base.specs.Calls.{DataCall}
 use Rattle.scc_base.specs.Calls.DataCall.{Send, Recv, Post, Bar}
 use Rattle.scc_base.specs.Heads.{MessageHead}
-use Rattle.script_plain.specs.declared.prims.Standing.{Standing}
-use Rattle.script_plain.specs.declared.prims.Standing.TheVariants as standing
+use Rattle.script_machine.specs.declared.prims.Standing.{Standing}
+use Rattle.script_machine.specs.declared.prims.Standing.TheVariants as standing
 use Rattle.script_plain.specs.Collectives.{gone_by, gone_through}
 use Rattle.script_plain.specs.Kept.{Fits, FitsNext, Holds, Keeps, Sets, folding, gathering, sized_by}
-use Rattle.script_plain.specs.Lengths.{Lengths}
-use Rattle.script_plain.specs.Local.{Local, asked_head, gone_on_alone, local_next, next_by_act, next_by_prim, prim_by_standing, register_at}
+use Rattle.script_machine.specs.Lengths.{Lengths}
+use Rattle.script_machine.specs.Local.{Local, asked_head, gone_on_alone, local_next, next_by_act, next_by_prim, prim_by_standing, register_at}
 use Rattle.script_plain.specs.Meaning.{State, next_of, recorded}
-use Rattle.script_plain.specs.Next.{Next}
-use Rattle.script_plain.specs.Next.Next.{Ends, Goes, Posts, Sends, Recvs, Bars}
-use Rattle.script_plain.specs.Program.{Act, Prim}
+use Rattle.script_machine.specs.Next.{Next}
+use Rattle.script_machine.specs.Next.Next.{Ends, Goes, Posts, Sends, Recvs, Bars}
+use Rattle.script_machine.specs.Program.{Act, Prim}
 use Rattle.script_plain.proofs.Collectives.CollectivePaths.{grows}
 use Rattle.script_plain.proofs.Messages.MessageLaws.{Logs, logs}
-use Rattle.script_plain.proofs.ProgramLengths.NextLengths.{after, length_same, lengths_next, own_even}
+use Rattle.script_machine.proofs.ProgramLengths.NextLengths.{after, length_same, lengths_next, own_even}
 
 -- a register is written
 holds_set : (had : ℕ → Option ℕ) (registers : List (List ℕ)) (reg : ℕ) (bytes : List ℕ) → Holds (had reg) (length bytes) → ((r : ℕ) → Holds (had r) (length (get_or registers r []))) → (r : ℕ) → Holds (had r) (length (get_or (set registers reg bytes) r []))

@@ -18,12 +18,12 @@ use Rattle.script_reader.specs.Script.{has_rank}
 use Rattle.script_reader.specs.declared.script.Item.{Item}
 use Rattle.script_reader.specs.declared.script.Stmt.{Stmt}
 use Rattle.script_reader.specs.declared.script.Stmt.TheVariants as stmt
-use Rattle.script_plain.proofs.ProgramLengths.LengthLemmas.{Reckons}
-use Rattle.script_plain.specs.declared.prims.Operands.{Operands}
-use Rattle.script_plain.specs.Program.{Act, Prim, acts_of, begins, call_steps, can_call, part_of, parts_of, prims_of, unrolled}
+use Rattle.script_machine.proofs.ProgramLengths.LengthLemmas.{Reckons}
+use Rattle.script_machine.specs.declared.prims.Operands.{Operands}
+use Rattle.script_machine.specs.Program.{Act, Prim, acts_of, begins, call_steps, can_call, part_of, parts_of, prims_of, unrolled}
 use Rattle.script_plain.specs.Kept.{Keeps, folding, gathering}
 use Rattle.script_plain.proofs.Collectives.ReductionPaths.{fold_operands}
-use Rattle.script_plain.proofs.Walks.UnrolledLaws.{hold_program}
+use Rattle.script_machine.proofs.Walks.UnrolledLaws.{hold_program}
 
 module _ (had : ℕ → Option ℕ) where
   -- whatever stands in the accumulator and in the received bytes

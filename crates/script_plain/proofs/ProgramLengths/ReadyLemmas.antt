@@ -4,21 +4,21 @@ use Rattle.std.specs.Prelude.{slice_index_or}
 use Rattle.scc_base.specs.Calls.{DataCall}
 use Rattle.script_reader.specs.Script.{Script}
 use Rattle.script_reader.specs.Settled.{IsWhole}
-use Rattle.script_plain.specs.declared.posts.Posted.{Posted}
+use Rattle.script_machine.specs.declared.posts.Posted.{Posted}
 use Rattle.script_plain.specs.Collectives.{started}
-use Rattle.script_plain.specs.Local.{Local, local_next}
+use Rattle.script_machine.specs.Local.{Local, local_next}
 use Rattle.script_plain.specs.Meaning.{State, next_of, recorded}
-use Rattle.script_plain.specs.Next.{Next}
-use Rattle.script_plain.specs.Next.Next.{Ends, Goes, Posts, Sends, Recvs, Bars}
+use Rattle.script_machine.specs.Next.{Next}
+use Rattle.script_machine.specs.Next.Next.{Ends, Goes, Posts, Sends, Recvs, Bars}
 use Rattle.script_plain.specs.Paths.{Came}
 use Rattle.script_plain.specs.Paths.Came.{Began, Went, Leaves, Passed, Took, Joined}
 use Rattle.script_plain.specs.Ready.{IsReady}
-use Rattle.script_plain.proofs.ProgramLengths.AimLemmas.{program_aimed}
+use Rattle.script_machine.proofs.ProgramLengths.AimLemmas.{program_aimed}
 use Rattle.script_plain.specs.Kept.{reckoned_at}
 use Rattle.script_plain.proofs.ProgramLengths.LengthLaws.{sound_started}
 use Rattle.script_plain.specs.Kept.{FitsNext}
 use Rattle.script_plain.proofs.ProgramLengths.LengthPaths.{IsSound, SoundNext, fits_next, sound_next}
-use Rattle.script_plain.proofs.ProgramLengths.SaneLemmas.{IsSane, SaneNext, sane_next}
+use Rattle.script_machine.proofs.ProgramLengths.SaneLemmas.{IsSane, SaneNext, sane_next}
 
 -- at the start no register has bytes
 unset : (n reg : ℕ) → length (slice_index_or {A = List ℕ} (replicate n []) reg []) ≤ 65536

@@ -1,8 +1,8 @@
 -- Why every run ends: each step lowers what is left to do.
 use Rattle.std.specs.Prelude.{ℕ, ◌<◌, List}
 use Rattle.scc_base.specs.Heads.{MessageHead}
-use Rattle.script_plain.specs.Next.{Next}
-use Rattle.script_plain.specs.Next.Next.{Ends, Goes, Posts, Sends, Recvs, Bars}
+use Rattle.script_machine.specs.Next.{Next}
+use Rattle.script_machine.specs.Next.Next.{Ends, Goes, Posts, Sends, Recvs, Bars}
 
 -- whatever comes next, less than n is left after it
 abbrev pub Lowers : {U : Type 0} → (U → ℕ) → ℕ → Next U → Type 0

@@ -9,14 +9,14 @@ use Rattle.scc_base.specs.declared.communicators.CommRule.{CommRule}
 use Rattle.scc_base.specs.Calls.{DataCall}
 use Rattle.script_reader.specs.Script.{Script, rules_of}
 use Rattle.script_plain.specs.Code.{config}
-use Rattle.script_plain.specs.Program.{Act, Prim}
-use Rattle.script_plain.specs.Program.Act.{Recv, Gather}
-use Rattle.script_plain.specs.declared.posts.Posted.{Posted}
-use Rattle.script_plain.specs.declared.prims.Standing.{Standing}
-use Rattle.script_plain.specs.declared.prims.Standing.TheVariants as standing
-use Rattle.script_plain.specs.Local.{Local, local_start, local_next, next_by_act, next_by_prim, prim_by_standing, cost_of, runs}
-use Rattle.script_plain.specs.Next.{Next}
-use Rattle.script_plain.specs.Next.Next.{Ends, Goes, Posts, Sends, Recvs, Bars}
+use Rattle.script_machine.specs.Program.{Act, Prim}
+use Rattle.script_machine.specs.Program.Act.{Recv, Gather}
+use Rattle.script_machine.specs.declared.posts.Posted.{Posted}
+use Rattle.script_machine.specs.declared.prims.Standing.{Standing}
+use Rattle.script_machine.specs.declared.prims.Standing.TheVariants as standing
+use Rattle.script_machine.specs.Local.{Local, local_start, local_next, next_by_act, next_by_prim, prim_by_standing, cost_of, runs}
+use Rattle.script_machine.specs.Next.{Next}
+use Rattle.script_machine.specs.Next.Next.{Ends, Goes, Posts, Sends, Recvs, Bars}
 use Rattle.script_plain.specs.Step.{run_on}
 use Rattle.script_plain.specs.Meaning.{State, recorded, next_of, keys_of, plain_step, plain_end, start_of, steps_left, locals_of, seen_of}
 use Rattle.script_plain.proofs.Runs.Costs.{Lowers, next_map}

@@ -7,10 +7,11 @@ use Rattle.std.proofs.lemmas.List.Sums.{sum_by-set, sum_by-cons}
 use Rattle.std.proofs.lemmas.Option.{slice_get_within, get_or_from_slice_get, slice_get_past, slice_get-get_or, same_Some}
 use Rattle.scc_base.specs.Groups.{is_with}
 use Rattle.scc_base.proofs.GroupFacts.{with_self}
-use Rattle.script_plain.specs.Next.{Next, is_going, is_at_barrier, past_barrier}
-use Rattle.script_plain.specs.Next.Next.{Ends, Goes, Posts, Sends, Recvs, Bars}
+use Rattle.script_machine.specs.Next.{Next, is_going, is_at_barrier, past_barrier}
+use Rattle.script_machine.specs.Next.Next.{Ends, Goes, Posts, Sends, Recvs, Bars}
 use Rattle.script_plain.specs.Step.{Configuration, next_at, all_at_barrier, by_rank, past_if, step_by, step_of, lowest, lowest_step, run_on}
 use Rattle.script_plain.proofs.Runs.Costs.{Lowers}
+use Rattle.script_machine.proofs.Choices as choices
 use Rattle.script_plain.proofs.Runs.StepLaws as steps
 use Rattle.script_plain.proofs.Runs.StepLaws.Takes.{Alone, Left, Met, Fetched, RefusedPost, RefusedSend, Passed}
 
@@ -41,17 +42,17 @@ length-by_rank change (u ∷ us) = ap suc (length-by_rank (λ rank. change (suc 
 pub stands_there : {U : Type 0} (next : U → Next U) (comm : ℕ) (test : ℕ → Bool) (us : List U) (k : ℕ) (u : U) → all_at_barrier next comm test us ≡ true → test k ≡ true → slice_get us k ≡ Some u → is_at_barrier comm (next u) ≡ true
 stands_there next comm test [] k u all member here = absurd (cc)
 stands_there next comm test (v ∷ us) zero u all member here =
-    let parts = steps.both_true (cond (test 0) (is_at_barrier comm (next v)) true) _ all in
+    let parts = choices.both_true (cond (test 0) (is_at_barrier comm (next v)) true) _ all in
     let same : v ≡ u = same_Some v u here in
-    ap (λ (w : _). is_at_barrier comm (next w)) (sym same) ∙ sym (steps.chosen (test 0) (is_at_barrier comm (next v)) true member) ∙ parts.0
+    ap (λ (w : _). is_at_barrier comm (next w)) (sym same) ∙ sym (choices.chosen (test 0) (is_at_barrier comm (next v)) true member) ∙ parts.0
 stands_there next comm test (v ∷ us) (suc k) u all member here =
-    let parts = steps.both_true (cond (test 0) (is_at_barrier comm (next v)) true) _ all in
+    let parts = choices.both_true (cond (test 0) (is_at_barrier comm (next v)) true) _ all in
     stands_there next comm (λ rank. test (suc rank)) us k u parts.1 member here
 
 pub stand_there : {U : Type 0} (next : U → Next U) (comm : ℕ) (test : ℕ → Bool) (us : List U) → ((k : ℕ) (u : U) → test k ≡ true → slice_get us k ≡ Some u → is_at_barrier comm (next u) ≡ true) → all_at_barrier next comm test us ≡ true
 stand_there next comm test [] each = refl
 stand_there next comm test (v ∷ us) each =
-    steps.and_of (cond (test 0) (is_at_barrier comm (next v)) true) _ (first (test 0) refl) (stand_there next comm (λ rank. test (suc rank)) us (λ k u member here. each (suc k) u member here))
+    choices.and_of (cond (test 0) (is_at_barrier comm (next v)) true) _ (first (test 0) refl) (stand_there next comm (λ rank. test (suc rank)) us (λ k u member here. each (suc k) u member here))
   where
     first : (b : Bool) → test 0 ≡ b → cond b (is_at_barrier comm (next v)) true ≡ true
     first true member = each 0 v member refl
@@ -237,7 +238,7 @@ module _ {U : Type 0} (keys : ℕ → ℕ → ℕ) (next : U → Next U) (cost :
       let group : ℕ → Bool = is_with (keys comm) i in
       let here = ⊎_elim (λ (ends : Bars comm after ≡ Ends). absurd (cc)) (λ (h : (u : U) × (slice_get c.cells i ≡ Some u) × (next u ≡ Bars comm after)). h) (there next (slice_get c.cells i) (Bars comm after) stands) in
       let low : Lowers cost (cost here.0) (Bars comm after) = subst (Lowers cost (cost here.0)) here.2 (lowers here.0) in
-      let passes : past_if next (group i) here.0 ≡ after = steps.chosen (group i) (past_barrier (next here.0) here.0) here.0 (with_self (keys comm) i) ∙ ap (λ (n : Next U). past_barrier n here.0) here.2 in
+      let passes : past_if next (group i) here.0 ≡ after = choices.chosen (group i) (past_barrier (next here.0) here.0) here.0 (with_self (keys comm) i) ∙ ap (λ (n : Next U). past_barrier n here.0) here.2 in
       rw made (less_sum cost (λ rank. past_if next (group rank)) c.cells i here.0 (λ k u. past_kept (group k) u (next u) (lowers u)) here.1 (rw passes low))
 
   -- each step lowers what is left

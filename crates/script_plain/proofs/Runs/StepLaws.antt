@@ -4,33 +4,11 @@ use Rattle.std.proofs.lemmas.Bool.{eqb-true, eq-eqb}
 use Rattle.std.proofs.lemmas.Option.{cond_some, same_Some}
 use Rattle.scc_base.specs.Groups.{is_with, root_in}
 use Rattle.scc_base.specs.Heads.{MessageHead}
-use Rattle.script_plain.specs.declared.posts.Posted.{Posted}
-use Rattle.script_plain.specs.Next.{Next}
-use Rattle.script_plain.specs.Next.Next.{Ends, Goes, Posts, Sends, Recvs, Bars}
+use Rattle.script_machine.specs.declared.posts.Posted.{Posted}
+use Rattle.script_machine.proofs.Choices.{both_true, and_of, not_true, not_of, chosen, other}
+use Rattle.script_machine.specs.Next.{Next}
+use Rattle.script_machine.specs.Next.Next.{Ends, Goes, Posts, Sends, Recvs, Bars}
 use Rattle.script_plain.specs.Step.{Configuration, next_at, slot_at, with_cell, with_slot, same_head, post_step, match_step, receive_step, all_at_barrier, by_rank, past_if, step_by, step_of}
-
--- two tests that pass, or do not
-pub both_true : (a b : Bool) → (a && b) ≡ true → (a ≡ true) × (b ≡ true)
-both_true true b is = (refl, is)
-both_true false b is = absurd (cc)
-
-pub and_of : (a b : Bool) → a ≡ true → b ≡ true → (a && b) ≡ true
-and_of true b one two = two
-and_of false b one two = absurd (cc)
-
-pub not_true : (a : Bool) → not a ≡ true → a ≡ false
-not_true true is = absurd (cc)
-not_true false is = refl
-
-not_of : (a : Bool) → a ≡ false → not a ≡ true
-not_of true is = absurd (cc)
-not_of false is = refl
-
-pub chosen : {A : Type 0} (b : Bool) (x y : A) → b ≡ true → cond b x y ≡ x
-chosen b x y is = ap (λ t. cond t x y) is
-
-pub other : {A : Type 0} (b : Bool) (x y : A) → b ≡ false → cond b x y ≡ y
-other b x y is = ap (λ t. cond t x y) is
 
 -- the seven kinds of step, each with what stands where it is enabled, and what it makes of the configuration
 pub data Takes {U : Type 0} (keys : ℕ → ℕ → ℕ) (next : U → Next U) (c : Configuration U) (i : ℕ) (d : Configuration U) : Type 0 where

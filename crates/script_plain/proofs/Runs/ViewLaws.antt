@@ -6,9 +6,9 @@ use Rattle.std.proofs.lemmas.List.Sums.{sum_by-cons}
 use Rattle.std.proofs.lemmas.Option.{slice_get-map}
 use Rattle.scc_base.specs.Groups.{is_with, root_in}
 use Rattle.scc_base.specs.Heads.{MessageHead}
-use Rattle.script_plain.specs.declared.posts.Posted.{Posted}
-use Rattle.script_plain.specs.Next.{Next, is_at_barrier, past_barrier}
-use Rattle.script_plain.specs.Next.Next.{Ends, Goes, Posts, Sends, Recvs, Bars}
+use Rattle.script_machine.specs.declared.posts.Posted.{Posted}
+use Rattle.script_machine.specs.Next.{Next, is_at_barrier, past_barrier}
+use Rattle.script_machine.specs.Next.Next.{Ends, Goes, Posts, Sends, Recvs, Bars}
 use Rattle.script_plain.specs.Step.{Configuration, next_at, slot_at, with_cell, with_slot, post_step, match_step, receive_step, barrier_step, all_at_barrier, by_rank, past_if, step_by, step_of, lowest, lowest_step, run_on}
 use Rattle.script_plain.proofs.Runs.Costs.{next_map}
 

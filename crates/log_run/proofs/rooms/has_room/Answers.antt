@@ -1,6 +1,6 @@
 use Rattle.std.proofs.Common.{ap, arith, sym, ◌∙◌}
 use Rattle.call_tap.specs.Planned.{has_room_for}
-use Rattle.script_plain.specs.CallLists.{calls_of}
+use Rattle.script_machine.specs.CallLists.{calls_of}
 use Rattle.log_run.proofs.RoomLaws.{all_room, one_full, room_step}
 use Rattle.log_run.proofs.rooms.has_room.Goals as goal
 

@@ -1,6 +1,6 @@
 use Rattle.std.proofs.Common.{◌≡◌, ℕ, ◌<◌, true}
 use Rattle.call_tap.specs.Planned.{has_room_for}
-use Rattle.script_plain.specs.CallLists.{calls_of}
+use Rattle.script_machine.specs.CallLists.{calls_of}
 use Rattle.log_run.proofs.rooms.has_room.Given as goal
 
 abbrev pub invariant-loop-number : goal.invariant-loop-number

@@ -4,10 +4,10 @@ use Rattle.std.specs.Option.{option_map}
 use Rattle.std.proofs.lemmas.Bool.{leb-true}
 use Rattle.scc_base.specs.declared.calls.Call.{Call}
 use Rattle.scc_proto.proofs.Tests.{both_first, both_second}
-use Rattle.script_plain.specs.CallLists.{calls_of}
-use Rattle.script_plain.specs.Lengths.{lengths_after}
-use Rattle.script_plain.specs.Rooms.{nothing_held}
-use Rattle.script_plain.specs.Walk.{WalkView, prim_meant}
+use Rattle.script_machine.specs.CallLists.{calls_of}
+use Rattle.script_machine.specs.Lengths.{lengths_after}
+use Rattle.script_machine.specs.Rooms.{nothing_held}
+use Rattle.script_machine.specs.Walk.{WalkView, prim_meant}
 use Rattle.log_run.proofs.RoomLaws.{AreCounted, counted_on, no_room, nothing_found, nothing_left, some_room, start_counted}
 use Rattle.log_run.proofs.rooms.rank_has_room.Goals as goal
 

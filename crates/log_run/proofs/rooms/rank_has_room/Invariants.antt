@@ -1,5 +1,5 @@
 use Rattle.std.proofs.Common.{◌≤◌, length}
-use Rattle.script_plain.specs.CallLists.{calls_from, calls_of}
+use Rattle.script_machine.specs.CallLists.{calls_from, calls_of}
 use Rattle.log_run.proofs.RoomLaws.{AreCounted}
 use Rattle.log_run.proofs.rooms.rank_has_room.Given as goal
 

@@ -1,7 +1,7 @@
 use Rattle.std.proofs.Common.{◌≡◌, ◌+◌, ◌%◌, ◌^◌, sum_by, take}
 use Rattle.std.specs.List.{sum}
 use Rattle.script_plain.specs.Ends.{ended_at}
-use Rattle.script_plain.specs.Printed.{Printed}
+use Rattle.script_machine.specs.Printed.{Printed}
 use Rattle.run_program.proofs.counts.with_items.Given as goal
 
 abbrev pub invariant-loop-i : goal.invariant-loop-i

@@ -1,8 +1,8 @@
 use Rattle.std.proofs.Common.{refl}
 use Rattle.std.specs.Int.{int_wrap}
 use Rattle.texts.specs.Numbers.{number_of}
-use Rattle.script_plain.specs.Local.{local_next}
-use Rattle.script_plain.specs.Program.{unrolled}
+use Rattle.script_machine.specs.Local.{local_next}
+use Rattle.script_machine.specs.Program.{unrolled}
 use Rattle.script_examples.proofs.values.a_repeat_is_done_twice.Goals as goal
 
 pub returns : goal.returns

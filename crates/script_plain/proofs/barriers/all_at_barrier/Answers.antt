@@ -2,8 +2,8 @@ use Rattle.std.proofs.Common.{◌≡◌, ◌∙◌, ◌<◌, ℕ, Bool, arith, a
 use Rattle.std.proofs.lemmas.Option.{same_Some, slice_get_read}
 use Rattle.scc_base.specs.Groups.{is_with}
 use Rattle.scc_base.specs.Setups.{setup_key}
-use Rattle.script_plain.specs.Local.{Local, local_next}
-use Rattle.script_plain.specs.Next.{is_at_barrier}
+use Rattle.script_machine.specs.Local.{Local, local_next}
+use Rattle.script_machine.specs.Next.{is_at_barrier}
 use Rattle.script_plain.proofs.CodeSteps.GroupLaws.{all_stand, none_at_barrier, one_more_stands}
 use Rattle.script_plain.proofs.barriers.all_at_barrier.Goals as goal
 use Rattle.script_plain.proofs.barriers.all_at_barrier.Goals.{else-is_with-via-then-is_with+else-not-is_at_barrier, else-is_with-via-else-is_with}

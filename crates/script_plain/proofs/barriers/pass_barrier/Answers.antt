@@ -2,8 +2,8 @@ use Rattle.std.proofs.Common.{◌≡◌, ◌∙◌, ◌<◌, ℕ, Bool, true, ar
 use Rattle.std.proofs.lemmas.Option.{slice_get_read}
 use Rattle.scc_base.specs.Groups.{is_with}
 use Rattle.scc_base.specs.Setups.{setup_key}
-use Rattle.script_plain.specs.Local.{Local, local_next}
-use Rattle.script_plain.specs.Next.{is_at_barrier, past_barrier}
+use Rattle.script_machine.specs.Local.{Local, local_next}
+use Rattle.script_machine.specs.Next.{is_at_barrier, past_barrier}
 use Rattle.script_plain.proofs.CodeSteps.GroupLaws.{past_end, past_skips, past_start, past_takes, past_unchanged}
 use Rattle.script_plain.proofs.Runs.RunLaws.{stands_there}
 use Rattle.script_plain.proofs.barriers.pass_barrier.Goals as goal

@@ -1,7 +1,7 @@
 use Rattle.std.proofs.Common.{◌≡◌, ◌&&◌, nat_lt}
 use Rattle.scc_base.specs.Groups.{is_with}
 use Rattle.scc_base.specs.Setups.{setup_key}
-use Rattle.script_plain.specs.Local.{local_next}
+use Rattle.script_machine.specs.Local.{local_next}
 use Rattle.script_plain.specs.Step.{by_rank, past_if}
 use Rattle.script_plain.proofs.barriers.pass_barrier.Given as goal
 

@@ -1,5 +1,5 @@
 use Rattle.std.specs.Prelude.{None}
-use Rattle.script_plain.specs.Local.{local_start}
+use Rattle.script_machine.specs.Local.{local_start}
 use Rattle.script_plain.proofs.OwnWays.CallListLaws.{calls_did}
 use Rattle.script_plain.proofs.call_laws.calls_are_known_before.Goals as goal
 

@@ -1,5 +1,5 @@
-use Rattle.script_plain.proofs.Walks.MarkLaws.{program_is}
-use Rattle.script_plain.proofs.Walks.OperationCounts.{as_many, few_enough}
+use Rattle.script_machine.proofs.Walks.MarkLaws.{program_is}
+use Rattle.script_plain.proofs.OwnWays.OperationCounts.{as_many, few_enough}
 use Rattle.script_plain.proofs.call_laws.primitives_are_operations.Goals as goal
 
 pub returns-clause-law : goal.returns-clause-law

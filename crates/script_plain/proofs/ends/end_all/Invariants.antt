@@ -1,7 +1,7 @@
 use Rattle.std.proofs.Common.{◌≡◌, ℕ, ◌≤◌, None, map, slice_index_or}
 use Rattle.std.specs.List.{range_with_len}
 use Rattle.script_plain.specs.Ends.{ended}
-use Rattle.script_plain.specs.Local.{local_at}
+use Rattle.script_machine.specs.Local.{local_at}
 use Rattle.script_plain.proofs.ends.end_all.Given as goal
 
 abbrev pub invariant-loop-i : goal.invariant-loop-i

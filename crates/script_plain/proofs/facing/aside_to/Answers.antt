@@ -1,6 +1,6 @@
 use Rattle.std.proofs.Common.{◌≡◌, ◌≢◌, ◌∙◌, ap, arith, subst, sym, ⊎_elim}
 use Rattle.std.proofs.lemmas.Bool.{cases_eq}
-use Rattle.script_plain.specs.declared.facing.Facing.{Facing}
+use Rattle.script_machine.specs.declared.facing.Facing.{Facing}
 use Rattle.script_plain.specs.Facing.{IsAside, facing_at, heeds}
 use Rattle.script_plain.proofs.facing.aside_to.Goals as goal
 

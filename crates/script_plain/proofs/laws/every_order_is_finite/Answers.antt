@@ -1,4 +1,4 @@
-use Rattle.script_plain.specs.Local.{cost_of}
+use Rattle.script_machine.specs.Local.{cost_of}
 use Rattle.script_plain.specs.Meaning.{State, next_of}
 use Rattle.script_plain.proofs.Orders.EndLaws.{most_steps}
 use Rattle.script_plain.proofs.Runs.PlainLaws.{state_lowers}

@@ -1,6 +1,6 @@
 use Rattle.scc_base.specs.Setups.{setup_key}
 use Rattle.script_plain.specs.Code.{config}
-use Rattle.script_plain.specs.Local.{local_next}
+use Rattle.script_machine.specs.Local.{local_next}
 use Rattle.script_plain.proofs.Runs.RunLaws.{none_going}
 use Rattle.script_plain.proofs.matches.history_of.Goals as goal
 

@@ -8,7 +8,7 @@ use Rattle.script_plain.proofs.Runs.RunLaws.{falls_lowest, sound}
 use Rattle.script_plain.proofs.Orders.WayLaws.{further, run_ended}
 use Rattle.script_plain.specs.Code.{BringsLowest, config}
 use Rattle.script_plain.specs.Facing.{IsStillTo}
-use Rattle.script_plain.specs.Local.{Local, cost_of, local_next}
+use Rattle.script_machine.specs.Local.{Local, cost_of, local_next}
 use Rattle.script_plain.specs.Step.{Configuration, lowest_step}
 use Rattle.script_plain.proofs.matches.match_on.Goals as goal
 

@@ -2,8 +2,8 @@ use Rattle.std.proofs.Common.{◌≡◌, ◌++◌, sum_by}
 use Rattle.scc_base.specs.Setups.{setup_key}
 use Rattle.script_plain.specs.Code.{IsRun, config}
 use Rattle.script_plain.specs.Facing.{IsStillTo}
-use Rattle.script_plain.specs.Local.{cost_of, local_next}
-use Rattle.script_plain.specs.Matches.{line_of, matches_on}
+use Rattle.script_machine.specs.Local.{cost_of, local_next, line_of}
+use Rattle.script_plain.specs.Matches.{matches_on}
 use Rattle.script_plain.specs.Step.{run_on}
 use Rattle.script_plain.proofs.matches.match_on.Given as goal
 

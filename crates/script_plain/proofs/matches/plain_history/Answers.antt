@@ -2,10 +2,10 @@ use Rattle.std.proofs.Common.{◌≡◌, ◌∙◌, List, Option, None, ap, leng
 use Rattle.scc_base.specs.Communicators.{key_of}
 use Rattle.scc_base.specs.declared.communicators.CommRule.{CommRule}
 use Rattle.script_plain.specs.Code.{config}
-use Rattle.script_plain.specs.Local.{Local, cost_of, local_next}
-use Rattle.script_plain.specs.Matches.{line_of, matches_on}
+use Rattle.script_machine.specs.Local.{Local, cost_of, local_next, line_of}
+use Rattle.script_plain.specs.Matches.{matches_on}
 use Rattle.script_plain.specs.Meaning.{ends_at, keys_of, locals_of, plain_end, seen_of, start_of}
-use Rattle.script_plain.specs.declared.posts.Posted.{Posted}
+use Rattle.script_machine.specs.declared.posts.Posted.{Posted}
 use Rattle.script_plain.proofs.Messages.MatchLaws.{seen_matches}
 use Rattle.script_plain.proofs.Messages.RestLaws.{ends_length}
 use Rattle.script_plain.proofs.Runs.PlainLaws.{length-plain_end, run_from_start}

@@ -3,8 +3,8 @@ use Rattle.scc_base.specs.Setups.{setup_key}
 use Rattle.script_plain.specs.declared.matches.Match.{Match}
 use Rattle.script_plain.specs.Code.{BringsAt, config}
 use Rattle.script_plain.specs.Facing.{AreAside, facing_at}
-use Rattle.script_plain.specs.Local.{Local, local_next}
-use Rattle.script_plain.specs.Matches.{line_of, step_brought}
+use Rattle.script_machine.specs.Local.{Local, local_next, line_of}
+use Rattle.script_plain.specs.Matches.{step_brought}
 use Rattle.script_plain.specs.Step.{Configuration, lowest_step}
 use Rattle.script_plain.proofs.Orders.FacingLaws.{none_lowest, still_on, took_lowest}
 use Rattle.script_plain.proofs.matches.step_lowest.Goals as goal

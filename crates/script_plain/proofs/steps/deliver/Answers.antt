@@ -2,8 +2,8 @@ use Rattle.std.proofs.Common.{◌∙◌, ap, length, refl, subst, sym}
 use Rattle.std.proofs.lemmas.Option.{slice_get_read}
 use Rattle.scc_base.specs.Setups.{setup_key}
 use Rattle.script_plain.specs.Code.{HasLength, HasSent, HasTaken, IsAtReceive, IsAtSend}
-use Rattle.script_plain.specs.Local.{Local, local_next}
-use Rattle.script_plain.specs.Moves.{length_in}
+use Rattle.script_machine.specs.Local.{Local, local_next}
+use Rattle.script_machine.specs.Moves.{length_in}
 use Rattle.script_plain.proofs.CodeSteps.StandLaws.{delivered, delivered_long, receiver_stands, sender_stands, sender_there}
 use Rattle.script_plain.proofs.steps.deliver.Goals as goal
 

@@ -1,6 +1,6 @@
 use Rattle.std.proofs.Common.{◌∙◌, ◌++◌, ◌∷◌, List, [], Option, None, ap}
 use Rattle.std.proofs.lemmas.List.{replicate-append-replicate}
-use Rattle.script_plain.specs.declared.posts.Posted.{Posted}
+use Rattle.script_machine.specs.declared.posts.Posted.{Posted}
 use Rattle.script_plain.proofs.steps.empty_slots.Goals as goal
 
 pub loop-preserved : goal.loop-preserved

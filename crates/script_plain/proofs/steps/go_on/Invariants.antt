@@ -1,7 +1,7 @@
 use Rattle.std.proofs.Common.{sum_by}
 use Rattle.scc_base.specs.Setups.{setup_key}
 use Rattle.script_plain.specs.Code.{IsRun, Moves, config}
-use Rattle.script_plain.specs.Local.{cost_of}
+use Rattle.script_machine.specs.Local.{cost_of}
 use Rattle.script_plain.proofs.steps.go_on.Given as goal
 
 abbrev pub invariant-loop-moved : goal.invariant-loop-moved

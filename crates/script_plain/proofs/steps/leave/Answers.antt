@@ -2,7 +2,7 @@ use Rattle.std.proofs.Common.{length, refl, subst, sym}
 use Rattle.std.proofs.lemmas.Option.{slice_get_read}
 use Rattle.scc_base.specs.Setups.{setup_key}
 use Rattle.script_plain.specs.Code.{HasPosted, IsAtPost}
-use Rattle.script_plain.specs.Local.{Local, local_next}
+use Rattle.script_machine.specs.Local.{Local, local_next}
 use Rattle.script_plain.proofs.CodeSteps.StandLaws.{post_stands, poster_there, posts_step}
 use Rattle.script_plain.proofs.steps.leave.Goals as goal
 

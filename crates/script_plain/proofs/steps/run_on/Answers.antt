@@ -2,7 +2,7 @@ use Rattle.std.proofs.Common.{◌∙◌, sum_by}
 use Rattle.scc_base.specs.Setups.{setup_key}
 use Rattle.script_plain.proofs.Orders.WayLaws.{run_ended, swept_none, swept_some}
 use Rattle.script_plain.specs.Code.{config}
-use Rattle.script_plain.specs.Local.{cost_of}
+use Rattle.script_machine.specs.Local.{cost_of}
 use Rattle.script_plain.proofs.steps.run_on.Goals as goal
 
 pub loop-smaller : goal.loop-smaller

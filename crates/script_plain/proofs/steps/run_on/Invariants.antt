@@ -1,7 +1,7 @@
 use Rattle.std.proofs.Common.{◌≡◌, sum_by}
 use Rattle.scc_base.specs.Setups.{setup_key}
 use Rattle.script_plain.specs.Code.{IsRun, config}
-use Rattle.script_plain.specs.Local.{cost_of, local_next}
+use Rattle.script_machine.specs.Local.{cost_of, local_next}
 use Rattle.script_plain.specs.Step.{run_on}
 use Rattle.script_plain.proofs.steps.run_on.Given as goal
 

@@ -1,7 +1,7 @@
 use Rattle.std.proofs.Common.{◌∙◌, ap, arith}
 use Rattle.scc_base.specs.Setups.{setup_key}
 use Rattle.script_plain.specs.Code.{config}
-use Rattle.script_plain.specs.Local.{local_next}
+use Rattle.script_machine.specs.Local.{local_next}
 use Rattle.script_plain.specs.Meaning.{ends_at}
 use Rattle.script_plain.proofs.Runs.RunLaws.{none_going}
 use Rattle.script_plain.proofs.steps.run_to_end.Goals as goal

@@ -1,6 +1,6 @@
 use Rattle.std.proofs.Common.{◌≡◌, ◌∙◌, ℕ, ap, sym, arith, map}
 use Rattle.std.specs.List.{range_with_len}
-use Rattle.script_plain.specs.Local.{local_start}
+use Rattle.script_machine.specs.Local.{local_start}
 use Rattle.script_plain.proofs.Runs.PlainLaws.{locals_of-start_of, start_more}
 use Rattle.script_plain.proofs.steps.start.Goals as goal
 

@@ -2,9 +2,9 @@ use Rattle.std.proofs.Common.{◌∙◌, ◌<◌, ℕ, List, Option, Some, ap, l
 use Rattle.std.proofs.lemmas.Option.{slice_get_read}
 use Rattle.scc_base.specs.Setups.{setup_key}
 use Rattle.script_plain.specs.Code.{HasTaken, IsAtReceive, config}
-use Rattle.script_plain.specs.Local.{Local, local_next}
-use Rattle.script_plain.specs.Moves.{length_in}
-use Rattle.script_plain.specs.declared.posts.Posted.{Posted}
+use Rattle.script_machine.specs.Local.{Local, local_next}
+use Rattle.script_machine.specs.Moves.{length_in}
+use Rattle.script_machine.specs.declared.posts.Posted.{Posted}
 use Rattle.script_plain.proofs.CodeSteps.CodeLaws.{fetched, fetcher_there, fetches, slot_here}
 use Rattle.script_plain.proofs.CodeSteps.StandLaws.{fetcher_stands, slot_within}
 use Rattle.script_plain.proofs.CodeSteps.UeLaws.{fetched_long}

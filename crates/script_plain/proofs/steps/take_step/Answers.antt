@@ -2,9 +2,9 @@ use Rattle.std.proofs.Common.{◌≡◌, ◌∙◌, ◌<◌, ℕ, Some, ap, arit
 use Rattle.std.proofs.lemmas.Option.{slice_get_read}
 use Rattle.scc_base.specs.Setups.{setup_key}
 use Rattle.script_plain.specs.Code.{HasRefused, IsAtReceive, config, decision}
-use Rattle.script_plain.specs.Local.{Local, local_next}
-use Rattle.script_plain.specs.Next.{is_going}
-use Rattle.script_plain.specs.Next.Next.{Goes}
+use Rattle.script_machine.specs.Local.{Local, local_next}
+use Rattle.script_machine.specs.Next.{is_going}
+use Rattle.script_machine.specs.Next.Next.{Goes}
 use Rattle.script_plain.specs.Step.{step_of}
 use Rattle.script_plain.proofs.CodeSteps.StandLaws.{goes_step, going_stands, group_stands, passes_step, refusal_stands, refuses_step}
 use Rattle.script_plain.proofs.steps.take_step.Goals as goal

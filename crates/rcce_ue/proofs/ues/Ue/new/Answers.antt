@@ -1,8 +1,8 @@
 use Rattle.std.proofs.Common.{◌≡◌, ◌≤◌, ◌<◌, ◌+◌, ℕ, None, refl, sym, ap, ◌∙◌, subst, arith}
 use Rattle.put_get.specs.Cores.{Private}
-use Rattle.script_plain.specs.Local.{local_next, local_start}
-use Rattle.script_plain.specs.Machine.{MachineView}
-use Rattle.script_plain.specs.Next.{call_of}
+use Rattle.script_machine.specs.Local.{local_next, local_start}
+use Rattle.script_machine.specs.Machine.{MachineView}
+use Rattle.script_machine.specs.Next.{call_of}
 use Rattle.rcce_ue.specs.Bounds.{bounds_of, visits}
 use Rattle.rcce_ue.specs.Left.{left_of}
 use Rattle.rcce_ue.specs.Standing.{Tied}

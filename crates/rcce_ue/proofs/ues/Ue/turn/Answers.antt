@@ -1,9 +1,9 @@
 use Rattle.std.proofs.Common.{◌≡◌, ℕ, ◌≤◌, length, take, refl, sym, ap, ◌∙◌, subst, arith}
 use Rattle.std.proofs.lemmas.List.{with_items_is}
 use Rattle.std.specs.Vec.{with_items}
-use Rattle.script_plain.specs.Local.{local_next}
-use Rattle.script_plain.specs.Machine.{MachineView}
-use Rattle.script_plain.specs.Moves.{length_in, refused, taken}
+use Rattle.script_machine.specs.Local.{local_next}
+use Rattle.script_machine.specs.Machine.{MachineView}
+use Rattle.script_machine.specs.Moves.{length_in, refused, taken}
 use Rattle.rcce_ue.specs.Ues.{UeView, entered}
 use Rattle.rcce_ue.specs.declared.calls.Open.TheVariants.{Receiving}
 use Rattle.rcce_ue.proofs.OpAnswers.{alone_slot, alone_stopped, alone_went, head_fits, meeting_done, meeting_moved, meeting_waited, receives, receiving_done, receiving_moved, receiving_refused, receiving_waited, recv_before, recv_fits, sending_done, sending_moved, sending_waited}

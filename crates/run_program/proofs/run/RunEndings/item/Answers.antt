@@ -1,5 +1,5 @@
 use Rattle.std.proofs.Common.{ap, arith, length, List, slice_get, subst, sym, ◌<◌, ◌∙◌}
-use Rattle.script_plain.specs.Printed.{Printed}
+use Rattle.script_machine.specs.Printed.{Printed}
 use Rattle.run_program.specs.Reports.{Shown}
 use Rattle.run_program.proofs.RunLemmas.{crew_count, ue_ended}
 use Rattle.run_program.proofs.run.RunEndings.item.Goals as goal

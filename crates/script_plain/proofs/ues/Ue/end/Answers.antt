@@ -1,5 +1,5 @@
 use Rattle.std.proofs.Common.{◌≡◌, ◌∙◌, ap, sym}
-use Rattle.script_plain.specs.Local.{end_of, local_next}
+use Rattle.script_machine.specs.Local.{end_of, local_next}
 use Rattle.script_plain.proofs.ues.Ue.end.Goals as goal
 
 pub returns : goal.returns

@@ -1,9 +1,9 @@
 use Rattle.std.proofs.Common.{◌≡◌, ◌∙◌, ap, subst, sym}
 use Rattle.script_plain.specs.Kept.{Fits, reckoned_at}
-use Rattle.script_plain.specs.Local.{local_next}
-use Rattle.script_plain.specs.Machine.{MachineView}
-use Rattle.script_plain.specs.Next.{is_going}
-use Rattle.script_plain.specs.Next.Next.{Goes}
+use Rattle.script_machine.specs.Local.{local_next}
+use Rattle.script_machine.specs.Machine.{MachineView}
+use Rattle.script_machine.specs.Next.{is_going}
+use Rattle.script_machine.specs.Next.Next.{Goes}
 use Rattle.script_plain.proofs.ProgramLengths.LengthPaths.{fits_next}
 use Rattle.script_plain.proofs.CodeSteps.UeLaws.{fits_went, went_goes}
 use Rattle.script_plain.proofs.ues.Ue.go.Goals as goal

@@ -1,6 +1,6 @@
 use Rattle.std.proofs.Common.{arith, subst, sym}
 use Rattle.script_plain.specs.Kept.{Fits, reckoned_at}
-use Rattle.script_plain.specs.Machine.{MachineView}
+use Rattle.script_machine.specs.Machine.{MachineView}
 use Rattle.script_plain.proofs.ProgramLengths.LengthLaws.{sound_started}
 use Rattle.script_plain.proofs.ues.Ue.new.Goals as goal
 

@@ -1,8 +1,8 @@
 use Rattle.std.proofs.Common.{◌≡◌, ◌∙◌, ap, subst, sym}
 use Rattle.script_plain.specs.Kept.{Fits, reckoned_at}
-use Rattle.script_plain.specs.Local.{local_next}
-use Rattle.script_plain.specs.Machine.{MachineView}
-use Rattle.script_plain.specs.Next.{is_at_barrier, past_barrier}
+use Rattle.script_machine.specs.Local.{local_next}
+use Rattle.script_machine.specs.Machine.{MachineView}
+use Rattle.script_machine.specs.Next.{is_at_barrier, past_barrier}
 use Rattle.script_plain.proofs.ProgramLengths.LengthPaths.{fits_next}
 use Rattle.script_plain.proofs.CodeSteps.UeLaws.{barrier_passable, barrier_past, fits_passed}
 use Rattle.script_plain.proofs.ues.Ue.pass.Goals as goal

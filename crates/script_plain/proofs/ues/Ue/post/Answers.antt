@@ -1,9 +1,9 @@
 use Rattle.std.proofs.Common.{◌∙◌, ap, subst, sym}
-use Rattle.script_plain.specs.declared.posts.Posted.{Posted}
+use Rattle.script_machine.specs.declared.posts.Posted.{Posted}
 use Rattle.script_plain.specs.Code.{HasPosted, IsAtPost}
 use Rattle.script_plain.specs.Kept.{reckoned_at}
-use Rattle.script_plain.specs.Local.{Local, local_next}
-use Rattle.script_plain.specs.Machine.{MachineView}
+use Rattle.script_machine.specs.Local.{Local, local_next}
+use Rattle.script_machine.specs.Machine.{MachineView}
 use Rattle.script_plain.proofs.ProgramLengths.LengthPaths.{fits_next}
 use Rattle.script_plain.proofs.CodeSteps.UeLaws.{post_even, post_passable, posted_as}
 use Rattle.script_plain.proofs.CodeSteps.UeViews.{of_shown, passed_fits, to_shown}

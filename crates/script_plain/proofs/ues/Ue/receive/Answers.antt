@@ -1,10 +1,10 @@
 use Rattle.std.proofs.Common.{◌≡◌, ◌∙◌, ℕ, List, ap, length, subst, sym}
 use Rattle.script_plain.specs.Code.{HasTaken, IsAtReceive}
 use Rattle.script_plain.specs.Kept.{Fits, reckoned_at}
-use Rattle.script_plain.specs.Local.{Local, local_next}
-use Rattle.script_plain.specs.Machine.{MachineView}
-use Rattle.script_plain.specs.Moves.{length_in}
-use Rattle.script_plain.specs.Next.{Next}
+use Rattle.script_machine.specs.Local.{Local, local_next}
+use Rattle.script_machine.specs.Machine.{MachineView}
+use Rattle.script_machine.specs.Moves.{length_in}
+use Rattle.script_machine.specs.Next.{Next}
 use Rattle.script_plain.proofs.ProgramLengths.LengthPaths.{fits_next}
 use Rattle.script_plain.proofs.CodeSteps.UeLaws.{fits_taken, receiving, taken_as}
 use Rattle.script_plain.proofs.ues.Ue.receive.Goals as goal

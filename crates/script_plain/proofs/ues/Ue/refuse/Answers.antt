@@ -1,9 +1,9 @@
 use Rattle.std.proofs.Common.{ap, subst, sym}
 use Rattle.script_plain.specs.Code.{HasRefused, IsAtReceive}
 use Rattle.script_plain.specs.Kept.{reckoned_at}
-use Rattle.script_plain.specs.Local.{Local, local_next}
-use Rattle.script_plain.specs.Machine.{MachineView}
-use Rattle.script_plain.specs.Moves.{refused}
+use Rattle.script_machine.specs.Local.{Local, local_next}
+use Rattle.script_machine.specs.Machine.{MachineView}
+use Rattle.script_machine.specs.Moves.{refused}
 use Rattle.script_plain.proofs.ProgramLengths.LengthPaths.{fits_next}
 use Rattle.script_plain.proofs.CodeSteps.UeLaws.{fits_refused, receiving, refused_as}
 use Rattle.script_plain.proofs.CodeSteps.UeViews.{fits_behind, of_shown, to_shown}

@@ -1,8 +1,8 @@
 use Rattle.std.proofs.Common.{◌∙◌, ap, subst, sym}
 use Rattle.script_plain.specs.Code.{HasLength, HasSent, IsAtSend}
 use Rattle.script_plain.specs.Kept.{reckoned_at}
-use Rattle.script_plain.specs.Local.{Local, local_next}
-use Rattle.script_plain.specs.Machine.{MachineView}
+use Rattle.script_machine.specs.Local.{Local, local_next}
+use Rattle.script_machine.specs.Machine.{MachineView}
 use Rattle.script_plain.proofs.ProgramLengths.LengthPaths.{fits_next}
 use Rattle.script_plain.proofs.CodeSteps.UeLaws.{send_passable, sent_as, sent_long}
 use Rattle.script_plain.proofs.CodeSteps.UeViews.{of_shown, passed_fits, to_shown}

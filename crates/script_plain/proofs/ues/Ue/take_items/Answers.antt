@@ -1,7 +1,7 @@
 use Rattle.std.proofs.Common.{◌≡◌, ap, subst, sym}
 use Rattle.script_plain.specs.Kept.{Fits, reckoned_at}
-use Rattle.script_plain.specs.Local.{local_next}
-use Rattle.script_plain.specs.Machine.{MachineView}
+use Rattle.script_machine.specs.Local.{local_next}
+use Rattle.script_machine.specs.Machine.{MachineView}
 use Rattle.script_plain.proofs.CodeSteps.UeLaws.{fits_end}
 use Rattle.script_plain.proofs.ues.Ue.take_items.Goals as goal
 

@@ -1,0 +1,35 @@
+-- The calls of a rank without the bytes that go with them, which are known of its program before it runs (this project's
+-- profile).
+use Rattle.std.specs.Prelude.{ℕ, min, List, [], ◌∷◌, ◌++◌, Some, None}
+use Rattle.scc_base.specs.Heads.{plain_head, most_post}
+use Rattle.scc_base.specs.declared.calls.Call.{Call}
+use Rattle.scc_base.specs.declared.calls.Call.TheVariants as call
+use Rattle.script_reader.specs.Script.{Script}
+use Rattle.script_machine.specs.Lengths.{Lengths, length_at, lengths_after, lengths_of, source_length}
+use Rattle.script_machine.specs.Local.{local_start, with_length}
+use Rattle.script_machine.specs.Program.{Act, Prim, program_of}
+use Rattle.script_machine.specs.Program.Act.{Set, Own, Send, Post, Recv, Gather, Bar, Begin, Fold, Accept, Finish}
+
+-- the call that a primitive makes where these are the lengths, if it makes one
+abbrev pub called : Lengths → Act → List Call
+called l (Set reg content) = []
+called l (Own own) = []
+called l (Send to head source) = call.Send to (with_length head (source_length l source)) ∷ []
+called l (Post to reg) = call.Post to (plain_head (min (length_at l reg) most_post)) ∷ []
+called l (Recv from reg head) = call.Recv from head ∷ []
+called l (Gather from head None) = call.Recv from head ∷ []
+called l (Gather from head (Some reg)) = call.Recv from (with_length head (length_at l reg)) ∷ []
+called l (Bar comm) = call.Bar comm ∷ []
+called l (Begin reg) = []
+called l (Fold op ty) = []
+called l (Accept reg) = []
+called l (Finish reg) = []
+
+-- the calls of primitives that are left where these are the lengths, in order
+abbrev pub calls_from : Lengths → List Prim → List Call
+calls_from l [] = []
+calls_from l (prim ∷ prims) = called l prim.act ++ calls_from (lengths_after l prim.act) prims
+
+-- the calls of a rank of a script, in order, with the heads that they have
+abbrev pub calls_of : Script → ℕ → List Call
+calls_of script rank = calls_from (lengths_of (local_start script rank)) (program_of script rank)

@@ -1,0 +1,13 @@
+pub mod Program
+pub mod Walk
+pub mod Next
+pub mod Local
+pub mod Moves
+pub mod Lengths
+pub mod Machine
+pub mod Depths
+pub mod Rooms
+pub mod Holds
+pub mod Printed
+pub mod CallLists
+pub mod Passes

@@ -1,0 +1,18 @@
+-- What is seen of the machine that runs the program of a rank.
+use Rattle.std.specs.Prelude.{ℕ}
+use Rattle.scc_base.specs.Setups.{SetupView}
+use Rattle.script_reader.specs.Script.{Script}
+use Rattle.script_machine.specs.Local.{Local}
+use Rattle.script_machine.specs.declared.posts.OnItsWay.{OnItsWay}
+use Rattle.script_machine.specs.declared.posts.Posted.{Posted}
+
+-- the script, the setup and the rank that a machine runs, and what the rank holds
+pub record MachineView : Type 0 where
+  pub script : Script
+  pub setup : SetupView
+  pub rank : ℕ
+  pub local : Local
+
+-- a posted message, without its bytes
+abbrev pub on_its_way : Posted → OnItsWay
+on_its_way message = record { line = message.line; to = message.to; head = message.head }

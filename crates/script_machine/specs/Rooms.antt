@@ -1,0 +1,136 @@
+-- The rooms of a machine that takes all its memory at the start: what is in them, and that they hold what the program brings.
+use Rattle.std.specs.Prelude.{ℕ, ◌+◌, ◌≤◌, nat_lt, if◌then◌else◌, List, [], ◌∷◌, take, drop, replicate}
+use Rattle.script_reader.specs.declared.script.OwnStmt.TheVariants as own
+use Rattle.script_machine.specs.Printed.{Printed}
+use Rattle.script_machine.specs.declared.prims.Standing.{Standing}
+use Rattle.script_machine.specs.declared.prints.Entry.{Entry}
+use Rattle.script_machine.specs.declared.reckoning.Needs.{Needs}
+use Rattle.script_machine.specs.Lengths.{Lengths, length_at, lengths_after}
+use Rattle.script_machine.specs.Local.{Local}
+use Rattle.script_machine.specs.Program.{Act, Prim}
+use Rattle.script_machine.specs.Program.Act.{Set, Own, Send, Post, Recv, Gather, Bar, Begin, Fold, Accept, Finish}
+use Rattle.script_machine.specs.Walk.{WalkView}
+
+-- bytes, and for how many there is room
+pub record RoomView : Type 0 where
+  pub bytes : List ℕ
+  pub room : ℕ
+
+-- the registers by number, and the room of each
+pub record RegistersView : Type 0 where
+  pub registers : List (List ℕ)
+  pub rooms : List ℕ
+
+-- the items printed so far, and for how many there is room, and for how many bytes of theirs
+pub record PrintsView : Type 0 where
+  pub items : List Printed
+  pub room : ℕ
+  pub bytes : ℕ
+
+-- a printed item is a piece of the printed bytes
+abbrev pub cut : List ℕ → Entry → Printed
+cut bytes entry = record { reg = entry.reg; form = entry.form; bytes = take entry.len (drop entry.start bytes) }
+
+-- each entry ends within the first `room` bytes
+abbrev pub AreCut : ℕ → List Entry → Type 0
+AreCut room [] = Unit {0}
+AreCut room (entry ∷ table) = (entry.start + entry.len ≤ room) × AreCut room table
+
+-- two lists of lengths: each length of the first is at most the one at its place in the second
+abbrev pub AreBelow : List ℕ → List ℕ → Type 0
+AreBelow [] [] = Unit {0}
+AreBelow [] (room ∷ rooms) = ⊥
+AreBelow (len ∷ lens) [] = ⊥
+AreBelow (len ∷ lens) (room ∷ rooms) = (len ≤ room) × AreBelow lens rooms
+
+-- each length is within the room for it
+pub record IsWithin (l room : Lengths) : Type 0 where
+  pub registers : AreBelow l.registers room.registers
+  pub accumulator : l.accumulator ≤ room.accumulator
+  pub received : l.received ≤ room.received
+  pub items : l.items ≤ room.items
+  pub printed : l.printed ≤ room.printed
+
+-- the room for all that a rank holds, and for the copy of a register that is applied to one
+pub record Rooms : Type 0 where
+  pub lengths : Lengths
+  pub spare : ℕ
+
+-- how many bytes the copy of a register takes that is applied to one
+abbrev pub spare_length : Lengths → Act → ℕ
+spare_length l (Set reg content) = 0
+spare_length l (Own (own.Apply op ty dst src)) = length_at l src
+spare_length l (Own (own.Print reg form)) = 0
+spare_length l (Send to head source) = 0
+spare_length l (Post to reg) = 0
+spare_length l (Recv from reg head) = 0
+spare_length l (Gather from head sized) = 0
+spare_length l (Bar comm) = 0
+spare_length l (Begin reg) = 0
+spare_length l (Fold op ty) = 0
+spare_length l (Accept reg) = 0
+spare_length l (Finish reg) = 0
+
+-- the rooms hold what the primitives bring, one after the other
+abbrev pub AreWithin : Rooms → Lengths → List Prim → Type 0
+AreWithin room l [] = IsWithin l room.lengths
+AreWithin room l (prim ∷ prims) =
+    IsWithin l room.lengths × ((spare_length l prim.act ≤ room.spare) × AreWithin room (lengths_after l prim.act) prims)
+
+-- no room is smaller
+pub record IsWider (old new : Rooms) : Type 0 where
+  pub lengths : IsWithin old.lengths new.lengths
+  pub spare : old.spare ≤ new.spare
+
+-- the rooms that are taken for these needs
+abbrev pub rooms_of : Needs → Rooms
+rooms_of needs =
+    record {
+      lengths = record {
+        registers = needs.registers.items;
+        accumulator = needs.accumulator;
+        received = needs.received;
+        items = needs.items;
+        printed = needs.printed;
+      };
+      spare = needs.spare;
+    }
+
+-- a reckoning: the lengths at a point of a program, and the greatest so far
+pub record ReckoningView : Type 0 where
+  pub lengths : Lengths
+  pub most : Rooms
+
+-- the greater of two numbers
+abbrev pub greater : ℕ → ℕ → ℕ
+greater one other = if nat_lt one other then other else one
+
+-- the lengths of a rank that holds nothing and has `count` registers
+abbrev pub nothing_held : ℕ → Lengths
+nothing_held count = record { registers = replicate count 0; accumulator = 0; received = 0; items = 0; printed = 0 }
+
+-- what a machine holds, by its parts
+abbrev pub local_by : RegistersView → RoomView → RoomView → WalkView → PrintsView → Standing → Local
+local_by contents folded taken walk prints state =
+    record {
+      registers = contents.registers;
+      accumulator = folded.bytes;
+      received = taken.bytes;
+      left = walk.left;
+      printed = prints.items;
+      standing = state;
+    }
+
+-- the rooms of registers, work buffers and printed items
+abbrev pub rooms_by : RegistersView → RoomView → RoomView → RoomView → PrintsView → Rooms
+rooms_by contents folded taken spare prints =
+    record {
+      lengths = record {
+        registers = contents.rooms;
+        accumulator = folded.room;
+        received = taken.room;
+        items = prints.room;
+        printed = prints.bytes;
+      };
+      spare = spare.room;
+    }

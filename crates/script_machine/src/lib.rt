@@ -1,0 +1,29 @@
+//! The machine of a rank: the primitives of a rank of a script, what it holds, what stands next there, and what it comes to.
+#![tactic(auto)]
+
+mod calls;
+mod course;
+mod ends;
+mod facing;
+mod held;
+mod machines;
+mod nestings;
+mod posts;
+mod prims;
+mod prints;
+mod reckoning;
+mod registers;
+mod rooms;
+mod statements;
+mod trials;
+mod walk;
+
+pub use ends::UeEnd;
+pub use facing::Facing;
+pub use machines::Machine;
+pub use posts::{OnItsWay, Posted};
+pub use prims::{Action, Content, Primitive, Source, Standing};
+pub use prints::{PrintedItem, Prints};
+pub use reckoning::Lengths;
+pub use registers::Register;
+pub use walk::Walk;

@@ -1,0 +1,111 @@
+//! What memory the program of a rank takes: a course through it over the lengths alone. Where a pass of a repeat changes no
+//! length and no other repeat stands in it, the passes after it need no more room, and are left out.
+
+ghost use Rattle.std.specs.Prelude.{◌≡◌, ◌<◌, length, slice_get, true, IfOk, OnOk, None, []};
+ghost use Rattle.script_reader.specs.Script.{rules_of};
+ghost use Rattle.script_machine.specs.Passes.{HoldsBefore, IsStretch, KeepsRegisters};
+ghost use Rattle.script_machine.specs.Program.{prims_in, program_of};
+ghost use Rattle.script_machine.specs.Rooms.{AreWithin, IsWider, nothing_held, rooms_of};
+ghost use Rattle.script_machine.specs.Walk.{is_end, prim_of};
+
+use crate::course::Course;
+use crate::reckoning::{Lengths, Needs, Reckoning};
+use crate::rooms::Length;
+use crate::walk::Walk;
+use std::alloc::{AllocError, Global};
+
+/// What a walk needs, and the walk at its first primitive again.
+#[derive(Drop)]
+pub struct Reckoned<'s> {
+    pub needs: Needs,
+    pub walk: Walk<'s>,
+}
+
+/// The greatest lengths on a walk, begun with this many registers of which none is set.
+pub fn reckon<'s>(alloc: Global, count: usize, walk: Walk<'s>) -> Result<Reckoned<'s>, AllocError>
+    requires ranks { walk.setup.nue ≡ walk.script.nue }
+    requires communicators { walk.setup.comms ≡ rules_of walk.script.items }
+    ensures holds { IfOk result (λ r. AreWithin (rooms_of r.needs) (nothing_held count) walk.entry.left) }
+    ensures again { IfOk result (λ r. r.walk ≡ record walk.entry { left = program_of walk.entry.script walk.entry.rank }) }
+{
+    let mut reckoning = Reckoning::new(alloc, count)?;
+    let mut course = walk.into_course();
+    reckon_prims(&mut course, &mut reckoning)?;
+    reckon_passes(&mut course, &mut reckoning)?;
+    reckoning.within_law();
+    course.restart();
+    let walk = Walk::of(course);
+    let needs = reckoning.needs();
+    Ok(Reckoned { needs, walk })
+}
+
+/// Reckons with all that is left from the end of a pass on.
+fn reckon_passes(course: &mut Course, reckoning: &mut Reckoning) -> Result<(), AllocError>
+    requires { prim_of (slice_get course.old.left 0) ≡ None }
+    ensures holds { OnOk result (HoldsBefore reckoning.new.most reckoning.old.lengths (prims_in course.old.left)
+        reckoning.new.lengths []) }
+    ensures wider { OnOk result (IsWider reckoning.old.most reckoning.new.most) }
+    ensures same { OnOk result (course.new ≡ record course.old { left = course.new.left }) }
+{
+    while course.is_at_end() {
+        reckon_pass(course, reckoning)?;
+    }
+    Ok(())
+}
+
+/// Reckons with what is left up to the next end of a pass. Where this was a pass that changed no length, and others of the
+/// same primitives come after it, these are left out.
+fn reckon_pass(course: &mut Course, reckoning: &mut Reckoning) -> Result<(), AllocError>
+    requires { is_end (slice_get course.old.left 0) ≡ true }
+    ensures holds { OnOk result (HoldsBefore reckoning.new.most reckoning.old.lengths (prims_in course.old.left)
+        reckoning.new.lengths (prims_in course.new.left)) }
+    ensures wider { OnOk result (IsWider reckoning.old.most reckoning.new.most) }
+    ensures less { OnOk result (length course.new.left < length course.old.left) }
+    ensures stands { OnOk result (prim_of (slice_get course.new.left 0) ≡ None) }
+    ensures same { OnOk result (course.new ≡ record course.old { left = course.new.left }) }
+{
+    let passes = course.passes();
+    let folded = reckoning.lengths().accumulator();
+    let taken = reckoning.lengths().received();
+    course.advance();
+    let kept = reckon_prims(course, reckoning)?;
+    if !is_quiet(passes, kept, reckoning.lengths(), folded, taken) {
+        return Ok(());
+    }
+    course.leave();
+    Ok(())
+}
+
+/// Whether the passes that are left can be left out: there are some, and the one that was gone over kept the lengths of the
+/// registers, printed nothing, and left the work buffers as long as they were before it.
+fn is_quiet(passes: u32, kept: bool, lengths: &Lengths, folded: Length, taken: Length) -> bool
+    ensures passes { result ≡ true → 1 < passes }
+    ensures kept { result ≡ true → kept ≡ true }
+    ensures folded { result ≡ true → lengths.now.accumulator ≡ folded }
+    ensures taken { result ≡ true → lengths.now.received ≡ taken }
+{
+    if passes < 2 || !kept {
+        return false;
+    }
+    lengths.accumulator().get() == folded.get() && lengths.received().get() == taken.get()
+}
+
+/// Reckons with the primitives up to the next end of a pass, or to the end. Whether the lengths of the registers stayed,
+/// and nothing was printed.
+fn reckon_prims(course: &mut Course, reckoning: &mut Reckoning) -> Result<bool, AllocError>
+    ensures stretch { OnOk result (IsStretch reckoning.new.most reckoning.old.lengths reckoning.new.lengths
+        course.old.left course.new.left) }
+    ensures wider { OnOk result (IsWider reckoning.old.most reckoning.new.most) }
+    ensures kept { IfOk result (λ kept. kept ≡ true → KeepsRegisters reckoning.old.lengths reckoning.new.lengths) }
+    ensures stands { OnOk result (prim_of (slice_get course.new.left 0) ≡ None) }
+    ensures same { OnOk result (course.new ≡ record course.old { left = course.new.left }) }
+{
+    let mut kept = true;
+    while let Some(prim) = course.front() {
+        reckoning.within_law();
+        kept &= reckoning.lengths().keeps(&prim.action);
+        reckoning.go(&prim.action)?;
+        course.advance();
+    }
+    Ok(kept)
+}

@@ -1,9 +1,0 @@
-use Rattle.std.proofs.Common.{◌∙◌, sym}
-use Rattle.script_plain.proofs.Walks.WalkLaws.{as_many_prims, one_mark}
-use Rattle.script_plain.proofs.course.count_at.Goals as goal
-
-pub returns-then-ends_pass : goal.returns-then-ends_pass
-returns-then-ends_pass c = sym (one_mark c.args.setup.now c.args.rank c.args.item.now (sym c.ends_pass.ensures ∙ c.if-ends_pass.true))
-
-pub returns : goal.returns
-returns c = c.count_prims.ensures ∙ sym (as_many_prims c.args.setup.now c.args.rank c.args.item.now (sym c.ends_pass.ensures ∙ c.if-ends_pass.false))
