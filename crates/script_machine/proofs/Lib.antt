@@ -1,3 +1,4 @@
+pub mod FillLemmas
 pub mod Choices
 pub mod Walks
 pub mod ProgramLengths

@@ -1,12 +1,15 @@
 //! Rooms for bytes, and the registers of a rank, all taken at the start.
 
-ghost use Rattle.std.specs.Prelude.{◌≡◌, ◌≤◌, ◌%◌, ◌+◌, ◌++◌, [], length};
+ghost use Rattle.std.specs.Prelude.{◌≡◌, ◌≤◌, ◌%◌, ◌+◌, ◌++◌, [], length, min};
 ghost use Rattle.script_machine.specs.Program.{filling};
 
 use crate::prims::Content;
 use groups::{Op, Ty, fold_into};
 use std::alloc::{AllocError, Global};
 use std::marker::Model;
+
+/// Behind so many bytes those of a `fill` come again.
+const PERIOD: u32 = 251;
 
 /// A number of bytes that a message may have.
 #[derive(Clone, Copy)]
@@ -123,10 +126,34 @@ impl Room {
         requires { len ≤ self.old.room }
         ensures { self.new ≡ record self.old { bytes = filling len start } }
     {
+        self.begin_filling(len.min(PERIOD), start);
+        self.go_on_filling(len as usize, start);
+    }
+
+    /// Becomes this many bytes, of which byte i is `(start + i) mod 251`, one by one.
+    fn begin_filling(&mut self, len: u32, start: u32)
+        requires { len ≤ self.old.room }
+        ensures { self.new ≡ record self.old { bytes = filling len start } }
+    {
         self.bytes.clear();
         for i in 0..len {
             self.bytes
-                .push_reserved(((start as u64 + i as u64) % 251) as u8);
+                .push_reserved(((start as u64 + i as u64) % PERIOD as u64) as u8);
+        }
+    }
+
+    /// Becomes this many bytes of a filling, of which it holds the first: all of them, or a whole period.
+    fn go_on_filling(&mut self, len: usize, start: u32)
+        requires begun { self.old.bytes ≡ filling (min len PERIOD) start }
+        requires within { len ≤ self.old.room }
+        ensures { self.new ≡ record self.old { bytes = filling len start } }
+    {
+        while self.bytes.len() < len {
+            let done = self.bytes.len();
+            let more = done.min(len - done);
+            if self.bytes.extend_from_within(..more).is_err() {
+                unreachable!()
+            }
         }
     }
 

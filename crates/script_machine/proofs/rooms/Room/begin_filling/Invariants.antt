@@ -1,6 +1,6 @@
 use Rattle.std.proofs.Common.{◌≡◌, vec_capacity, vec_len}
 use Rattle.script_machine.specs.Program.{filling}
-use Rattle.script_machine.proofs.rooms.Room.fill.Given as goal
+use Rattle.script_machine.proofs.rooms.Room.begin_filling.Given as goal
 
 abbrev pub invariant-loop-i : goal.invariant-loop-i
 invariant-loop-i l = record {

@@ -1,7 +1,7 @@
 use Rattle.std.proofs.Common.{ℕ, ◌+◌, ◌%◌, List, [], ◌∷◌, ◌++◌, ◌∙◌, ap, length, sym, arith}
 use Rattle.std.proofs.lemmas.List.FromFn.{length-map-range_with_len, map-range_with_len_more}
 use Rattle.script_machine.specs.Rooms.{RoomView}
-use Rattle.script_machine.proofs.rooms.Room.fill.Goals as goal
+use Rattle.script_machine.proofs.rooms.Room.begin_filling.Goals as goal
 
 pub invariant_of-self : goal.invariant_of-self
 invariant_of-self c =
