@@ -15,8 +15,8 @@ use Rattle.write_combine.specs.declared.combiner.Out.{Out}
 use Rattle.put_get.specs.Accesses.{loads_of, stores_of}
 use Rattle.put_get.specs.Cores.{Private}
 use Rattle.put_get.proofs.StepLemmas.{events_once}
-use Rattle.sync_flags.specs.Writes.{change_events}
-use Rattle.send_recv.specs.Flags.{ChangesBy, Missed, Changed}
+use Rattle.sync_flags.specs.Writes.{change_events, RegisterTaken, BitChanged}
+use Rattle.send_recv.specs.Flags.{ChangesBy}
 use Rattle.send_recv.specs.Steps.{core_of, signal_flag}
 use Rattle.scc_proto.specs.Drafts.{is_message_word}
 use Rattle.send_recv.specs.Turns.{is_no_draft}
@@ -48,9 +48,9 @@ drafts_none_by LineFlags s t c d core flag set done empty is (e, writes) events 
     let one : Did s (store_of (flag_word core flag) (if set then 1 else 0) ∷ []) t = subst (λ (o : Option Out). Did s (stores_of o ++ (store_of (flag_word core flag) (if set then 1 else 0)) ∷ []) t) empty writes.did in
     subst (λ es. list_all (is_no_draft s.seat.setup) es ≡ true) (events_once s t (store_of (flag_word core flag) (if set then 1 else 0) ∷ []) events one did)
     (store_drafts_none s.seat.setup core flag (if set then 1 else 0) is)
-drafts_none_by BitFlags s t c d core flag set done empty is (Missed missed one e) events did =
+drafts_none_by BitFlags s t c d core flag set done empty is (RegisterTaken missed one e, turns) events did =
     subst (λ es. list_all (is_no_draft s.seat.setup) es ≡ true) (events_once s t (take_of core false ∷ []) events one did) refl
-drafts_none_by BitFlags s t c d core flag set done empty is (Changed made words turns one m fills e) events did =
+drafts_none_by BitFlags s t c d core flag set done empty is (BitChanged made words loaded one m fills e, turns) events did =
     subst (λ es. list_all (is_no_draft s.seat.setup) es ≡ true) (events_once s t (change_events (flag_word core flag) flag.bit set words) events one did) (bit_drafts_none s.seat.setup core flag set words is)
 
 pub change_drafts_none : (s t : Sight) (c d : Private) (core : ℕ) (flag : FlagPlace) (set done : Bool) → c.out ≡ None → IsFlagWord s.seat.setup core flag → ChangesBy s.seat.setup.layout s c core flag set done t d

@@ -14,11 +14,11 @@ use Rattle.scc_proto.proofs.Tests.{eqb_same, eqb_other}
 use Rattle.line_cache.specs.Lines.{held, noted}
 use Rattle.write_combine.specs.declared.combiner.Out.{Out}
 use Rattle.put_get.specs.Accesses.{stores_of}
-use Rattle.put_get.specs.Cores.{Private, Fills, Kept, Dropped}
+use Rattle.put_get.specs.Cores.{Private, Fills, Kept, Dropped, WritesThrough}
 use Rattle.put_get.specs.Transfers.{load_count}
 use Rattle.sync_flags.specs.Flags.{with_bit}
-use Rattle.sync_flags.specs.Writes.{change_events}
-use Rattle.send_recv.specs.Flags.{ChangesBy, WritesLineFlag, TriesBit, Missed, Changed}
+use Rattle.sync_flags.specs.Writes.{change_events, TriesChange, RegisterTaken, BitChanged}
+use Rattle.send_recv.specs.Flags.{ChangesBy}
 use Rattle.send_recv.specs.Receiving.{flag_lines}
 use Rattle.sync_flags.specs.Tries.{Aim, AtFlag, AtWord, AtRegister, tries_at, vain_from, all_vain, changing_after}
 use Rattle.send_recv.specs.Tries.{aim_of}
@@ -84,7 +84,7 @@ changed_ends core flag set words (AtFlag place bit want) n = refl
 changed_ends core flag set words (AtWord place value) n = refl
 changed_ends core flag set words (AtRegister other) n = refl
 
-flag_facts : (s t : Sight) (c d : Private) (core : ℕ) (flag : FlagPlace) (set : Bool) → c.out ≡ None → WritesLineFlag s c core flag set t d → ChangeFacts LineFlags s c core true t d
+flag_facts : (s t : Sight) (c d : Private) (core : ℕ) (flag : FlagPlace) (set : Bool) → c.out ≡ None → WritesThrough s c (flag_word core flag) (if set then 1 else 0) t d → ChangeFacts LineFlags s c core true t d
 flag_facts s t c d core flag set empty w =
     let same : d.evictions ≡ c.evictions = ap (λ (x : Private). x.evictions) w.is in
     record {
@@ -130,8 +130,8 @@ changed_held c m d core flag set words v (Dropped at low given e) is same =
 since_stored : (line : LineAt) (words : List ℕ) (p : WordAt) (v core : ℕ) → same_line line (line_of_word p) ≡ true → stored_since line words (store_of p v ∷ free_of core ∷ []) ≡ slice_set words p.word v
 since_stored line words p v core h = ap (λ b. if b then slice_set words p.word v else words) h
 
-bit_facts : (s t : Sight) (c d : Private) (core : ℕ) (flag : FlagPlace) (set done : Bool) → c.out ≡ None → TriesBit s c core flag set done t d → ChangeFacts BitFlags s c core done t d
-bit_facts s t c d core flag set done empty (Missed missed did e) =
+bit_facts : (s t : Sight) (c d : Private) (core : ℕ) (flag : FlagPlace) (set done : Bool) → c.out ≡ None → TriesChange s c (flag_word core flag) flag.bit set done t d → ChangeFacts BitFlags s c core done t d
+bit_facts s t c d core flag set done empty (RegisterTaken missed did e) =
     let same : d.evictions ≡ c.evictions = ap (λ (x : Private). x.evictions) e in
     record {
       events = take_of core false ∷ [];
@@ -148,7 +148,7 @@ bit_facts s t c d core flag set done empty (Missed missed did e) =
       rests = λ b. refl;
       only = λ b. refl;
     }
-bit_facts s t c d core flag set done empty (Changed made words turns did m fills e) =
+bit_facts s t c d core flag set done empty (BitChanged made words loaded did m fills e) =
     let line = line_of_word (flag_word core flag) in
     let new = with_bit flag.bit set (slice_index words flag.word) in
     let grown = fills_evictions fills in
@@ -172,4 +172,4 @@ bit_facts s t c d core flag set done empty (Changed made words turns did m fills
 
 pub change_facts : (layout : Layout) (s t : Sight) (c d : Private) (core : ℕ) (flag : FlagPlace) (set done : Bool) → c.out ≡ None → ChangesBy layout s c core flag set done t d → ChangeFacts layout s c core done t d
 change_facts LineFlags s t c d core flag set done empty (is, writes) = subst (λ b. ChangeFacts LineFlags s c core b t d) (sym is) (flag_facts s t c d core flag set empty writes)
-change_facts BitFlags s t c d core flag set done empty tries = bit_facts s t c d core flag set done empty tries
+change_facts BitFlags s t c d core flag set done empty (tries, turns) = bit_facts s t c d core flag set done empty tries

@@ -1,5 +1,6 @@
 -- The changes of flags that the messages make: that the record permits them, and the record after them.
-use Rattle.std.proofs.Common.{◌≡◌, ℕ, ◌<◌, Bool, true, false, if◌then◌else◌, List, [], ◌∷◌, ◌++◌, Option, Some, None, refl, sym, ◌∙◌, ap, subst, arith, slice_index}
+use Rattle.std.proofs.Common.{◌≡◌, ℕ, ◌<◌, Bool, true, false, if◌then◌else◌, List, [], ◌∷◌, ◌++◌, Option, Some, None, is_none, refl, sym, ◌∙◌, ap, subst, slice_index}
+use Rattle.std.specs.Prelude.{IsTrue}
 use Rattle.std.specs.Int.{bit_at}
 use Rattle.scc_base.specs.Places.{FlagPlace, flag_word, line_of_word}
 use Rattle.scc_base.specs.Layouts.{signal_at, signal_word}
@@ -7,7 +8,6 @@ use Rattle.scc_base.specs.declared.signals.Signal.{Signal}
 use Rattle.scc_base.specs.declared.signals.Signal.TheVariants.{Sent, Ready}
 use Rattle.scc_base.specs.Setups.{IsSetup}
 use Rattle.scc_base.specs.Events.{store_of, take_of, free_of}
-use Rattle.scc_base.specs.declared.events.Event.{Event}
 use Rattle.scc_base.specs.declared.layouts.Layout.{Layout}
 use Rattle.scc_base.specs.declared.layouts.Layout.TheVariants.{LineFlags, BitFlags}
 use Rattle.scc_proto.specs.Messages.{Notes}
@@ -17,16 +17,17 @@ use Rattle.scc_proto.specs.Permission.{permits}
 use Rattle.scc_proto.specs.Soundness.{IsSound, is_drafting, is_taking, is_answered}
 use Rattle.scc_proto.specs.Words.{are_peers}
 use Rattle.scc_proto.specs.Records.{chunk_of, change_held, forget_flags}
-use Rattle.scc_proto.specs.Ports.{Seat, Sight, Did, MayMake, MayMakeAll, IsSoundPort, record_in, record_on}
+use Rattle.scc_proto.specs.Ports.{Seat, Sight, Did, MayMake, MayMakeAll, record_in, record_on}
 use Rattle.scc_proto.proofs.Tests.{peers_are}
-use Rattle.scc_proto.proofs.PortLaws.{record_did, record_did_one, record_on-append, seat_kept}
+use Rattle.scc_proto.proofs.PortLaws.{record_did, record_did_one, record_on-append}
 use Rattle.scc_proto.proofs.Layouts.PlaceMoves.{Makes, signal_lowered, signal_raised, signal_bit_raised, signal_bit_lowered}
 use Rattle.write_combine.specs.declared.combiner.Out.{Out}
 use Rattle.write_combine.specs.Combining.{handed_out}
 use Rattle.put_get.specs.Accesses.{loads_of, stores_of}
 use Rattle.put_get.specs.Cores.{Private}
 use Rattle.sync_flags.specs.Flags.{with_bit}
-use Rattle.send_recv.specs.Flags.{Changes, ChangesBy, Missed, Changed, MayChange, MayChangeBy}
+use Rattle.sync_flags.specs.Writes.{RegisterTaken, BitChanged, TurnsOver}
+use Rattle.send_recv.specs.Flags.{Changes, ChangesBy, MayChange, MayChangeBy}
 use Rattle.send_recv.specs.Steps.{own_core, core_of, line_at}
 use Rattle.send_recv.specs.Turns.{HoldsNoneBy, HoldsNone}
 use Rattle.send_recv.proofs.Looks.ChangeLemmas.{with_hold, both_noted, line_noted, is_noted, move_made, bit_taken, bit_given}
@@ -34,14 +35,6 @@ use Rattle.send_recv.proofs.Looks.ChangeLemmas.{with_hold, both_noted, line_note
 -- with an empty buffer a line flag's store is the one event
 empty_other : (out : Option Out) (core : ℕ) (flag : FlagPlace) → out ≡ None → handed_out out (line_of_word (flag_word core flag)) ≡ out
 empty_other out core flag empty = subst (λ (o : Option Out). handed_out o (line_of_word (flag_word core flag)) ≡ o) (sym empty) refl
-
--- a sound record, where it is known what it is
-sound_at : (s t : Sight) (es : List Event) (rec : Record) → Did s es t → IsSoundPort t → record_in t ≡ rec → IsSound s.seat.setup s.seat.rank rec
-sound_at s t es rec did sound is = subst (λ (x : Record). IsSound s.seat.setup s.seat.rank x) is (subst (λ (x : Seat). IsSound x.setup x.rank (record_in t)) (seat_kept s es t did) sound)
-
--- what may be made there
-may_at : (s t : Sight) (es : List Event) (rec : Record) (e : Event) → Did s es t → record_in t ≡ rec → MayMake s.seat rec e → MayMake t.seat (record_in t) e
-may_at s t es rec e did is may = subst (λ (x : Seat). MayMake x (record_in t) e) (sym (seat_kept s es t did)) (subst (λ (x : Record). MayMake s.seat x e) (sym is) may)
 
 -- ---- a change of a flag that is a move of the record
 
@@ -62,7 +55,7 @@ pub record MovesBit (seat : Seat) (rec : Record) (r : ℕ) (flag : FlagPlace) (s
 
 -- a change of a flag at the core of rank r is this move: by one store, or by that of the word with its bit
 abbrev pub MovesFlag : Layout → Seat → Record → ℕ → FlagPlace → Bool → Move → Type 0
-MovesFlag LineFlags seat rec r flag set move = (flag.word < 4) × Makes seat rec (store_of (flag_word (core_of seat r) flag) (if set then 1 else 0)) (after (chunk_of seat.setup) move rec)
+MovesFlag LineFlags seat rec r flag set move = Makes seat rec (store_of (flag_word (core_of seat r) flag) (if set then 1 else 0)) (after (chunk_of seat.setup) move rec)
 MovesFlag BitFlags seat rec r flag set move = MovesBit seat rec r flag set move
 
 bit_noted : (seat : Seat) (rec : Record) (r : ℕ) (flag : FlagPlace) (words : List ℕ) → IsSetup seat.setup → seat.setup.layout ≡ BitFlags → r < seat.setup.nue → flag.line ≡ 1 → rec.held (core_of seat r) ≡ None
@@ -74,21 +67,24 @@ bit_noted seat rec r flag words valid bits below on_line free =
 pub may_change_by : (layout : Layout) (s : Sight) (c : Private) (r : ℕ) (flag : FlagPlace) (set : Bool) (move : Move) → s.seat.setup.layout ≡ layout → IsSetup s.seat.setup
     → HoldsNoneBy layout (record_in s).held → c.out ≡ None → MovesFlag layout s.seat (record_in s) r flag set move → MayChangeBy layout s c (core_of s.seat r) flag set
 may_change_by LineFlags s c r flag set move lines valid hands empty moves = record {
-  word_below = moves.0;
   other = empty_other c.out (core_of s.seat r) flag empty;
-  permitted = subst (λ (o : Option Out). MayMakeAll s.seat (record_in s) (stores_of o ++ (store_of (flag_word (core_of s.seat r) flag) (if set then 1 else 0)) ∷ [])) (sym empty) (moves.1.may, tt);
+  permitted = subst (λ (o : Option Out). MayMakeAll s.seat (record_in s) (stores_of o ++ (store_of (flag_word (core_of s.seat r) flag) (if set then 1 else 0)) ∷ [])) (sym empty) (moves.may, tt);
 }
-may_change_by BitFlags s c r flag set move bits valid hands empty moves = record {
-  empty = empty;
-  hands = hands (core_of s.seat r);
-  permitted = λ words t did sound.
-      let rec : Record = noted_under s.seat (record_in s) r words in
-      let is : record_in t ≡ rec = record_did s _ t did ∙ bit_noted s.seat (record_in s) r flag words valid bits moves.below moves.on_line (hands (core_of s.seat r)) in
-      let turned = moves.turns words (sound_at s t _ rec did sound is) in (
-        may_at s t _ rec (store_of (flag_word (core_of s.seat r) flag) (with_bit flag.bit set (slice_index words flag.word))) did is (moves.stored words turned).may,
-        turned,
+may_change_by BitFlags s c r flag set move bits valid hands empty moves =
+    let core = core_of s.seat r in
+    let noted : (words : List ℕ) → record_on s.seat (record_in s) (take_of core true ∷ loads_of (line_of_word (flag_word core flag)) words) ≡ noted_under s.seat (record_in s) r words
+    = λ words. bit_noted s.seat (record_in s) r flag words valid bits moves.below moves.on_line (hands core) in
+    let turns : TurnsOver s (flag_word core flag) flag.bit set
+    = λ words loaded. moves.turns words (subst (λ (x : Record). IsSound s.seat.setup s.seat.rank x) (noted words) loaded.sound) in
+    record {
+      empty = empty;
+      permitted = (
+        subst (λ (o : Option FlagWords). IsTrue (is_none o)) (sym (hands core)) refl,
+        λ words loaded. subst (λ (x : Record). MayMake s.seat x (store_of (flag_word core flag) (with_bit flag.bit set (slice_index words flag.word)))) (sym (noted words))
+            (moves.stored words (turns words loaded)).may,
       );
-}
+      turns = turns;
+    }
 
 -- the record permits the change
 pub may_change : (s : Sight) (c : Private) (r : ℕ) (flag : FlagPlace) (set : Bool) (move : Move) → IsSetup s.seat.setup → HoldsNone s.seat.setup.layout (record_in s) → c.out ≡ None
@@ -100,9 +96,9 @@ pub flag_moved_by : (layout : Layout) (s t : Sight) (c d : Private) (r : ℕ) (f
     → ChangesBy layout s c (core_of s.seat r) flag set true t d → record_in t ≡ after (chunk_of s.seat.setup) move (record_in s)
 flag_moved_by LineFlags s t c d r flag set move lines valid hands empty moves (done, writes) =
     let store = store_of (flag_word (core_of s.seat r) flag) (if set then 1 else 0) in
-    record_did_one s store t (subst (λ (o : Option Out). Did s (stores_of o ++ store ∷ []) t) empty writes.did) ∙ moves.1.becomes
-flag_moved_by BitFlags s t c d r flag set move bits valid hands empty moves (Missed missed did e) = absurd (cc)
-flag_moved_by BitFlags s t c d r flag set move bits valid hands empty moves (Changed made words turned did m fills e) =
+    record_did_one s store t (subst (λ (o : Option Out). Did s (stores_of o ++ store ∷ []) t) empty writes.did) ∙ moves.becomes
+flag_moved_by BitFlags s t c d r flag set move bits valid hands empty moves (RegisterTaken missed did e, turns) = absurd (cc)
+flag_moved_by BitFlags s t c d r flag set move bits valid hands empty moves (BitChanged made words loaded did m fills e, turns) =
     let core = core_of s.seat r in
     let place = flag_word core flag in
     let new = with_bit flag.bit set (slice_index words flag.word) in
@@ -110,7 +106,7 @@ flag_moved_by BitFlags s t c d r flag set move bits valid hands empty moves (Cha
     record_did s _ t did
     ∙ record_on-append s.seat (record_in s) (take_of core true ∷ loads_of (line_of_word place) words) (store_of place new ∷ free_of core ∷ [])
     ∙ ap (λ (x : Record). record_on s.seat x (store_of place new ∷ free_of core ∷ [])) (bit_noted s.seat (record_in s) r flag words valid bits moves.below moves.on_line (hands core))
-    ∙ move_made s.seat (record_in s) core flags moves.forget move (store_of place new) valid (hands core) (moves.apart flags) (moves.stored words turned).becomes
+    ∙ move_made s.seat (record_in s) core flags moves.forget move (store_of place new) valid (hands core) (moves.apart flags) (moves.stored words (turns words loaded)).becomes
 
 -- the record after the change
 pub flag_moved : (s t : Sight) (c d : Private) (r : ℕ) (flag : FlagPlace) (set : Bool) (move : Move) → IsSetup s.seat.setup → HoldsNone s.seat.setup.layout (record_in s) → c.out ≡ None
@@ -141,7 +137,7 @@ pub signal_lowers : (layout : Layout) (s : Sight) (signal : Signal) (by : ℕ) �
     → ((words : List ℕ) → IsSound s.seat.setup s.seat.rank (noted_under s.seat (record_in s) s.seat.rank words) → bit_at (slice_index words (signal_word signal)) by ≡ 1)
     → permits (chunk_of s.seat.setup) (LowerSignal signal by) (record_in s) ≡ true
     → MovesFlag layout s.seat (record_in s) s.seat.rank (signal_at layout signal by) false (LowerSignal signal by)
-signal_lowers LineFlags s signal by lines valid peers set may = (omega arith, signal_lowered s.seat (record_in s) valid lines signal by peers may)
+signal_lowers LineFlags s signal by lines valid peers set may = signal_lowered s.seat (record_in s) valid lines signal by peers may
 signal_lowers BitFlags s signal by bits valid peers set may =
     let p = peers_are s.seat.setup s.seat.rank by peers in
     let core = own_core s.seat in
@@ -163,7 +159,7 @@ pub signal_raises : (layout : Layout) (s : Sight) (signal : Signal) (at : ℕ) �
     → ((words : List ℕ) → IsSound s.seat.setup s.seat.rank (noted_under s.seat (record_in s) at words) → bit_at (slice_index words (signal_word signal)) s.seat.rank ≡ 0)
     → permits (chunk_of s.seat.setup) (RaiseSignal signal at) (record_in s) ≡ true
     → MovesFlag layout s.seat (record_in s) at (signal_at layout signal s.seat.rank) true (RaiseSignal signal at)
-signal_raises LineFlags s signal at lines valid peers clear may = (omega arith, signal_raised s.seat (record_in s) valid lines signal at peers may)
+signal_raises LineFlags s signal at lines valid peers clear may = signal_raised s.seat (record_in s) valid lines signal at peers may
 signal_raises BitFlags s signal at bits valid peers clear may =
     let p = peers_are s.seat.setup s.seat.rank at peers in
     let core = core_of s.seat at in

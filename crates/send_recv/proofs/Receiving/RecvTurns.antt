@@ -24,7 +24,8 @@ use Rattle.send_recv.specs.declared.stages.RecvStage.{RecvStage}
 use Rattle.send_recv.specs.declared.stages.RecvStage.TheVariants.{Look, Lower, Raise, Finished}
 use Rattle.send_recv.specs.declared.answers.RecvTurn.TheVariants.{Moved, Waiting, Done}
 use Rattle.send_recv.specs.Chunks.{chunk_count, chunk_start, chunk_len, lines_from, is_last_chunk}
-use Rattle.send_recv.specs.Flags.{Changes, ChangesBy, Missed, Changed}
+use Rattle.sync_flags.specs.Writes.{RegisterTaken, BitChanged}
+use Rattle.send_recv.specs.Flags.{Changes, ChangesBy}
 use Rattle.send_recv.specs.Ops.{RecvAt, is_received}
 use Rattle.send_recv.specs.Receiving.{IsReceiving, RecvStands, RecvDoes, lines_now, spot_by, recv_spot, recv_left, recv_left_by, lines_left, lines_left_by, flag_lines, is_look, filled_to, filled_by}
 use Rattle.send_recv.specs.Steps.{own_core, core_of, signal_flag, after_lower, after_raise, recv_or_waits, raise_answer}
@@ -48,11 +49,11 @@ pub record Missing (s : Sight) (c : Private) (t : Sight) (d : Private) : Type 0 
 
 pub missed_by : (layout : Layout) (s t : Sight) (c d : Private) (core : ℕ) (flag : FlagPlace) (set : Bool) → IsSetup s.seat.setup → HoldsNoneBy layout (record_in s).held → ChangesBy layout s c core flag set false t d → Missing s c t d
 missed_by LineFlags s t c d core flag set valid hands (is, writes) = absurd (cc)
-missed_by BitFlags s t c d core flag set valid hands (Missed missed did e) = record {
+missed_by BitFlags s t c d core flag set valid hands (RegisterTaken missed did e, turns) = record {
   same = record_did_one s (take_of core false) t did ∙ (register_missed s.seat (record_in s) valid core (hands core)).becomes;
   core = e;
 }
-missed_by BitFlags s t c d core flag set valid hands (Changed made words turns did m fills e) = absurd (cc)
+missed_by BitFlags s t c d core flag set valid hands (BitChanged made words loaded did m fills e, turns) = absurd (cc)
 
 pub waits_tried : (layout : Layout) (spot : Option Spot) (core : ℕ) (events : List Event) → (layout ≡ BitFlags → spot ≡ Some (Register core)) → (layout ≡ BitFlags → tries_at (AtRegister core) events ≡ 1)
     → (layout ≡ BitFlags → all_vain (AtRegister core) false events ≡ true) → (layout ≡ LineFlags → false ≡ true) → Tried (aim_at layout spot) events (Some (Register core))

@@ -106,7 +106,6 @@ may_by LineFlags s c op slot bytes layout valid small r hands none before =
     let may = permitted_by s.seat (record_in s) c l.new op slot bytes small r none l.drafted in
     let raised = signal_raised s.seat (record (record_in s) { stage = l.new }) valid layout Sent op.to r.peers may in
     record {
-      word_below = omega arith;
       other = subst (λ (o : Option Out). handed_out o (line_of_word (flag_word (core_of s.seat op.to) (signal_at LineFlags Sent s.seat.rank))) ≡ o) (sym out)
           (flag_other s.seat op bytes (core_of s.seat op.to) lines layout (omega (arith, within, one)));
       permitted = subst (λ (o : Option Out). MayMakeAll s.seat (record_in s) (stores_of o ++ store ∷ [])) (sym out)

@@ -9,13 +9,13 @@ use Rattle.sync_flags.proofs.WaitLemmas.{no_stall}
 use Rattle.sync_flags.proofs.WriteLemmas.{word_no_stall, bit_stalls, no_bit, each_bit}
 use Rattle.sync_flags.proofs.writes.flag_write.Goals as goal
 
-pub returns-after-set-clause-stalls : goal.returns-after-set-clause-stalls
-returns-after-set-clause-stalls g c = λ events did.
+pub returns-in-None-clause-stalls : goal.returns-in-None-clause-stalls
+returns-in-None-clause-stalls g c = λ events did.
     no_stall tt (AtRegister (flag_of (g.P.Port.sight c.args.port.now).seat.setup c.args.at c.args.f).core) c.args.polls events c.requires.some
     (word_no_stall c.store_word.ensures.stores (flag_of (g.P.Port.sight c.args.port.now).seat.setup c.args.at c.args.f).core events did)
 
-pub returns-after-set-clause-freed : goal.returns-after-set-clause-freed
-returns-after-set-clause-freed g c = no_bit _ c.args.f.bit (sym c.bit_of.ensures.gives ∙ c.in-None.is)
+pub returns-in-None-clause-freed : goal.returns-in-None-clause-freed
+returns-in-None-clause-freed g c = no_bit _ c.args.f.bit (sym c.bit_of.ensures.gives ∙ c.in-None.is)
 
 pub returns-in-Some-clause-freed : goal.returns-in-Some-clause-freed
 returns-in-Some-clause-freed g c = each_bit _ c.args.f.bit
