@@ -2,27 +2,14 @@
 
 ghost use Rattle.std.specs.Prelude.{◌≡◌, ◌<◌, false, None, IfSome, is_none};
 ghost use Rattle.put_get.specs.Cores.{MadeSteps};
-ghost use Rattle.send_recv.specs.Flags.{bit_of};
 ghost use Rattle.send_recv.specs.Sights.{IsSeatPeer, LooksFor, Lowers, Raises, MayLower, MayRaise, signal_spot, own_register, register_spot};
 
 use crate::places::{core_of, layout_of, own_core};
 use line_cache::Evict;
 use put_get::Core;
-use scc_base::{FlagAt, Layout, Rank, Signal, Spot};
+use scc_base::{Rank, Signal, Spot};
 use scc_proto::Port;
 use sync_flags::{change_flag, look_flag};
-
-// The bit of its word that a flag is: with line flags it is the whole word.
-#[inline(always)]
-fn bit_of(layout: Layout, flag: FlagAt) -> Option<u8>
-    ensures gives { result ≡ bit_of layout flag.bit }
-    ensures below { IfSome result (λ b. b < 64) }
-{
-    match layout {
-        Layout::LineFlags => None,
-        Layout::BitFlags => Some(flag.bit()),
-    }
-}
 
 /// Looks at the own flag of a signal that this rank raises, in one turn: None where it is set, and else the spot at
 /// which the turn waits.
@@ -39,14 +26,13 @@ pub(crate) fn look_for<V: Evict, P: Port>(
     ensures steps { MadeSteps P.stepped (P.sight port.old) (P.sight port.new) }
 {
     let own = own_core(port);
-    let layout = layout_of(port);
-    let flag = layout.signal(signal, by);
-    if look_flag(core, port, flag.place(own), bit_of(layout, flag)) {
+    let flag = layout_of(port).signal(signal, by);
+    if look_flag(core, port, flag.place(own), flag.bit()) {
         None
     } else {
         Some(Spot::Flag {
             place: flag.place(own),
-            bit: flag.bit(),
+            bit: flag.bit().unwrap_or(0),
         })
     }
 }
@@ -66,9 +52,8 @@ pub(crate) fn lower<V: Evict, P: Port>(
     ensures steps { is_none result ≡ false → MadeSteps P.stepped (P.sight port.old) (P.sight port.new) }
 {
     let own = own_core(port);
-    let layout = layout_of(port);
-    let flag = layout.signal(signal, by);
-    if change_flag(core, port, flag.place(own), bit_of(layout, flag), false) {
+    let flag = layout_of(port).signal(signal, by);
+    if change_flag(core, port, flag.place(own), flag.bit(), false) {
         None
     } else {
         Some(Spot::Register { core: own })
@@ -91,9 +76,8 @@ pub(crate) fn raise<V: Evict, P: Port>(
     ensures steps { is_none result ≡ false → MadeSteps P.stepped (P.sight port.old) (P.sight port.new) }
 {
     let other = core_of(port, at);
-    let layout = layout_of(port);
-    let flag = layout.signal(signal, port.rank());
-    if change_flag(core, port, flag.place(other), bit_of(layout, flag), true) {
+    let flag = layout_of(port).signal(signal, port.rank());
+    if change_flag(core, port, flag.place(other), flag.bit(), true) {
         None
     } else {
         Some(Spot::Register { core: other })

@@ -2,7 +2,7 @@
 -- flag is a word of 64 bits or a bit of one is this project's profile).
 use Rattle.std.specs.Prelude.{ℕ, ◌+◌, ◌-◌, ◌^◌, Bool, ◌==◌, if◌then◌else◌, Option, Some, None, unwrap_or}
 use Rattle.std.specs.Int.{bit_at}
-use Rattle.scc_base.specs.Places.{WordAt}
+use Rattle.scc_base.specs.Places.{WordAt, flag_in}
 use Rattle.scc_base.specs.Setups.{SetupView, host_of}
 use Rattle.scc_base.specs.declared.events.Spot.{Spot}
 use Rattle.scc_base.specs.declared.events.Spot.TheVariants.{Flag}
@@ -23,8 +23,7 @@ flag_of s r f = flag_at (host_of s.hosts r) f
 
 -- a flag that is a whole word is set where the word is 1, a bit where it is 1
 abbrev pub is_set_in : Option ℕ → ℕ → Bool
-is_set_in None word = word == 1
-is_set_in (Some b) word = bit_at word b == 1
+is_set_in bit word = flag_in bit word == 1
 
 -- 1 for a flag that is set, 0 for one that is not
 abbrev pub flag_value : Bool → ℕ

@@ -21,7 +21,7 @@ use Rattle.scc_proto.proofs.Layouts.PlaceMoves.{idle_loaded, signal_loaded, sign
 use Rattle.put_get.specs.Accesses.{loads_of}
 use Rattle.put_get.specs.Cores.{Private}
 use Rattle.sync_flags.specs.Flags.{is_set_in}
-use Rattle.send_recv.specs.Flags.{bit_of, Looks}
+use Rattle.send_recv.specs.Flags.{Looks}
 use Rattle.send_recv.specs.Turns.{HoldsNoneBy, HoldsNone}
 use Rattle.send_recv.specs.Steps.{own_core, line_at}
 
@@ -129,7 +129,7 @@ at_itself Ready j value = ap (λ b. b && (value == 1)) (eqb_same j)
 
 looks_by : (layout : Layout) (signal : Signal) (s t : Sight) (j : ℕ) (words : List ℕ) → s.seat.setup.layout ≡ layout → IsSetup s.seat.setup → are_peers s.seat.setup s.seat.rank j ≡ true
     → HoldsNoneBy layout (record_in s).held → Did s (loads_of (line_of_word (flag_word (own_core s.seat) (signal_at layout signal j))) words) t
-    → LooksAt s t signal j (is_set_in (bit_of layout (signal_at layout signal j).bit) (slice_index words (signal_at layout signal j).word))
+    → LooksAt s t signal j (is_set_in (signal_at layout signal j).bit (slice_index words (signal_at layout signal j).word))
 looks_by LineFlags signal s t j words lines valid peers hands did = record {
   looked = record {
     seen = seen_alone signal (look_at j (slice_index words 0));
