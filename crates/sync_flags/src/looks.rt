@@ -8,10 +8,10 @@ ghost use Rattle.sync_flags.specs.Flags.{flag_of};
 ghost use Rattle.sync_flags.specs.Tries.{AtFlag, TriedInVain};
 ghost use Rattle.sync_flags.specs.Looks.{LooksAt, ReadsFlag, WaitsFor};
 
-use crate::flags::{Flag, is_set_in};
+use crate::flags::{is_set_in, spot_of_flag};
 use line_cache::Evict;
 use put_get::Core;
-use scc_base::{Place, Rank, Stalled};
+use scc_base::{FlagAt, Place, Rank, Stalled};
 use scc_proto::Port;
 
 /// Looks at a word. The cached lines are dropped first, so the answer is a load's of this call.
@@ -44,7 +44,7 @@ pub fn look_flag<V: Evict, P: Port>(
 }
 
 /// Whether a flag at a rank is set, by one look.
-pub fn flag_read<V: Evict, P: Port>(core: &mut Core<V>, port: &mut P, at: Rank, f: Flag) -> bool
+pub fn flag_read<V: Evict, P: Port>(core: &mut Core<V>, port: &mut P, at: Rank, f: FlagAt) -> bool
     requires below { at < (P.sight port.old).seat.setup.nue }
     requires empty { core.old.out ≡ None }
     ensures reads { ReadsFlag (P.sight port.old) core.old (flag_of (P.sight port.old).seat.setup at f) f.bit result
@@ -53,14 +53,14 @@ pub fn flag_read<V: Evict, P: Port>(core: &mut Core<V>, port: &mut P, at: Rank, 
     ensures steps { MadeSteps P.stepped (P.sight port.old) (P.sight port.new) }
 {
     let place = f.place(port.setup().core_of(at));
-    look_flag(core, port, place, f.bit_of())
+    look_flag(core, port, place, f.bit())
 }
 
 /// Looks at a flag of the own rank until it is as wanted, at most `polls` times.
 pub fn wait_until<V: Evict, P: Port>(
     core: &mut Core<V>,
     port: &mut P,
-    f: Flag,
+    f: FlagAt,
     want: bool,
     polls: u32,
 ) -> Result<(), Stalled>
@@ -81,7 +81,7 @@ pub fn wait_until<V: Evict, P: Port>(
         }
     }
     Err(Stalled {
-        spot: f.spot(place),
+        spot: spot_of_flag(place, f.bit()),
         polls,
     })
 }

@@ -10,11 +10,10 @@ ghost use Rattle.sync_flags.specs.Flags.{flag_of, flag_value, with_bit};
 ghost use Rattle.sync_flags.specs.Tries.{AtRegister, TriedInVain};
 ghost use Rattle.sync_flags.specs.Writes.{MayStoreBit, MayWrite, MayChangeFlag, StoresWord, TakesWithin, ChangesBit, TriesChange, WritesFlag, ChangesFlag};
 
-use crate::flags::Flag;
 use crate::looks::look_word;
 use line_cache::Evict;
 use put_get::Core;
-use scc_base::{CoreId, Place, Rank, Spot, Stalled};
+use scc_base::{CoreId, FlagAt, Place, Rank, Spot, Stalled};
 use scc_proto::Port;
 use tas_lock::{Held, release, try_acquire};
 
@@ -147,7 +146,7 @@ pub fn flag_write<V: Evict, P: Port>(
     core: &mut Core<V>,
     port: &mut P,
     at: Rank,
-    f: Flag,
+    f: FlagAt,
     set: bool,
     polls: u32,
 ) -> Result<(), Stalled>
@@ -165,7 +164,7 @@ pub fn flag_write<V: Evict, P: Port>(
     ensures empty { core.new.out ≡ None }
 {
     let place = f.place(port.setup().core_of(at));
-    match f.bit_of() {
+    match f.bit() {
         None => {
             store_word(core, port, place, flag_value(set));
             Ok(())
