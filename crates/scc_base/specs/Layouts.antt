@@ -1,5 +1,5 @@
 -- The tables of the two layouts of the message passing buffer (this project's profile).
-use Rattle.std.specs.Prelude.{ℕ, ◌+◌, ◌-◌, ◌*◌, ◌/◌, ◌%◌}
+use Rattle.std.specs.Prelude.{ℕ, ◌+◌, ◌-◌, ◌*◌, ◌/◌, ◌%◌, Some, None}
 use Rattle.scc_base.specs.Places.{FlagPlace, first_heap}
 use Rattle.scc_base.specs.declared.layouts.Layout.{Layout}
 use Rattle.scc_base.specs.declared.layouts.Layout.TheVariants.{LineFlags, BitFlags}
@@ -8,15 +8,15 @@ use Rattle.scc_base.specs.declared.signals.Signal.TheVariants.{Sent, Ready}
 
 -- the flag that fills a line
 abbrev pub line_flag : ℕ → FlagPlace
-line_flag line = record { line = line; word = 0; bit = 0 }
+line_flag line = record { line = line; word = 0; bit = None }
 
 -- a flag that is a bit of a word of line 1
 abbrev pub bit_flag : ℕ → ℕ → FlagPlace
-bit_flag word bit = record { line = 1; word = word; bit = bit }
+bit_flag word bit = record { line = 1; word = word; bit = Some bit }
 
 -- a barrier's flag: communicators 0 to 7 have word 0 of eight lines, communicators 8 to 15 word 1 of the same
 abbrev pub barrier_flag : ℕ → ℕ → FlagPlace
-barrier_flag first comm = record { line = first + comm % 8; word = comm / 8; bit = 0 }
+barrier_flag first comm = record { line = first + comm % 8; word = comm / 8; bit = None }
 
 -- the line of the first of a signal's flags, where each fills a line
 abbrev pub first_signal : Signal → ℕ

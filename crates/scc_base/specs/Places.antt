@@ -1,6 +1,7 @@
 -- Words, lines and runs of lines of the message passing buffer, as numbers (SCC External Architecture
 -- Specification: 48 cores, 256 lines of 32 bytes a core; the four words of a line are this project's profile).
-use Rattle.std.specs.Prelude.{Bool, ◌==◌, ◌&&◌, ℕ, ◌+◌, ◌<◌, ◌≤◌}
+use Rattle.std.specs.Prelude.{Bool, ◌==◌, ◌&&◌, ℕ, ◌+◌, ◌<◌, ◌≤◌, Option, Some, None, IfSome}
+use Rattle.std.specs.Int.{bit_at}
 
 -- a word of a message passing buffer: the core, the line and the word in it
 pub record WordAt : Type 0 where
@@ -18,11 +19,11 @@ pub record LineRun : Type 0 where
   pub first : ℕ
   pub lines : ℕ
 
--- a flag at any core: a bit of a word of a line
+-- a flag at any core: a whole word of a line, or this bit of it
 pub record FlagPlace : Type 0 where
   pub line : ℕ
   pub word : ℕ
-  pub bit : ℕ
+  pub bit : Option ℕ
 
 -- a word that the chip has
 pub record IsPlace (place : WordAt) : Type 0 where
@@ -45,11 +46,11 @@ pub record IsBuf (run : LineRun) : Type 0 where
   pub from_heap : first_heap ≤ run.first
   pub to_heap : run.first + run.lines ≤ 256
 
--- a flag that a line has, below the bits of 48 ranks
+-- a flag that a line has
 pub record IsFlagPlace (flag : FlagPlace) : Type 0 where
   pub line_below : flag.line < 256
   pub word_below : flag.word < 4
-  pub bit_below : flag.bit < 48
+  pub bit_below : IfSome flag.bit (λ b. b < 64)
 
 -- a word of a line
 abbrev pub word_of_line : LineAt → ℕ → WordAt
@@ -62,6 +63,11 @@ line_of_word place = record { core = place.core; line = place.line }
 -- the word of a core's buffer that holds a flag
 abbrev pub flag_word : ℕ → FlagPlace → WordAt
 flag_word core flag = record { core = core; line = flag.line; word = flag.word }
+
+-- the value of a flag in its word: the word, or the flag's bit of it
+abbrev pub flag_in : Option ℕ → ℕ → ℕ
+flag_in None word = word
+flag_in (Some b) word = bit_at word b
 
 -- the place that stands for a core's test-and-set register
 abbrev pub register_place : ℕ → WordAt

@@ -7,7 +7,7 @@ use crate::signals::Signal;
 /// How the 256 lines of a core's message passing buffer are used. This is this project's profile; the
 /// library of RCCE has the same two kinds of flags.
 ///
-/// With line flags each flag is word 0, bit 0, of a line of its own: `sent` flags in lines 1 to 48 by the
+/// With line flags each flag is word 0 of a line of its own: `sent` flags in lines 1 to 48 by the
 /// sender's rank, `ready` flags in lines 49 to 96 by the receiver's rank, gather flags from line 97 and
 /// release flags from line 105 by communicator, and a chunk buffer of 112 lines from line 113.
 ///
@@ -82,8 +82,8 @@ impl Layout {
         ensures gives { result ≡ signal_at self signal by }
     {
         match self {
-            Layout::LineFlags => FlagAt::new(signal.first_line() + by.number(), 0, 0),
-            Layout::BitFlags => FlagAt::new(1, signal.word(), by.number()),
+            Layout::LineFlags => FlagAt::new(signal.first_line() + by.number(), 0, None),
+            Layout::BitFlags => FlagAt::new(1, signal.word(), Some(by.number())),
         }
     }
 
@@ -93,8 +93,8 @@ impl Layout {
         ensures gives { result ≡ gather_at self comm }
     {
         match self {
-            Layout::LineFlags => FlagAt::new(97 + comm % 8, comm / 8, 0),
-            Layout::BitFlags => FlagAt::new(2 + comm % 8, comm / 8, 0),
+            Layout::LineFlags => FlagAt::new(97 + comm % 8, comm / 8, None),
+            Layout::BitFlags => FlagAt::new(2 + comm % 8, comm / 8, None),
         }
     }
 
@@ -104,8 +104,8 @@ impl Layout {
         ensures gives { result ≡ release_at self comm }
     {
         match self {
-            Layout::LineFlags => FlagAt::new(105 + comm % 8, comm / 8, 0),
-            Layout::BitFlags => FlagAt::new(10 + comm % 8, comm / 8, 0),
+            Layout::LineFlags => FlagAt::new(105 + comm % 8, comm / 8, None),
+            Layout::BitFlags => FlagAt::new(10 + comm % 8, comm / 8, None),
         }
     }
 }

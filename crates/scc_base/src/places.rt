@@ -147,34 +147,34 @@ impl Place {
     }
 }
 
-/// Where a flag lies at whichever core holds it.
+/// Where a flag lies at whichever core holds it: a word of a line, or one bit of such a word.
 #[derive(Clone, Copy, PartialEq, Eq)]
 pub struct FlagAt {
     line: u8,
     word: u8,
-    bit: u8,
+    bit: Option<u8>,
 }
 
 impl Model for FlagAt {
-    ghost use Rattle.std.specs.Prelude.{◌<◌};
+    ghost use Rattle.std.specs.Prelude.{◌<◌, IfSome};
     ghost use Rattle.scc_base.specs.Places.{FlagPlace};
 
     ghost Value = { FlagPlace };
 
     ghost view = { λ a. record { line = a.line; word = a.word; bit = a.bit } };
 
-    ghost invariant = { λ a. (a.word < 4) × (a.bit < 48) };
+    ghost invariant = { λ a. (a.word < 4) × IfSome a.bit (λ b. b < 64) };
 
     ghost inverse = { λ v. record { line = v.line; word = v.word; bit = v.bit } };
 }
 
 impl FlagAt {
-    ghost use Rattle.std.specs.Prelude.{◌≡◌, ◌<◌};
+    ghost use Rattle.std.specs.Prelude.{◌≡◌, ◌<◌, IfSome};
     ghost use Rattle.scc_base.specs.Places.{IsFlagPlace, flag_word};
 
-    pub fn new(line: u8, word: u8, bit: u8) -> FlagAt
+    pub fn new(line: u8, word: u8, bit: Option<u8>) -> FlagAt
         requires word_below { word < 4 }
-        requires bit_below { bit < 48 }
+        requires bit_below { IfSome bit (λ b. b < 64) }
         ensures gives { result ≡ record { line = line; word = word; bit = bit } }
     {
         FlagAt { line, word, bit }
@@ -194,16 +194,20 @@ impl FlagAt {
         self.word
     }
 
-    pub fn bit(self) -> u8
+    /// The bit of its word that the flag is, where it is one.
+    pub fn bit(self) -> Option<u8>
         ensures gives { result ≡ self.bit }
+        ensures below { IfSome result (λ b. b < 64) }
         ensures valid { IsFlagPlace self }
     {
         self.bit
     }
 
     /// The word that holds this flag at a core.
+    #[inline]
     pub fn place(self, core: CoreId) -> Place
         ensures gives { result ≡ flag_word core self }
+        ensures below { self.word < 4 }
     {
         Place::new(core, self.line, self.word)
     }

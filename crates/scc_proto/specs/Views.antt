@@ -1,12 +1,9 @@
 -- The words of the handshake and of the barriers, read by what they are for.
 use Rattle.std.specs.Prelude.{ℕ, ◌+◌, ◌*◌, ◌/◌, ◌%◌, nat_lt, if◌then◌else◌, ◌<◌, true, ◌≡◌}
-use Rattle.std.specs.Int.{bit_at}
-use Rattle.scc_base.specs.Places.{FlagPlace}
+use Rattle.scc_base.specs.Places.{FlagPlace, flag_in}
 use Rattle.scc_base.specs.Layouts.{signal_at, gather_at, release_at, first_chunk, chunk_lines}
 use Rattle.scc_base.specs.declared.signals.Signal.{Signal}
 use Rattle.scc_base.specs.Setups.{SetupView, host_of}
-use Rattle.scc_base.specs.declared.layouts.Layout.{Layout}
-use Rattle.scc_base.specs.declared.layouts.Layout.TheVariants.{LineFlags, BitFlags}
 use Rattle.scc_proto.specs.Tables.{put_two, put_signal}
 use Rattle.scc_proto.specs.Moves.{Move, DraftHeader, DraftChunk, RaiseSignal, LowerSignal, FlipGather, WriteRelease}
 use Rattle.scc_proto.specs.Words.{Memory, are_peers, is_present}
@@ -22,11 +19,6 @@ pub record View : Type 0 where
   pub gather : ℕ → ℕ → ℕ
   pub release : ℕ → ℕ → ℕ
 
--- a `sent` or `ready` flag is a word, or with bit flags a bit of it
-abbrev pub flag_in : Layout → ℕ → FlagPlace → ℕ
-flag_in LineFlags word flag = word
-flag_in BitFlags word flag = bit_at word flag.bit
-
 -- the word in which a flag at a core stands
 abbrev pub word_of_flag : Memory → ℕ → FlagPlace → ℕ
 word_of_flag memory core flag = memory.word core flag.line flag.word
@@ -35,7 +27,7 @@ word_of_flag memory core flag = memory.word core flag.line flag.word
 abbrev pub view_of : SetupView → Memory → View
 view_of s memory = record {
   signal = λ signal by at.
-      flag_in s.layout (word_of_flag memory (host_of s.hosts at) (signal_at s.layout signal by)) (signal_at s.layout signal by);
+      flag_in (signal_at s.layout signal by).bit (word_of_flag memory (host_of s.hosts at) (signal_at s.layout signal by));
   header = λ r k. memory.word (host_of s.hosts r) 0 k;
   chunk = λ r k. if nat_lt k (4 * chunk_lines s.layout) then memory.word (host_of s.hosts r) (first_chunk s.layout + k / 4) (k % 4) else 0;
   gather = λ comm r. word_of_flag memory (host_of s.hosts r) (gather_at s.layout comm);

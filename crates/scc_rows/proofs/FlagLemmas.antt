@@ -1,5 +1,6 @@
 -- Writes of heap flags leave a port at rest.
 use Rattle.std.proofs.Common.{◌≡◌, ℕ, zero, suc, ◌<◌, ◌≤◌, Bool, true, false, if◌then◌else◌, List, ◌++◌, Option, None, Some, Result, Ok, Err, IfSome, is_some, is_none, refl, sym, ◌∙◌, ap, subst}
+use Rattle.scc_base.specs.Places.{FlagPlace}
 use Rattle.scc_base.specs.Setups.{IsSetup, host_of}
 use Rattle.scc_base.specs.Events.{store_of, take_of, free_of}
 use Rattle.scc_base.specs.declared.events.Stalled.{Stalled}
@@ -11,7 +12,7 @@ use Rattle.scc_proto.proofs.PortLaws.{record_on-append}
 use Rattle.scc_proto.proofs.Layouts.PlaceMoves.{heap_stored}
 use Rattle.put_get.specs.Cores.{Private}
 use Rattle.tas_lock.specs.Holds.{IsNotHolding}
-use Rattle.sync_flags.specs.Flags.{FlagView, flag_of, flag_value}
+use Rattle.sync_flags.specs.Flags.{flag_of, flag_value}
 use Rattle.sync_flags.specs.Writes.{MayWrite, WritesFlag, vain_takes, change_events}
 use Rattle.sync_flags.proofs.HeapStores.{heap_store_may, heap_bit_may}
 use Rattle.sync_flags.proofs.WriteLemmas.{written_seat}
@@ -37,7 +38,7 @@ vain_keep : (seat : Seat) (rec : Record) (core n : ℕ) → rec.stage ≡ Idle �
 vain_keep seat rec core zero idle = idle
 vain_keep seat rec core (suc n) idle = vain_keep seat (record_next seat rec (take_of core false)) core n (take_keeps seat rec core idle false)
 
-module _ (seat : Seat) (valid : IsSetup seat.setup) (r : ℕ) (lt : r < seat.setup.nue) (f : FlagView) (high : 225 ≤ f.line) where
+module _ (seat : Seat) (valid : IsSetup seat.setup) (r : ℕ) (lt : r < seat.setup.nue) (f : FlagPlace) (high : 225 ≤ f.line) where
   store_keeps : (rec : Record) (value : ℕ) → rec.stage ≡ Idle → (record_next seat rec (store_of (flag_of seat.setup r f) value)).stage ≡ Idle
   store_keeps rec value idle = ap (λ (x : Record). x.stage) (heap_stored seat rec valid r f.line f.word value lt high (ap leaves_heap idle)).becomes ∙ idle
 
@@ -52,7 +53,7 @@ module _ (seat : Seat) (valid : IsSetup seat.setup) (r : ℕ) (lt : r < seat.set
       ap (λ (x : Record). x.stage) (record_on-append seat rec (vain_takes (host_of seat.setup.hosts r) n) (change_events (flag_of seat.setup r f) b set words))
       ∙ change_keeps (record_on seat rec (vain_takes (host_of seat.setup.hosts r) n)) b set words (vain_keep seat rec (host_of seat.setup.hosts r) n idle)
 
-pub flag_rests : (s t : Sight) (c d : Private) (r : ℕ) (f : FlagView) (set : Bool) (polls : ℕ) (result : Result Unit Stalled) → WritesFlag s c (flag_of s.seat.setup r f) f.bit set polls t d result
+pub flag_rests : (s t : Sight) (c d : Private) (r : ℕ) (f : FlagPlace) (set : Bool) (polls : ℕ) (result : Result Unit Stalled) → WritesFlag s c (flag_of s.seat.setup r f) f.bit set polls t d result
     → IsPortAtRest s → r < 2 → 225 ≤ f.line → IsPortAtRest t
 flag_rests s t c d r f set polls result writes rest lt high = by f.bit result writes
   where
@@ -65,7 +66,7 @@ flag_rests s t c d r f set polls result writes rest lt high = by f.bit result wr
     by (Some b) (Ok done) w = did_keeps s _ t w.did rest (tries_keep s.seat rest.valid r below f high (record_in s) w.vain b set w.words rest.idle)
     by (Some b) (Err stalled) w = did_keeps s _ t w.0.did rest (vain_keep s.seat (record_in s) (host_of s.seat.setup.hosts r) polls rest.idle)
 
-pub may_write_flag : (s : Sight) (r : ℕ) (f : FlagView) (set : Bool) → IsPortAtRest s → r < 2 → 225 ≤ f.line → MayTake s r f → MayWrite s.seat (record_in s) (flag_of s.seat.setup r f) f.bit set
+pub may_write_flag : (s : Sight) (r : ℕ) (f : FlagPlace) (set : Bool) → IsPortAtRest s → r < 2 → 225 ≤ f.line → MayTake s r f → MayWrite s.seat (record_in s) (flag_of s.seat.setup r f) f.bit set
 may_write_flag s r f set rest lt high free = by f.bit free
   where
     below : r < s.seat.setup.nue
@@ -76,7 +77,7 @@ may_write_flag s r f set rest lt high free = by f.bit free
     by (Some b) none = heap_bit_may s.seat (record_in s) r f b set rest.valid below high (ap leaves_heap rest.idle) none
 
 -- after a write of the flag the rank holds its register no more
-pub still_free : (s t : Sight) (c d : Private) (r : ℕ) (f : FlagView) (set : Bool) (polls : ℕ) (result : Result Unit Stalled) → WritesFlag s c (flag_of s.seat.setup r f) f.bit set polls t d result
+pub still_free : (s t : Sight) (c d : Private) (r : ℕ) (f : FlagPlace) (set : Bool) (polls : ℕ) (result : Result Unit Stalled) → WritesFlag s c (flag_of s.seat.setup r f) f.bit set polls t d result
     → IfSome f.bit (λ b. IsNotHolding (record_in t) (host_of s.seat.setup.hosts r)) → MayTake t r f
 still_free s t c d r f set polls result writes freed =
     let seat = written_seat s t c d (flag_of s.seat.setup r f) f.bit set polls result writes in

@@ -1,10 +1,10 @@
 -- A rank that may write a flag of the heap.
 use Rattle.std.specs.Prelude.{ℕ, IfSome}
+use Rattle.scc_base.specs.Places.{FlagPlace}
 use Rattle.scc_base.specs.Setups.{host_of}
 use Rattle.scc_proto.specs.Ports.{Sight, record_in}
 use Rattle.tas_lock.specs.Holds.{IsNotHolding}
-use Rattle.sync_flags.specs.Flags.{FlagView}
 
 -- where the flag is a bit, the rank does not hold the register of the rank at which it is
-abbrev pub MayTake : Sight → ℕ → FlagView → Type 0
+abbrev pub MayTake : Sight → ℕ → FlagPlace → Type 0
 MayTake s r f = IfSome f.bit (λ b. IsNotHolding (record_in s) (host_of s.seat.setup.hosts r))

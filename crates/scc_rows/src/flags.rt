@@ -7,17 +7,17 @@ ghost use Rattle.scc_rows.specs.Writers.{MayTake};
 use crate::fixtures::{Meeting, free, shows, shows_in, take};
 use line_cache::{Evict, Never};
 use put_get::Core;
-use scc_base::{Buf, CoreId, Layout, Place, Rank, Spot, Stalled};
+use scc_base::{Buf, CoreId, FlagAt, Layout, Place, Rank, Spot, Stalled};
 use scc_proto::{CountingPort, Port};
 use std::test::Fail;
-use sync_flags::{Flag, flag_read, flag_write, wait_until};
+use sync_flags::{flag_read, flag_write, heap_bit, heap_flag, wait_until};
 
 /// Writes a flag at a rank, by a rank with no message and no barrier under way.
 fn write<P: Port, V: Evict>(
     core: &mut Core<V>,
     port: &mut P,
     at: Rank,
-    flag: Flag,
+    flag: FlagAt,
     set: bool,
     polls: u32,
 ) -> Result<(), Stalled>
@@ -35,7 +35,7 @@ fn write<P: Port, V: Evict>(
 }
 
 /// Whether a flag at a rank is set.
-fn read<P: Port, V: Evict>(core: &mut Core<V>, port: &mut P, at: Rank, flag: Flag) -> bool
+fn read<P: Port, V: Evict>(core: &mut Core<V>, port: &mut P, at: Rank, flag: FlagAt) -> bool
     requires rests { IsPortAtRest (P.sight port.old) }
     requires empty { core.old.out ≡ None }
     requires below { at < 2 }
@@ -51,7 +51,7 @@ pub(crate) fn stalls(answer: Result<(), Stalled>, spot: Spot, polls: u32) -> boo
 
 // Whether rank 1 waits in vain for its flag, with this bit of word 0 in line 230, and then sees that rank 0 sets it
 // and clears it again.
-fn is_seen<P: Port, Q: Port>(first: &mut P, second: &mut Q, flag: Flag, bit: u8) -> bool
+fn is_seen<P: Port, Q: Port>(first: &mut P, second: &mut Q, flag: FlagAt, bit: u8) -> bool
     requires rests { IsPortAtRest (P.sight first.old) }
     requires free { MayTake (P.sight first.old) 1 flag }
     requires heap { 225 ≤ flag.line }
@@ -82,7 +82,7 @@ impl Meeting for WordFlag {
         let Some(buffer) = Buf::new(230, 1) else {
             return false;
         };
-        is_seen(first, second, Flag::line(&buffer), 0)
+        is_seen(first, second, heap_flag(&buffer), 0)
     }
 }
 
@@ -94,7 +94,7 @@ impl Meeting for BitFlag {
         let Some(buffer) = Buf::new(230, 1) else {
             return false;
         };
-        is_seen(first, second, Flag::bit(&buffer, 63), 63)
+        is_seen(first, second, heap_bit(&buffer, 63), 63)
     }
 }
 
@@ -112,7 +112,7 @@ impl Meeting for HeldRegister {
         let Some(buffer) = Buf::new(255, 1) else {
             return false;
         };
-        let flag = Flag::bit(&buffer, 5);
+        let flag = heap_bit(&buffer, 5);
         let (root, register) = (Rank::of(0), CoreId::of(0));
         if !take(first, register) {
             return false;

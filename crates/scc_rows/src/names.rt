@@ -70,23 +70,21 @@ fn kinds_have_their_numbers(rt: HostRuntime) {
     assert!(rt; Kind::from_number(5).is_none());
 }
 
-fn stands_at(flag: FlagAt, line: u8, word: u8, bit: u8) -> bool {
-    flag.line() == line && flag.word() == word && flag.bit() == bit
+// The line of a flag, its word in the line, and its bit of the word where it is one.
+type FlagRow = (u8, u8, Option<u8>);
+
+fn stands_at(flag: FlagAt, row: FlagRow) -> bool {
+    flag.line() == row.0 && flag.word() == row.1 && flag.bit() == row.2
 }
 
 // Whether a layout has the flags `sent` and `ready` of ranks in these lines, words and bits.
-fn has_flags_of_ranks(layout: Layout, rows: &[(u8, [u8; 3], [u8; 3])]) -> bool {
+fn has_flags_of_ranks(layout: Layout, rows: &[(u8, FlagRow, FlagRow)]) -> bool {
     for &(rank, sent, ready) in rows {
         let Some(rank) = Rank::new(rank) else {
             return false;
         };
-        if !stands_at(layout.signal(Signal::Sent, rank), sent[0], sent[1], sent[2])
-            || !stands_at(
-                layout.signal(Signal::Ready, rank),
-                ready[0],
-                ready[1],
-                ready[2],
-            )
+        if !stands_at(layout.signal(Signal::Sent, rank), sent)
+            || !stands_at(layout.signal(Signal::Ready, rank), ready)
         {
             return false;
         }
@@ -98,8 +96,8 @@ fn has_flags_of_ranks(layout: Layout, rows: &[(u8, [u8; 3], [u8; 3])]) -> bool {
 fn has_flags_of_groups(layout: Layout, rows: &[(u8, u8, u8, u8)]) -> bool {
     for &(comm, gather, release, word) in rows {
         if comm >= 16
-            || !stands_at(layout.gather(comm), gather, word, 0)
-            || !stands_at(layout.release(comm), release, word, 0)
+            || !stands_at(layout.gather(comm), (gather, word, None))
+            || !stands_at(layout.release(comm), (release, word, None))
         {
             return false;
         }
@@ -107,10 +105,10 @@ fn has_flags_of_groups(layout: Layout, rows: &[(u8, u8, u8, u8)]) -> bool {
     true
 }
 
-const LINES_OF_RANKS: &[(u8, [u8; 3], [u8; 3])] = &[
-    (0, [1, 0, 0], [49, 0, 0]),
-    (1, [2, 0, 0], [50, 0, 0]),
-    (47, [48, 0, 0], [96, 0, 0]),
+const LINES_OF_RANKS: &[(u8, FlagRow, FlagRow)] = &[
+    (0, (1, 0, None), (49, 0, None)),
+    (1, (2, 0, None), (50, 0, None)),
+    (47, (48, 0, None), (96, 0, None)),
 ];
 
 const LINES_OF_GROUPS: &[(u8, u8, u8, u8)] = &[
@@ -129,10 +127,10 @@ fn line_flags_stand_in_lines_of_their_own(rt: HostRuntime) {
     assert!(rt; has_flags_of_groups(layout, LINES_OF_GROUPS));
 }
 
-const BITS_OF_RANKS: &[(u8, [u8; 3], [u8; 3])] = &[
-    (0, [1, 0, 0], [1, 1, 0]),
-    (1, [1, 0, 1], [1, 1, 1]),
-    (47, [1, 0, 47], [1, 1, 47]),
+const BITS_OF_RANKS: &[(u8, FlagRow, FlagRow)] = &[
+    (0, (1, 0, Some(0)), (1, 1, Some(0))),
+    (1, (1, 0, Some(1)), (1, 1, Some(1))),
+    (47, (1, 0, Some(47)), (1, 1, Some(47))),
 ];
 
 const BITS_OF_GROUPS: &[(u8, u8, u8, u8)] = &[
@@ -163,7 +161,7 @@ fn places_name_words(rt: HostRuntime) {
     assert!(rt; word == Place::new(core, 97, 2) && is_place(word, 3, 97, 2));
     assert!(rt; word.line_at().is(line) && !Line::new(CoreId::of(4), 97).is(line));
     assert!(rt; line.core().number() == 3 && line.line() == 97);
-    assert!(rt; FlagAt::new(97, 1, 0).place(core) == Place::new(core, 97, 1));
+    assert!(rt; FlagAt::new(97, 1, None).place(core) == Place::new(core, 97, 1));
 }
 
 const BUFFERS: &[(u8, u8, bool)] = &[

@@ -115,7 +115,7 @@ pub(crate) fn answer_spot(layout: Layout) -> Spot {
     };
     Spot::Flag {
         place,
-        bit: layout.signal(Signal::Ready, Rank::of(1)).bit(),
+        bit: layout.signal(Signal::Ready, Rank::of(1)).bit().unwrap_or(0),
     }
 }
 

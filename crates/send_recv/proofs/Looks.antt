@@ -1,6 +1,5 @@
 -- Flags: looks at them, changes of them, and the tries at a flag's register.
-pub mod FlagLemmas
-pub mod BitLemmas
+pub mod SignalFlags
 pub mod TryLemmas
 pub mod LookLemmas
 pub mod ChangeLemmas

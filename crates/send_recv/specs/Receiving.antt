@@ -4,7 +4,7 @@ use Rattle.std.specs.Prelude.{◌≡◌, ◌≢◌, ℕ, ◌+◌, ◌-◌, ◌*�
 use Rattle.std.specs.List.{list_all}
 use Rattle.scc_base.specs.Heads.{MessageHead, IsHead}
 use Rattle.scc_base.specs.Calls.{DataCall, Recv}
-use Rattle.scc_base.specs.Places.{first_heap, LineAt, flag_word}
+use Rattle.scc_base.specs.Places.{first_heap, LineAt}
 use Rattle.scc_base.specs.Layouts.{signal_at, first_chunk}
 use Rattle.scc_base.specs.declared.signals.Signal.TheVariants.{Sent, Ready}
 use Rattle.scc_base.specs.Setups.{host_of}
@@ -12,7 +12,7 @@ use Rattle.scc_base.specs.declared.layouts.Layout.{Layout}
 use Rattle.scc_base.specs.declared.layouts.Layout.TheVariants.{LineFlags, BitFlags}
 use Rattle.scc_base.specs.declared.events.Event.{Event}
 use Rattle.scc_base.specs.declared.events.Spot.{Spot}
-use Rattle.scc_base.specs.declared.events.Spot.TheVariants.{Flag, Register}
+use Rattle.scc_base.specs.declared.events.Spot.TheVariants.{Register}
 use Rattle.scc_proto.specs.Messages.{Notes, noted, has_all, byte_at, head_of, Progress}
 use Rattle.scc_proto.specs.Resting.{is_resting}
 use Rattle.scc_proto.specs.Stages.{Stage, Idle, Between, Taking, Record}
@@ -31,7 +31,7 @@ use Rattle.send_recv.specs.Ops.{RecvAt, is_received}
 use Rattle.send_recv.specs.Ranks.{Receiver}
 use Rattle.sync_flags.specs.Tries.{Tried, tries_at, changing_after}
 use Rattle.send_recv.specs.Sights.{chunk_at, layout_at, header_line, chunk_line, LooksFor, Lowers, Raises}
-use Rattle.send_recv.specs.Steps.{cleared, before_line, goes_on}
+use Rattle.send_recv.specs.Steps.{flag_spot, cleared, before_line, goes_on}
 use Rattle.send_recv.specs.Tries.{aim_of, aim_at}
 use Rattle.send_recv.specs.Turns.{HoldsNone, IsSamePost, KeepsAllButMessages, IsAtRest, OnlyTries, is_no_draft, LastHeld, LoadsLines}
 
@@ -153,7 +153,7 @@ lines_of_turn layout size old now answer = (lines_left layout size old - lines_l
 
 -- the spot at which a stage makes its one try, where it makes one
 abbrev pub spot_by : Layout → ℕ → ℕ → ℕ → RecvStage → Option Spot
-spot_by layout own other from Look = Some (Flag (flag_word own (signal_at layout Sent from)) (signal_at layout Sent from).bit)
+spot_by layout own other from Look = Some (flag_spot own (signal_at layout Sent from))
 spot_by BitFlags own other from Lower = Some (Register own)
 spot_by BitFlags own other from Raise = Some (Register other)
 spot_by layout own other from stage = None

@@ -4,7 +4,7 @@ use Rattle.std.specs.Prelude.{◌≡◌, ◌≢◌, ℕ, zero, suc, ◌+◌, ◌
 use Rattle.std.specs.List.{list_all}
 use Rattle.scc_base.specs.Heads.{MessageHead, IsHead, IsPostHead}
 use Rattle.scc_base.specs.Calls.{DataCall, Send, Post}
-use Rattle.scc_base.specs.Places.{LineAt, flag_word}
+use Rattle.scc_base.specs.Places.{LineAt}
 use Rattle.scc_base.specs.Layouts.{signal_at, first_chunk}
 use Rattle.scc_base.specs.declared.signals.Signal.TheVariants.{Sent, Ready}
 use Rattle.scc_base.specs.Setups.{host_of}
@@ -12,7 +12,7 @@ use Rattle.scc_base.specs.declared.layouts.Layout.{Layout}
 use Rattle.scc_base.specs.declared.layouts.Layout.TheVariants.{LineFlags, BitFlags}
 use Rattle.scc_base.specs.declared.events.Event.{Event}
 use Rattle.scc_base.specs.declared.events.Spot.{Spot}
-use Rattle.scc_base.specs.declared.events.Spot.TheVariants.{Flag, Register}
+use Rattle.scc_base.specs.declared.events.Spot.TheVariants.{Register}
 use Rattle.scc_base.specs.declared.events.Turn.{Turn}
 use Rattle.scc_base.specs.declared.events.Turn.TheVariants as turn
 use Rattle.scc_proto.specs.Messages.{Notes, noted, header_word}
@@ -33,7 +33,7 @@ use Rattle.send_recv.specs.Ranks.{Sender, SlotHolder, with_slot}
 use Rattle.send_recv.specs.Receiving.{progress_at}
 use Rattle.sync_flags.specs.Tries.{Aim, Tried, vain_from, changing_after}
 use Rattle.send_recv.specs.Sights.{chunk_at, layout_at, own_header_line, own_chunk_line, words_of_line, LooksFor, Raises, Lowers}
-use Rattle.send_recv.specs.Steps.{moves_on}
+use Rattle.send_recv.specs.Steps.{flag_spot, moves_on}
 use Rattle.send_recv.specs.Tries.{aim_at}
 use Rattle.send_recv.specs.Turns.{HoldsNone, IsSamePost, KeepsAllButMessages, IsAtRest, OnlyTries, is_no_draft, LastHeld, LoadsLines, StoresFromBuffer, lines_for_try, waits_at}
 
@@ -52,7 +52,7 @@ pub record SlotStands (seat : Seat) (rec : Record) (slot : SlotAt) : Type 0 wher
 
 -- the spot at which a slot's turn makes its one try
 abbrev pub slot_spot_by : Layout → ℕ → Option ℕ → Bool → Option Spot
-slot_spot_by layout own (Some to) false = Some (Flag (flag_word own (signal_at layout Ready to)) (signal_at layout Ready to).bit)
+slot_spot_by layout own (Some to) false = Some (flag_spot own (signal_at layout Ready to))
 slot_spot_by BitFlags own (Some to) true = Some (Register own)
 slot_spot_by layout own to seen = None
 
@@ -233,7 +233,7 @@ send_left layout size op slot =
 -- the spot at which a stage makes its one try; at the start it is the slot's
 abbrev pub send_spot_by : Layout → ℕ → ℕ → ℕ → Option Spot → SendStage → Option Spot
 send_spot_by layout own other to slot Header = slot
-send_spot_by layout own other to slot Look = Some (Flag (flag_word own (signal_at layout Ready to)) (signal_at layout Ready to).bit)
+send_spot_by layout own other to slot Look = Some (flag_spot own (signal_at layout Ready to))
 send_spot_by BitFlags own other to slot Raise = Some (Register other)
 send_spot_by BitFlags own other to slot Lower = Some (Register own)
 send_spot_by layout own other to slot stage = None

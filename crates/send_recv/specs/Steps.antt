@@ -6,13 +6,13 @@ use Rattle.scc_base.specs.Layouts.{signal_at, chunk_size}
 use Rattle.scc_base.specs.declared.signals.Signal.{Signal}
 use Rattle.scc_base.specs.Setups.{host_of}
 use Rattle.scc_base.specs.declared.events.Spot.{Spot}
-use Rattle.scc_base.specs.declared.events.Spot.TheVariants.{Flag}
 use Rattle.scc_base.specs.declared.events.Turn.{Turn}
 use Rattle.scc_base.specs.declared.events.Turn.TheVariants as turn
 use Rattle.scc_base.specs.declared.layouts.Layout.{Layout}
 use Rattle.scc_base.specs.declared.layouts.Layout.TheVariants.{LineFlags, BitFlags}
 use Rattle.scc_proto.specs.Ports.{Seat}
 use Rattle.put_get.specs.Cores.{Private}
+use Rattle.sync_flags.specs.Flags.{spot_of_flag}
 use Rattle.send_recv.specs.declared.stages.RecvStage.TheVariants as receive
 use Rattle.send_recv.specs.declared.stages.SendStage.{SendStage}
 use Rattle.send_recv.specs.declared.stages.SendStage.TheVariants as sending
@@ -39,7 +39,7 @@ signal_flag seat signal by = signal_at seat.setup.layout signal by
 
 -- the spot of a flag at a core: its word, and its bit
 abbrev pub flag_spot : ℕ → FlagPlace → Spot
-flag_spot core flag = Flag (flag_word core flag) flag.bit
+flag_spot core flag = spot_of_flag (flag_word core flag) flag.bit
 
 -- a line of the buffer of a rank
 abbrev pub line_at : Seat → ℕ → ℕ → LineAt

@@ -1,6 +1,6 @@
 -- What calls over the heap do to the record of a rank: what it stored there, and nothing else.
 use Rattle.std.proofs.Common.{◌≡◌, ℕ, zero, suc, ◌+◌, ◌<◌, ◌≤◌, Bool, true, false, if◌then◌else◌, List, [], ◌∷◌, ◌++◌, slice_index, slice_index_or, Option, Some, None, Result, Ok, Err, OnErr, OnOk, is_none, is_some, refl, sym, ap, ◌∙◌, subst, arith}
-use Rattle.scc_base.specs.Places.{first_heap, WordAt}
+use Rattle.scc_base.specs.Places.{FlagPlace, first_heap, WordAt}
 use Rattle.scc_base.specs.Setups.{IsSetup, host_of}
 use Rattle.scc_base.specs.Events.{free_of, load_of, store_of}
 use Rattle.scc_base.specs.declared.events.Event.{Event}
@@ -20,7 +20,7 @@ use Rattle.put_get.specs.declared.transfers.RangeFault.{RangeFault}
 use Rattle.put_get.specs.Transfers.{Gets, Puts, ReadsLines, line_at, put_stores}
 use Rattle.tas_lock.specs.Holds.{IsHolding, IsNotHolding, record_after_release, after_try}
 use Rattle.tas_lock.proofs.HoldLemmas.{next_freed, next_tried}
-use Rattle.sync_flags.specs.Flags.{FlagView, flag_of, flag_value, with_bit}
+use Rattle.sync_flags.specs.Flags.{flag_of, flag_value, with_bit}
 use Rattle.sync_flags.specs.Looks.{LooksAll, ReadsFlag, WaitsFor}
 use Rattle.sync_flags.specs.Writes.{WritesFlag, change_events, vain_takes}
 use Rattle.station.specs.Stations.{HoldsNoRegister}
@@ -226,7 +226,7 @@ module _ (seat : Seat) (valid : IsSetup seat.setup) (r : ℕ) (lt : r < seat.set
     get_call (Ok done) line dst high empty same core gets = as_heap_call (lines_read dst (record c { lines = [] }) d line high at gets.reads) (gets.out ∙ empty)
     get_call (Err fault) line dst high empty same core gets = as_heap_call (same_sight same at) (ap (λ (x : Private). x.out) core ∙ empty)
 
-    module _ (f : FlagView) (high : first_heap ≤ f.line) (empty : d.out ≡ None) where
+    module _ (f : FlagPlace) (high : first_heap ≤ f.line) (empty : d.out ≡ None) where
       pub read_call : (found : Bool) → ReadsFlag s c (flag_of seat.setup r f) f.bit found t d → IsHeapCall s t d
       read_call found reads = as_heap_call (loaded f.line reads.words high at reads.looks.did) empty
 

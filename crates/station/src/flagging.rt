@@ -4,9 +4,9 @@ use crate::ports::known;
 use crate::stations::Station;
 use line_cache::Evict;
 use mpb_alloc::MallocFault;
-use scc_base::{Buf, Rank, Stalled};
+use scc_base::{Buf, FlagAt, Rank, Stalled};
 use scc_proto::Port;
-use sync_flags::{Flag, flag_alloc, flag_read, flag_write, wait_until};
+use sync_flags::{flag_alloc, flag_read, flag_write, wait_until};
 
 impl<V: Evict> Station<V> {
     ghost use Rattle.std.specs.Prelude.{◌≡◌, ◌<◌, ◌≤◌, ◌↔◌, ◌++◌, ◌∷◌, [], List, IfOk, IsErr, OnErr, OnOk};
@@ -38,7 +38,7 @@ impl<V: Evict> Station<V> {
         &mut self,
         port: &mut P,
         at: Rank,
-        flag: Flag,
+        flag: FlagAt,
         value: bool,
     ) -> Result<(), Stalled>
         requires free { NoCallOpen (P.sight port.old) self.old }
@@ -58,7 +58,7 @@ impl<V: Evict> Station<V> {
     }
 
     /// Whether a flag of the heap at a rank is set, by one look (RCCE_flag_read).
-    pub fn read<P: Port>(&mut self, port: &mut P, at: Rank, flag: Flag) -> bool
+    pub fn read<P: Port>(&mut self, port: &mut P, at: Rank, flag: FlagAt) -> bool
         requires free { NoCallOpen (P.sight port.old) self.old }
         requires below { at < (P.sight port.old).seat.setup.nue }
         requires heap { first_heap ≤ flag.line }
@@ -77,7 +77,7 @@ impl<V: Evict> Station<V> {
     pub fn wait_until<P: Port>(
         &mut self,
         port: &mut P,
-        flag: Flag,
+        flag: FlagAt,
         want: bool,
     ) -> Result<(), Stalled>
         requires free { NoCallOpen (P.sight port.old) self.old }

@@ -1,6 +1,6 @@
 -- A flag in the heap may be written by a rank that has drafted nothing, takes no chunk and is in no barrier.
 use Rattle.std.proofs.Common.{◌≡◌, ℕ, ◌<◌, ◌≤◌, Bool, true, [], ◌∷◌, Some, slice_index, sym, ◌∙◌, ap, subst}
-use Rattle.scc_base.specs.Places.{line_of_word, word_of_line}
+use Rattle.scc_base.specs.Places.{FlagPlace, line_of_word, word_of_line}
 use Rattle.scc_base.specs.Setups.{IsSetup, host_of}
 use Rattle.scc_base.specs.Events.{load_of, store_of, take_of}
 use Rattle.scc_proto.specs.Stages.{Record}
@@ -10,15 +10,15 @@ use Rattle.scc_proto.proofs.Layouts.PlaceMoves.{heap_loaded, heap_stored}
 use Rattle.put_get.specs.Accesses.{loads_of}
 use Rattle.tas_lock.specs.Holds.{IsNotHolding, after_try}
 use Rattle.tas_lock.proofs.HoldLemmas.{next_tried}
-use Rattle.sync_flags.specs.Flags.{FlagView, flag_of, with_bit}
+use Rattle.sync_flags.specs.Flags.{flag_of, with_bit}
 use Rattle.sync_flags.specs.Writes.{MayWrite}
 
-pub heap_store_may : (seat : Seat) (rec : Record) (r : ℕ) (f : FlagView) (value : ℕ) → IsSetup seat.setup → r < seat.setup.nue → 225 ≤ f.line
+pub heap_store_may : (seat : Seat) (rec : Record) (r : ℕ) (f : FlagPlace) (value : ℕ) → IsSetup seat.setup → r < seat.setup.nue → 225 ≤ f.line
     → leaves_heap rec.stage ≡ true → MayMake seat rec (store_of (flag_of seat.setup r f) value)
 heap_store_may seat rec r f value valid lt high leaves = (heap_stored seat rec valid r f.line f.word value lt high leaves).may
 
 -- the loads of a heap line change nothing of a record
-loads_nothing : (seat : Seat) (rec : Record) (r : ℕ) (f : FlagView) → IsSetup seat.setup → r < seat.setup.nue → 225 ≤ f.line → (k0 k1 k2 k3 : ℕ)
+loads_nothing : (seat : Seat) (rec : Record) (r : ℕ) (f : FlagPlace) → IsSetup seat.setup → r < seat.setup.nue → 225 ≤ f.line → (k0 k1 k2 k3 : ℕ)
     → record_on seat rec (load_of (word_of_line (line_of_word (flag_of seat.setup r f)) 0) k0 ∷ load_of (word_of_line (line_of_word (flag_of seat.setup r f)) 1) k1
     ∷ load_of (word_of_line (line_of_word (flag_of seat.setup r f)) 2) k2 ∷ load_of (word_of_line (line_of_word (flag_of seat.setup r f)) 3) k3 ∷ []) ≡ rec
 loads_nothing seat rec r f valid lt high k0 k1 k2 k3 =
@@ -31,7 +31,7 @@ loads_nothing seat rec r f valid lt high k0 k1 k2 k3 =
     ∙ ap (λ (x : Record). record_next seat x e3) (heap_loaded seat rec valid r f.line 2 k2 lt high).becomes
     ∙ (heap_loaded seat rec valid r f.line 3 k3 lt high).becomes
 
-pub heap_bit_may : (seat : Seat) (rec : Record) (r : ℕ) (f : FlagView) (b : ℕ) (set : Bool) → IsSetup seat.setup → r < seat.setup.nue → 225 ≤ f.line
+pub heap_bit_may : (seat : Seat) (rec : Record) (r : ℕ) (f : FlagPlace) (b : ℕ) (set : Bool) → IsSetup seat.setup → r < seat.setup.nue → 225 ≤ f.line
     → leaves_heap rec.stage ≡ true → IsNotHolding rec (host_of seat.setup.hosts r) → MayWrite seat rec (flag_of seat.setup r f) (Some b) set
 heap_bit_may seat rec r f b set valid lt high leaves free =
     let place = flag_of seat.setup r f in

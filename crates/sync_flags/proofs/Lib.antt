@@ -1,4 +1,5 @@
 pub mod BitLemmas
+pub mod ChangeLemmas
 pub mod HeapLemmas
 pub mod HeapStores
 pub mod HeldLemmas

@@ -29,6 +29,11 @@ flag_looks {s} {t} {c} {d} r place bit found at is =
     subst (λ (x : WordAt). ReadsFlag s c x bit found t d) at
     (record { words = r.words; looks = r.looks; is = is ∙ ap (λ (x : ℕ). is_set_in bit x) r.is })
 
+pub reads_there : {s t : Sight} {c d : Private} {p : WordAt} {b : Option ℕ} {found : Bool} → ReadsFlag s c p b found t d → (place : WordAt) (bit : Option ℕ)
+    → p ≡ place → b ≡ bit → ReadsFlag s c place bit found t d
+reads_there {s} {t} {c} {d} {p} {found = found} r place bit at is =
+    subst (λ (x : WordAt). ReadsFlag s c x bit found t d) at (subst (λ (o : Option ℕ). ReadsFlag s c p o found t d) is r)
+
 pub looks_did : (s : Sight) (c : Private) (line : LineAt) (looks : List (List ℕ)) (t : Sight) (d : Private) → LooksAll s c line looks t d
     → Did s (looks_of line looks) t
 looks_did s c line [] t d all = subst (λ (x : Sight). Did s [] x) (sym all.0) (did_nothing s)

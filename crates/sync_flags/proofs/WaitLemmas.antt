@@ -1,6 +1,6 @@
 -- What the looks of a wait come to: its events, and where it has tried in vain.
 use Rattle.std.proofs.Common.{◌≡◌, ℕ, suc, ◌+◌, ◌<◌, ◌≤◌, ◌↔◌, Bool, if◌then◌else◌, List, [], ◌++◌, Option, Ok, Err, IsErr, length, refl, sym, ◌∙◌, ap, append-nil, arith}
-use Rattle.scc_base.specs.Places.{WordAt, line_of_word}
+use Rattle.scc_base.specs.Places.{FlagPlace, WordAt, line_of_word}
 use Rattle.scc_base.specs.declared.events.Event.{Event}
 use Rattle.scc_base.specs.declared.events.Stalled.{Stalled}
 use Rattle.scc_proto.specs.Ports.{Seat, Sight, Did}
@@ -8,7 +8,7 @@ use Rattle.scc_proto.proofs.PortLaws.{did_both}
 use Rattle.put_get.specs.Accesses.{loads_of}
 use Rattle.put_get.specs.Cores.{Private}
 use Rattle.put_get.proofs.StepLemmas.{events_once}
-use Rattle.sync_flags.specs.Flags.{FlagView, flag_of}
+use Rattle.sync_flags.specs.Flags.{flag_of}
 use Rattle.sync_flags.specs.Tries.{Aim, AtFlag, is_unwanted, vain_tries, TriedInVain}
 use Rattle.sync_flags.specs.Looks.{LooksInVain, FindsFlag, looks_of}
 use Rattle.sync_flags.proofs.LookLemmas.{looks_did, wanted}
@@ -48,5 +48,5 @@ pub stall : (stalled : Stalled) (aim : Aim) (polls : ℕ) (events : List Event) 
 stall stalled aim polls events is = (λ e. omega (arith, is), λ le. refl)
 
 -- the flag of the own rank, at a port whose seat is the same
-pub same_flag : (seat seat0 : Seat) (me : ℕ) (f : FlagView) → seat ≡ seat0 → me ≡ seat0.rank → flag_of seat.setup me f ≡ flag_of seat0.setup seat0.rank f
+pub same_flag : (seat seat0 : Seat) (me : ℕ) (f : FlagPlace) → seat ≡ seat0 → me ≡ seat0.rank → flag_of seat.setup me f ≡ flag_of seat0.setup seat0.rank f
 same_flag seat seat0 me f same own = ap (λ (x : Seat). flag_of x.setup me f) same ∙ ap (λ (r : ℕ). flag_of seat0.setup r f) own

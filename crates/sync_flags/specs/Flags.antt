@@ -1,30 +1,19 @@
 -- Flags: a word, or one bit of a word, at the same place of each core's buffer (RCCE specification 2.0; that a
 -- flag is a word of 64 bits or a bit of one is this project's profile).
-use Rattle.std.specs.Prelude.{ℕ, ◌+◌, ◌-◌, ◌^◌, Bool, ◌==◌, if◌then◌else◌, Option, Some, None, unwrap_or}
+use Rattle.std.specs.Prelude.{ℕ, ◌+◌, ◌-◌, ◌^◌, Bool, ◌==◌, if◌then◌else◌, Option, unwrap_or}
 use Rattle.std.specs.Int.{bit_at}
-use Rattle.scc_base.specs.Places.{WordAt}
+use Rattle.scc_base.specs.Places.{WordAt, FlagPlace, flag_in, flag_word}
 use Rattle.scc_base.specs.Setups.{SetupView, host_of}
 use Rattle.scc_base.specs.declared.events.Spot.{Spot}
 use Rattle.scc_base.specs.declared.events.Spot.TheVariants.{Flag}
 
--- a flag at any core: a whole word of a line, or this bit of it
-pub record FlagView : Type 0 where
-  pub line : ℕ
-  pub word : ℕ
-  pub bit : Option ℕ
-
--- the word of a flag at a core
-abbrev pub flag_at : ℕ → FlagView → WordAt
-flag_at core f = record { core = core; line = f.line; word = f.word }
-
 -- the word of a flag at a rank
-abbrev pub flag_of : SetupView → ℕ → FlagView → WordAt
-flag_of s r f = flag_at (host_of s.hosts r) f
+abbrev pub flag_of : SetupView → ℕ → FlagPlace → WordAt
+flag_of s r f = flag_word (host_of s.hosts r) f
 
 -- a flag that is a whole word is set where the word is 1, a bit where it is 1
 abbrev pub is_set_in : Option ℕ → ℕ → Bool
-is_set_in None word = word == 1
-is_set_in (Some b) word = bit_at word b == 1
+is_set_in bit word = flag_in bit word == 1
 
 -- 1 for a flag that is set, 0 for one that is not
 abbrev pub flag_value : Bool → ℕ

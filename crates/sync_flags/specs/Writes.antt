@@ -1,6 +1,7 @@
 -- Writes of flags (RCCE specification 2.0: a flag of one bit is changed under the test-and-set register of the
 -- core that holds it).
-use Rattle.std.specs.Prelude.{◌≡◌, ℕ, zero, suc, ◌<◌, Bool, true, false, List, [], ◌∷◌, ◌++◌, Option, Some, None, Result, Ok, Err, slice_index}
+use Rattle.std.specs.Prelude.{◌≡◌, ℕ, zero, suc, ◌<◌, Bool, true, false, if◌then◌else◌, List, [], ◌∷◌, ◌++◌, Option, Some, None, Result, Ok, Err, slice_index}
+use Rattle.std.specs.Int.{bit_at}
 use Rattle.scc_base.specs.Places.{WordAt, line_of_word}
 use Rattle.scc_base.specs.Events.{store_of, take_of, free_of}
 use Rattle.scc_base.specs.declared.events.Event.{Event}
@@ -8,10 +9,11 @@ use Rattle.scc_base.specs.declared.events.Stalled.{Stalled}
 use Rattle.scc_base.specs.declared.events.Spot.TheVariants.{Register}
 use Rattle.scc_proto.specs.Stages.{Record}
 use Rattle.scc_proto.specs.Soundness.{IsSound}
-use Rattle.scc_proto.specs.Ports.{Seat, Sight, Did, MayMake, WereMade, record_in, record_on}
+use Rattle.scc_proto.specs.Ports.{Seat, Sight, Did, MayMake, MayMakeAll, WereMade, record_in, record_on}
 use Rattle.line_cache.specs.Lines.{noted}
-use Rattle.put_get.specs.Accesses.{loads_of}
-use Rattle.put_get.specs.Cores.{Private, Fills}
+use Rattle.write_combine.specs.Combining.{handed_out}
+use Rattle.put_get.specs.Accesses.{loads_of, stores_of}
+use Rattle.put_get.specs.Cores.{Private, Fills, WritesThrough}
 use Rattle.tas_lock.specs.Holds.{IsNotHolding}
 use Rattle.sync_flags.specs.Flags.{flag_value, with_bit}
 
@@ -101,3 +103,35 @@ WritesFlag s c place None set polls t d (Err stalled) = ⊥
 WritesFlag s c place (Some b) set polls t d (Ok done) = WritesBit s c place b set polls t d
 WritesFlag s c place (Some b) set polls t d (Err stalled) =
     GivesUp s c place polls t d × (stalled ≡ record { spot = Register place.core; polls = polls })
+
+-- ---- a flag's change in one turn
+
+-- the bit stands the other way, whatever the loads of its line answered that were made under its register
+abbrev pub TurnsOver : Sight → WordAt → ℕ → Bool → Type 0
+TurnsOver s place b set = (words : List ℕ) → WasLoaded s.seat (record_in s) (take_of place.core true ∷ loads_of (line_of_word place) words)
+    → bit_at (slice_index words place.word) b ≡ (if set then 0 else 1)
+
+-- a word may be written through: it lies in another line than the one that waits in the write-combining buffer, and the
+-- record permits the stores of what waits there and then the word's
+pub record MayWriteThrough (s : Sight) (c : Private) (place : WordAt) (value : ℕ) : Type 0 where
+  pub other : handed_out c.out (line_of_word place) ≡ c.out
+  pub permitted : MayMakeAll s.seat (record_in s) (stores_of c.out ++ store_of place value ∷ [])
+
+-- a bit may be turned over: nothing waits in the write-combining buffer, the record permits the bit's change, and the bit
+-- stands the other way
+pub record MayTurn (s : Sight) (c : Private) (place : WordAt) (b : ℕ) (set : Bool) : Type 0 where
+  pub empty : c.out ≡ None
+  pub permitted : MayWrite s.seat (record_in s) place (Some b) set
+  pub turns : TurnsOver s place b set
+
+-- a flag may be changed in one turn: a word may be written through, a bit may be turned over
+abbrev pub MayChangeFlag : Sight → Private → WordAt → Option ℕ → Bool → Type 0
+MayChangeFlag s c place None set = MayWriteThrough s c place (flag_value set)
+MayChangeFlag s c place (Some b) set = MayTurn s c place b set
+
+-- one turn changes a flag: a word is written, and what waited in the write-combining buffer is stored before it; a bit is
+-- tried once, and is turned over where the try is done. Eight parameters: the flag (its word, its bit where it is one), its
+-- value, whether it was done, and the caller's sight and core before and after.
+abbrev pub ChangesFlag : Sight → Private → WordAt → Option ℕ → Bool → (done : Bool) → Sight → Private → Type 0
+ChangesFlag s c place None set done t d = (done ≡ true) × WritesThrough s c place (flag_value set) t d
+ChangesFlag s c place (Some b) set done t d = TriesChange s c place b set done t d × TurnsOver s place b set

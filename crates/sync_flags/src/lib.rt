@@ -6,7 +6,7 @@ mod laws;
 mod looks;
 mod writes;
 
-pub use flags::{Flag, flag_alloc, flag_free, is_set_in};
+pub use flags::{flag_alloc, flag_free, heap_bit, heap_flag};
 pub use laws::{heap_law, tries_law};
-pub use looks::{flag_read, look_word, wait_until};
-pub use writes::{flag_write, store_word, try_change_bit};
+pub use looks::{flag_read, look_flag, look_word, wait_until};
+pub use writes::{change_flag, flag_write, store_word};

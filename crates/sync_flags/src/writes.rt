@@ -6,17 +6,24 @@ ghost use Rattle.scc_base.specs.declared.events.Event.{Event};
 ghost use Rattle.scc_proto.specs.Ports.{Did, MayMake, record_in};
 ghost use Rattle.put_get.specs.Cores.{MadeSteps};
 ghost use Rattle.tas_lock.specs.Holds.{IsHolding, IsNotHolding, after_try};
-ghost use Rattle.sync_flags.specs.Flags.{flag_of, with_bit};
+ghost use Rattle.sync_flags.specs.Flags.{flag_of, flag_value, with_bit};
 ghost use Rattle.sync_flags.specs.Tries.{AtRegister, TriedInVain};
-ghost use Rattle.sync_flags.specs.Writes.{MayStoreBit, MayWrite, StoresWord, TakesWithin, ChangesBit, TriesChange, WritesFlag};
+ghost use Rattle.sync_flags.specs.Writes.{MayStoreBit, MayWrite, MayChangeFlag, StoresWord, TakesWithin, ChangesBit, TriesChange, WritesFlag, ChangesFlag};
 
-use crate::flags::Flag;
 use crate::looks::look_word;
 use line_cache::Evict;
 use put_get::Core;
-use scc_base::{CoreId, Place, Rank, Spot, Stalled};
+use scc_base::{CoreId, FlagAt, Place, Rank, Spot, Stalled};
 use scc_proto::Port;
 use tas_lock::{Held, release, try_acquire};
+
+// The word of a flag that is a whole word.
+#[inline(always)]
+fn flag_value(set: bool) -> u64
+    ensures gives { result ≡ flag_value set }
+{
+    if set { 1 } else { 0 }
+}
 
 /// Writes a word and sends it out.
 #[inline]
@@ -75,7 +82,7 @@ fn change_bit<V: Evict, P: Port>(core: &mut Core<V>, port: &mut P, place: Place,
 }
 
 /// Tries once to change a bit under the register of the core that holds it: false where the register was taken.
-pub fn try_change_bit<V: Evict, P: Port>(
+fn try_change_bit<V: Evict, P: Port>(
     core: &mut Core<V>,
     port: &mut P,
     place: Place,
@@ -139,7 +146,7 @@ pub fn flag_write<V: Evict, P: Port>(
     core: &mut Core<V>,
     port: &mut P,
     at: Rank,
-    f: Flag,
+    f: FlagAt,
     set: bool,
     polls: u32,
 ) -> Result<(), Stalled>
@@ -157,11 +164,37 @@ pub fn flag_write<V: Evict, P: Port>(
     ensures empty { core.new.out ≡ None }
 {
     let place = f.place(port.setup().core_of(at));
-    match f.bit_of() {
+    match f.bit() {
         None => {
-            store_word(core, port, place, if set { 1 } else { 0 });
+            store_word(core, port, place, flag_value(set));
             Ok(())
         }
         Some(bit) => write_bit(core, port, place, bit, set, polls),
+    }
+}
+
+/// Changes the flag that is this word, or this bit of it, in one turn. A word is written, and what waits in the
+/// write-combining buffer is stored before it. A bit is turned over under the register of the core that holds it: false
+/// where the register was taken.
+#[inline]
+pub fn change_flag<V: Evict, P: Port>(
+    core: &mut Core<V>,
+    port: &mut P,
+    place: Place,
+    bit: Option<u8>,
+    set: bool,
+) -> bool
+    requires below { IfSome bit (λ b. b < 64) }
+    requires may { MayChangeFlag (P.sight port.old) core.old place bit set }
+    ensures changes { ChangesFlag (P.sight port.old) core.old place bit set result (P.sight port.new) core.new }
+    ensures empty { core.new.out ≡ None }
+    ensures steps { MadeSteps P.stepped (P.sight port.old) (P.sight port.new) }
+{
+    match bit {
+        None => {
+            core.word_write_through(port, place, flag_value(set));
+            true
+        }
+        Some(bit) => try_change_bit(core, port, place, bit, set),
     }
 }

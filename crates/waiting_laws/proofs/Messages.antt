@@ -1,10 +1,9 @@
 -- What a vain look of a send or a receive tells, by its stage.
 use Rattle.std.proofs.Common.{◌≡◌, ◌≢◌, ◌⊎◌, inl, inr, ℕ, ◌==◌, Bool, true, false, if◌then◌else◌, List, Option, Some, None, option_map, refl, sym, ◌∙◌, subst}
-use Rattle.std.specs.Int.{bit_at}
 use Rattle.std.proofs.lemmas.Option.{same_Some}
 use Rattle.scc_base.specs.Layouts.{signal_at}
 use Rattle.scc_base.specs.declared.signals.Signal.TheVariants.{Sent, Ready}
-use Rattle.scc_base.specs.Places.{FlagPlace, flag_word}
+use Rattle.scc_base.specs.Places.{FlagPlace, flag_in, flag_word}
 use Rattle.scc_base.specs.Setups.{SetupView, host_of}
 use Rattle.scc_base.specs.declared.events.Spot.{Spot}
 use Rattle.scc_base.specs.declared.layouts.Layout.{Layout}
@@ -15,13 +14,12 @@ use Rattle.scc_proto.specs.Messages.{Progress}
 use Rattle.scc_proto.specs.Ports.{Seat}
 use Rattle.scc_proto.specs.Records.{chunk_of}
 use Rattle.scc_proto.specs.Stages.{Idle, Between, OnItsWay, Record}
-use Rattle.scc_proto.specs.Views.{View, flag_in, view_of, word_of_flag}
+use Rattle.scc_proto.specs.Views.{View, view_of, word_of_flag}
 use Rattle.scc_proto.specs.Words.{Memory, are_peers, word_at}
 use Rattle.scc_proto.proofs.Tests.{peers_swap}
 use Rattle.put_get.specs.Cores.{Private}
 use Rattle.sync_flags.specs.Flags.{is_set_in}
 use Rattle.sync_flags.specs.Tries.{Aim, AtFlag, AtRegister}
-use Rattle.send_recv.specs.Flags.{bit_of}
 use Rattle.send_recv.specs.Ops.{RecvAt, SendAt, SlotAt}
 use Rattle.send_recv.specs.Receiving as recv
 use Rattle.send_recv.specs.Sending as send
@@ -37,33 +35,32 @@ use Rattle.waiting_laws.specs.Looks.{LookedInVain, Tells, SeatWaits}
 use Rattle.waiting_laws.proofs.Looks.{aimed, differ}
 
 -- the flag is not set
-abbrev Unset : Layout → Memory → ℕ → FlagPlace → Type 0
-Unset layout memory core flag = flag_in layout (word_of_flag memory core flag) flag ≢ 1
+abbrev Unset : Memory → ℕ → FlagPlace → Type 0
+Unset memory core flag = flag_in flag.bit (word_of_flag memory core flag) ≢ 1
 
-unset_by : (layout : Layout) (memory : Memory) (core : ℕ) (flag : FlagPlace) → is_set_in (bit_of layout flag.bit) (word_at memory (flag_word core flag)) ≡ false → Unset layout memory core flag
-unset_by LineFlags memory core flag off is = differ (word_of_flag memory core flag) 1 off is
-unset_by BitFlags memory core flag off is = differ (bit_at (word_of_flag memory core flag) flag.bit) 1 off is
+not_set : (memory : Memory) (core : ℕ) (flag : FlagPlace) → is_set_in flag.bit (word_at memory (flag_word core flag)) ≡ false → Unset memory core flag
+not_set memory core flag off is = differ (flag_in flag.bit (word_of_flag memory core flag)) 1 off is
 
 -- the slot's turn looks at `ready` of its target
 slot_told : (layout : Layout) (memory : Memory) (own : ℕ) (to : Option ℕ) (seen : Bool) (aim : Aim) → aim_at layout (send.slot_spot_by layout own to seen) ≡ Some aim → Tells memory aim
-    → (j : ℕ) × (to ≡ Some j) × Unset layout memory own (signal_at layout Ready j)
+    → (j : ℕ) × (to ≡ Some j) × Unset memory own (signal_at layout Ready j)
 slot_told LineFlags memory own None seen aim is tells = absurd (cc (is))
 slot_told BitFlags memory own None seen aim is tells = absurd (cc (is))
 slot_told LineFlags memory own (Some j) false aim is tells =
-    (j, refl, unset_by LineFlags memory own (signal_at LineFlags Ready j) (aimed memory (AtFlag (flag_word own (signal_at LineFlags Ready j)) None true) aim is tells))
+    (j, refl, not_set memory own (signal_at LineFlags Ready j) (aimed memory (AtFlag (flag_word own (signal_at LineFlags Ready j)) None true) aim is tells))
 slot_told BitFlags memory own (Some j) false aim is tells =
-    (j, refl, unset_by BitFlags memory own (signal_at BitFlags Ready j) (aimed memory (AtFlag (flag_word own (signal_at BitFlags Ready j)) (Some (signal_at BitFlags Ready j).bit) true) aim is tells))
+    (j, refl, not_set memory own (signal_at BitFlags Ready j) (aimed memory (AtFlag (flag_word own (signal_at BitFlags Ready j)) (Some j) true) aim is tells))
 slot_told LineFlags memory own (Some j) true aim is tells = absurd (cc (is))
 slot_told BitFlags memory own (Some j) true aim is tells =
     absurd (aimed memory (AtRegister own) aim is tells)
 
 -- a send that looks, looks at `ready` of its target
 ready_told : (layout : Layout) (memory : Memory) (own other to : ℕ) (slot : Option Spot) (aim : Aim) → aim_at layout (send.send_spot_by layout own other to slot sending.Look) ≡ Some aim → Tells memory aim
-    → Unset layout memory own (signal_at layout Ready to)
+    → Unset memory own (signal_at layout Ready to)
 ready_told LineFlags memory own other to slot aim is tells =
-    unset_by LineFlags memory own (signal_at LineFlags Ready to) (aimed memory (AtFlag (flag_word own (signal_at LineFlags Ready to)) None true) aim is tells)
+    not_set memory own (signal_at LineFlags Ready to) (aimed memory (AtFlag (flag_word own (signal_at LineFlags Ready to)) None true) aim is tells)
 ready_told BitFlags memory own other to slot aim is tells =
-    unset_by BitFlags memory own (signal_at BitFlags Ready to) (aimed memory (AtFlag (flag_word own (signal_at BitFlags Ready to)) (Some (signal_at BitFlags Ready to).bit) true) aim is tells)
+    not_set memory own (signal_at BitFlags Ready to) (aimed memory (AtFlag (flag_word own (signal_at BitFlags Ready to)) (Some to) true) aim is tells)
 
 -- and at no other stage does it wait, where nobody holds a register
 abbrev is_send_look : SendStage → Bool
@@ -87,11 +84,11 @@ no_send BitFlags memory own other to slot sending.Lower aim unlike is tells =
 no_send LineFlags memory own other to slot sending.Finished aim unlike is tells = cc (is)
 no_send BitFlags memory own other to slot sending.Finished aim unlike is tells = cc (is)
 
-sent_told : (layout : Layout) (memory : Memory) (own other from : ℕ) (aim : Aim) → aim_at layout (recv.spot_by layout own other from receive.Look) ≡ Some aim → Tells memory aim → Unset layout memory own (signal_at layout Sent from)
+sent_told : (layout : Layout) (memory : Memory) (own other from : ℕ) (aim : Aim) → aim_at layout (recv.spot_by layout own other from receive.Look) ≡ Some aim → Tells memory aim → Unset memory own (signal_at layout Sent from)
 sent_told LineFlags memory own other from aim is tells =
-    unset_by LineFlags memory own (signal_at LineFlags Sent from) (aimed memory (AtFlag (flag_word own (signal_at LineFlags Sent from)) None true) aim is tells)
+    not_set memory own (signal_at LineFlags Sent from) (aimed memory (AtFlag (flag_word own (signal_at LineFlags Sent from)) None true) aim is tells)
 sent_told BitFlags memory own other from aim is tells =
-    unset_by BitFlags memory own (signal_at BitFlags Sent from) (aimed memory (AtFlag (flag_word own (signal_at BitFlags Sent from)) (Some (signal_at BitFlags Sent from).bit) true) aim is tells)
+    not_set memory own (signal_at BitFlags Sent from) (aimed memory (AtFlag (flag_word own (signal_at BitFlags Sent from)) (Some from) true) aim is tells)
 
 abbrev is_recv_look : RecvStage → Bool
 is_recv_look receive.Look = true

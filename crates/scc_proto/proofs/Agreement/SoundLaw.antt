@@ -2,6 +2,7 @@
 use Rattle.std.proofs.Common.{◌≡◌, ℕ, ◌<◌, Bool, true, false, ◌==◌, if◌then◌else◌, Option, Some, None, option_and_then, refl, sym, ◌∙◌, ap, subst}
 use Rattle.std.specs.Int.{bit_at}
 use Rattle.scc_base.specs.Layouts.{signal_at, signal_word}
+use Rattle.scc_base.specs.Places.{flag_in}
 use Rattle.scc_base.specs.declared.signals.Signal.{Signal}
 use Rattle.scc_base.specs.declared.signals.Signal.TheVariants.{Sent, Ready}
 use Rattle.scc_base.specs.Setups.{SetupView, host_of}
@@ -12,7 +13,7 @@ use Rattle.scc_proto.specs.Stages.{Filling, Raised, Answered, Stage, Idle, Draft
 use Rattle.scc_proto.specs.Permission.{is_answered_by}
 use Rattle.scc_proto.specs.Words.{Memory, are_peers}
 use Rattle.scc_proto.specs.Records.{chunk_of, flags_in}
-use Rattle.scc_proto.specs.Views.{view_of, flag_in, word_of_flag}
+use Rattle.scc_proto.specs.Views.{view_of, word_of_flag}
 use Rattle.scc_proto.specs.Singles.{IsConsistent, IsStage, IsPosted}
 use Rattle.scc_proto.specs.Pairs.{Resting, Offering, Awaiting, Receiving, resumed, side_of_post, sending_side, taking_side, NotesStand, pair_of}
 use Rattle.scc_proto.specs.Registers.{IsNotedWord, NotedFlags}
@@ -25,7 +26,7 @@ use Rattle.scc_proto.proofs.Pairs.OfferFacts.{offers}
 -- ---- a noted word of bit flags is the word
 
 signal_bit : (layout : Layout) (signal : Signal) (held : Option FlagWords) (memory : Memory) (core b w : ℕ) → NotedFlags layout held (memory.word core 1) → option_and_then (λ (flags : FlagWords). flags_in signal flags) held ≡ Some w
-    → flag_in layout (word_of_flag memory core (signal_at layout signal b)) (signal_at layout signal b) ≡ bit_at w b
+    → flag_in (signal_at layout signal b).bit (word_of_flag memory core (signal_at layout signal b)) ≡ bit_at w b
 signal_bit LineFlags signal None memory core b w is noted_is = absurd (cc)
 signal_bit LineFlags signal (Some flags) memory core b w is noted_is = let a : None ≡ Some w = sym (is signal) ∙ noted_is in absurd (cc)
 signal_bit BitFlags signal None memory core b w is noted_is = absurd (cc)

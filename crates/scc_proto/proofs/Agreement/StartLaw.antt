@@ -1,22 +1,21 @@
 -- Agreement at the start: all words are 0, and no rank has made an event.
-use Rattle.std.proofs.Common.{◌≡◌, None, inl, refl, arith}
+use Rattle.std.proofs.Common.{◌≡◌, ℕ, Option, Some, None, inl, refl, arith}
 use Rattle.std.proofs.lemmas.Nat.Bits.{bit_at-zero}
-use Rattle.scc_base.specs.Places.{WordAt, FlagPlace}
+use Rattle.scc_base.specs.Layouts.{signal_at}
+use Rattle.scc_base.specs.Places.{WordAt, flag_in}
 use Rattle.scc_base.specs.Setups.{SetupView, setup_key}
-use Rattle.scc_base.specs.declared.layouts.Layout.{Layout}
-use Rattle.scc_base.specs.declared.layouts.Layout.TheVariants.{LineFlags, BitFlags}
+use Rattle.scc_base.specs.declared.signals.Signal.TheVariants.{Sent, Ready}
 use Rattle.scc_proto.specs.Stages.{blank}
 use Rattle.scc_proto.specs.Words.{zeros, Role, HeaderWord, ChunkWord, SignalFlag, SignalFlags, GatherFlag, ReleaseFlag, HeapWord, IdleWord, role_of}
-use Rattle.scc_proto.specs.Views.{flag_in}
 use Rattle.scc_proto.specs.Pairs.{InRest}
 use Rattle.scc_proto.specs.Registers.{Nobody}
 use Rattle.scc_proto.specs.Agreement.{WordAgrees, Agrees}
 use Rattle.scc_proto.proofs.Agreement.SingleLaw.{single_at_start}
 use Rattle.scc_proto.proofs.Legality.LegalLaws.{legal_at_start}
 
-clear_flag : (layout : Layout) (flag : FlagPlace) → flag_in layout 0 flag ≡ 0
-clear_flag LineFlags flag = refl
-clear_flag BitFlags flag = bit_at-zero flag.bit
+clear_flag : (bit : Option ℕ) → flag_in bit 0 ≡ 0
+clear_flag None = refl
+clear_flag (Some b) = bit_at-zero b
 
 word_at_start : (s : SetupView) (place : WordAt) (role : Role) → WordAgrees s place 0 (λ r. blank) role
 word_at_start s place (HeaderWord owner k) = tt
@@ -31,7 +30,7 @@ word_at_start s place IdleWord = refl
 pub agrees_at_start : (s : SetupView) → Agrees s zeros (λ r. blank)
 agrees_at_start s = record {
   singles = ((λ r below. single_at_start s r), (λ r beyond. refl));
-  pairs = λ from to peers. InRest None (record { sent_flag = clear_flag s.layout _; ready_flag = clear_flag s.layout _; sending = refl; taking = refl; notes = refl; level = refl });
+  pairs = λ from to peers. InRest None (record { sent_flag = clear_flag (signal_at s.layout Sent from).bit; ready_flag = clear_flag (signal_at s.layout Ready to).bit; sending = refl; taking = refl; notes = refl; level = refl });
   senders = λ r below. record { draft = tt; post = tt };
   groups = λ comm r present below. record {
     gather_flag = refl;

@@ -2,7 +2,7 @@
 use Rattle.std.proofs.Common.{◌≡◌, ◌≢◌, ℕ, ◌<◌, Bool, true, false, ◌&&◌, ◌==◌, if◌then◌else◌, Option, Some, None, is_some, is_none, option_map, option_and_then, refl, sym, ◌∙◌, ap, subst}
 use Rattle.std.specs.Prelude.{IsTrue}
 use Rattle.std.specs.Int.{bit_at}
-use Rattle.scc_base.specs.Places.{WordAt}
+use Rattle.scc_base.specs.Places.{WordAt, flag_in}
 use Rattle.scc_base.specs.Layouts.{signal_at, signal_word}
 use Rattle.scc_base.specs.declared.signals.Signal.{Signal}
 use Rattle.scc_base.specs.Setups.{SetupView, IsSetup, host_of, place_of}
@@ -19,7 +19,7 @@ use Rattle.scc_proto.specs.Permission.{permits}
 use Rattle.scc_proto.specs.Words.{Memory, word_at, IsStep, IsStepBy, memory_after, Role, HeaderWord, ChunkWord, SignalFlag, SignalFlags, GatherFlag, ReleaseFlag, HeapWord, IdleWord, role_of, are_peers}
 use Rattle.scc_proto.specs.Records.{Act, Moving, NotingSignal, Holding, act_of, load_act, store_act, load_by, store_by, last_of, leads, raises_bit, lowered_below, move_at, change_at, flags_in, flags_noted, note_flags, forget_flags, chunk_of, after_act, permits_act, permits_by, IsPermitted, record_after}
 use Rattle.scc_proto.specs.Registers.{IsNotedWord, NotedFlags}
-use Rattle.scc_proto.specs.Views.{View, flag_in, word_of_flag, view_of, shown}
+use Rattle.scc_proto.specs.Views.{View, word_of_flag, view_of, shown}
 use Rattle.scc_proto.specs.Agreement.{RegistersAgree}
 use Rattle.scc_proto.proofs.Layouts.MoveFacts.{IsMoveOf, Tells, IsViewStep, SameView}
 use Rattle.scc_proto.proofs.Tests.{same_or_other, put_two_here, put_two_first, put_two_second, put_signal_alike, both_first, both_second, peers_from, peers_swap}
@@ -73,7 +73,7 @@ module _ (s : SetupView) (memory : Memory) (rec : Record) (me : ℕ) (below : me
   -- a bit that is not put shows the noted word
   shows_old : (signal : Signal) (owner old : ℕ) → IsOwn s place owner 1 (signal_word signal) → s.layout ≡ BitFlags → flags_noted signal rec place.core ≡ Some old → (by : ℕ) → (view_of s memory).signal signal by owner ≡ bit_at old by
   shows_old signal owner old own bits is by =
-      ap (λ (layout : Layout). flag_in layout (word_of_flag memory (host_of s.hosts owner) (signal_at layout signal by)) (signal_at layout signal by)) bits
+      ap (λ (layout : Layout). flag_in (signal_at layout signal by).bit (word_of_flag memory (host_of s.hosts owner) (signal_at layout signal by))) bits
       ∙ ap (λ (w : ℕ). bit_at w by)
       (ap (λ (core : ℕ). memory.word core 1 (signal_word signal)) (sym own.on) ∙ noted_is s.layout signal (rec.held place.core) (memory.word place.core 1) old noted is)
 

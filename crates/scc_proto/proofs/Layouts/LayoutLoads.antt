@@ -2,7 +2,7 @@
 use Rattle.std.proofs.Common.{◌≡◌, ◌≢◌, ℕ, ◌+◌, ◌*◌, ◌/◌, ◌%◌, ◌<◌, Bool, true, false, not, ◌&&◌, ◌==◌, if◌then◌else◌, refl, sym, ◌∙◌, ap, subst}
 use Rattle.std.specs.Prelude.{nat_lt}
 use Rattle.std.specs.Int.{bit_at}
-use Rattle.scc_base.specs.Places.{WordAt}
+use Rattle.scc_base.specs.Places.{WordAt, flag_in}
 use Rattle.scc_base.specs.Layouts.{first_signal, signal_at, signal_word, first_chunk, chunk_lines}
 use Rattle.scc_base.specs.declared.signals.Signal.{Signal}
 use Rattle.scc_base.specs.Setups.{SetupView, host_of, setup_key, place_of}
@@ -14,7 +14,7 @@ use Rattle.scc_proto.specs.Moves.{Move, LookSignal, LookGather, LookRelease, NoM
 use Rattle.scc_proto.specs.Permission.{permits}
 use Rattle.scc_proto.specs.Words.{Memory, word_at, Role, HeaderWord, ChunkWord, SignalFlag, SignalFlags, GatherFlag, ReleaseFlag, HeapWord, IdleWord, are_peers, is_present}
 use Rattle.scc_proto.specs.Records.{load_by, look_at, look_at_bits, leads, chunk_of}
-use Rattle.scc_proto.specs.Views.{View, flag_in, word_of_flag, view_of, shown}
+use Rattle.scc_proto.specs.Views.{View, word_of_flag, view_of, shown}
 use Rattle.scc_proto.proofs.Layouts.MoveFacts.{IsMember, IsMoveOf, Tells, SameView}
 use Rattle.scc_proto.proofs.Tests.{same_by_eqb, eqb_same, both_first, both_second, not_true, true_not_false, peers_swap}
 use Rattle.scc_proto.proofs.Layouts.Roles.{if_yes, lt_yes, eq_is, IsOwn, own_is, Stands}
@@ -69,11 +69,11 @@ module _ (s : SetupView) (memory : Memory) (rec : Record) (me : ℕ) (below : me
 
   line_is : (signal : Signal) (by at : ℕ) → IsOwn s place at (first_signal signal + by) 0 → s.layout ≡ LineFlags → (view_of s memory).signal signal by at ≡ value
   line_is signal by at own lines =
-      ap (λ (layout : Layout). flag_in layout (word_of_flag memory (host_of s.hosts at) (signal_at layout signal by)) (signal_at layout signal by)) lines ∙ word_is at (first_signal signal + by) 0 own
+      ap (λ (layout : Layout). flag_in (signal_at layout signal by).bit (word_of_flag memory (host_of s.hosts at) (signal_at layout signal by))) lines ∙ word_is at (first_signal signal + by) 0 own
 
   bit_is : (signal : Signal) (owner by : ℕ) → IsOwn s place owner 1 (signal_word signal) → s.layout ≡ BitFlags → (view_of s memory).signal signal by owner ≡ bit_at value by
   bit_is signal owner by own bits =
-      ap (λ (layout : Layout). flag_in layout (word_of_flag memory (host_of s.hosts owner) (signal_at layout signal by)) (signal_at layout signal by)) bits
+      ap (λ (layout : Layout). flag_in (signal_at layout signal by).bit (word_of_flag memory (host_of s.hosts owner) (signal_at layout signal by))) bits
       ∙ ap (λ (w : ℕ). bit_at w by) (word_is owner 1 (signal_word signal) own)
 
   pub loads_as : (role : Role) → Stands s place role → LoadsAs s me (view_of s memory) rec (load_by s me value role)

@@ -2,7 +2,7 @@
 use Rattle.std.proofs.Common.{◌≡◌, ◌≢◌, ℕ, ◌+◌, ◌*◌, ◌/◌, ◌%◌, ◌<◌, ◌≤◌, Bool, true, false, ◌&&◌, ◌==◌, if◌then◌else◌, refl, sym, ◌∙◌, ap, subst, arith}
 use Rattle.std.specs.Prelude.{nat_lt}
 use Rattle.std.specs.Int.{bit_at}
-use Rattle.scc_base.specs.Places.{WordAt, flag_word}
+use Rattle.scc_base.specs.Places.{WordAt, flag_in, flag_word}
 use Rattle.scc_base.specs.Layouts.{first_signal, signal_at, signal_word, gather_at, release_at, first_gather, first_release, first_chunk, chunk_lines}
 use Rattle.scc_base.specs.declared.signals.Signal.{Signal}
 use Rattle.scc_base.specs.Setups.{SetupView, IsSetup, host_of}
@@ -11,7 +11,7 @@ use Rattle.scc_base.specs.declared.layouts.Layout.TheVariants.{LineFlags, BitFla
 use Rattle.scc_base.specs.declared.events.Access.TheVariants.{Store}
 use Rattle.scc_proto.specs.Tables.{put_two, put_signal}
 use Rattle.scc_proto.specs.Words.{Memory, word_at, is_at, memory_by, Role, HeaderWord, ChunkWord, SignalFlag, SignalFlags, GatherFlag, ReleaseFlag, HeapWord, IdleWord, are_peers, is_present, role_of}
-use Rattle.scc_proto.specs.Views.{View, flag_in, view_of}
+use Rattle.scc_proto.specs.Views.{View, view_of}
 use Rattle.scc_proto.proofs.Layouts.MoveFacts.{SameView}
 use Rattle.scc_proto.proofs.Tests.{same_or_other, eqb_same, eqb_other, put_two_here, put_two_first, put_two_second, put_signal_here, put_signal_left}
 use Rattle.scc_proto.proofs.Layouts.Roles.{if_yes, if_no, lt_yes, lt_no, lt_is, lt_not, own_word, own_is, Stands, role_stands, signal_role, role_header, role_chunk, role_signal, role_gather, role_release}
@@ -101,7 +101,7 @@ module _ (s : SetupView) (valid : IsSetup s) (place : WordAt) (value : ℕ) (mem
 
   -- ---- the word itself is stored
 
-  signal_here : (layout : Layout) (signal : Signal) (by at : ℕ) → (view_stored (signal_role layout signal by at) value (view_of s memory)).signal signal by at ≡ flag_in layout value (signal_at layout signal by)
+  signal_here : (layout : Layout) (signal : Signal) (by at : ℕ) → (view_stored (signal_role layout signal by at) value (view_of s memory)).signal signal by at ≡ flag_in (signal_at layout signal by).bit value
   signal_here LineFlags signal by at =
       ap (λ (flags : ℕ → ℕ → ℕ). flags by at) (put_signal_here (view_of s memory).signal signal (put_two ((view_of s memory).signal signal) by at value)) ∙ put_two_here ((view_of s memory).signal signal) by at value
   signal_here BitFlags signal by at =
@@ -115,8 +115,8 @@ module _ (s : SetupView) (valid : IsSetup s) (place : WordAt) (value : ℕ) (mem
       let q = flag_word (host_of s.hosts at) (signal_at s.layout signal by) in
       same_word ((view_stored (role_of s place) value (view_of s memory)).signal signal by at ≡ (view_of s late).signal signal by at) place q
       (λ e. ap (λ (role : Role). (view_stored role value (view_of s memory)).signal signal by at) (ap (role_of s) e ∙ role_signal s valid signal by at peers) ∙ signal_here s.layout signal by at
-      ∙ ap (λ (word : ℕ). flag_in s.layout word (signal_at s.layout signal by)) (sym (stored_here place value memory q e)))
-      (λ ne. signal_left (role_of s place) st signal by at ne ∙ ap (λ (word : ℕ). flag_in s.layout word (signal_at s.layout signal by)) (sym (stored_there place value memory q ne)))
+      ∙ ap (flag_in (signal_at s.layout signal by).bit) (sym (stored_here place value memory q e)))
+      (λ ne. signal_left (role_of s place) st signal by at ne ∙ ap (flag_in (signal_at s.layout signal by).bit) (sym (stored_there place value memory q ne)))
 
   header_shows : Stands s place (role_of s place) → (r k : ℕ) → r < s.nue → (view_stored (role_of s place) value (view_of s memory)).header r k ≡ (view_of s late).header r k
   header_shows st r k lt =

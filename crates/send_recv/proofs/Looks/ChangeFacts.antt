@@ -2,6 +2,8 @@
 use Rattle.std.proofs.Common.{◌≡◌, ◌≢◌, ℕ, suc, ◌+◌, ◌*◌, ◌≤◌, Bool, true, false, not, ◌==◌, ◌&&◌, ◌||◌, if◌then◌else◌, List, [], ◌∷◌, ◌++◌, Option, Some, None, refl, sym, ◌∙◌, ap, subst, arith, slice_index, slice_set}
 use Rattle.std.specs.List.{list_all}
 use Rattle.scc_base.specs.Places.{LineAt, WordAt, FlagPlace, flag_word, line_of_word, same_line}
+use Rattle.scc_base.specs.Layouts.{signal_at}
+use Rattle.scc_base.specs.declared.signals.Signal.{Signal}
 use Rattle.scc_base.specs.Events.{store_of, take_of, free_of}
 use Rattle.scc_base.specs.declared.events.Event.{Event}
 use Rattle.scc_base.specs.declared.events.Spot.{Spot}
@@ -14,11 +16,11 @@ use Rattle.scc_proto.proofs.Tests.{eqb_same, eqb_other}
 use Rattle.line_cache.specs.Lines.{held, noted}
 use Rattle.write_combine.specs.declared.combiner.Out.{Out}
 use Rattle.put_get.specs.Accesses.{stores_of}
-use Rattle.put_get.specs.Cores.{Private, Fills, Kept, Dropped}
+use Rattle.put_get.specs.Cores.{Private, Fills, Kept, Dropped, WritesThrough}
 use Rattle.put_get.specs.Transfers.{load_count}
 use Rattle.sync_flags.specs.Flags.{with_bit}
-use Rattle.sync_flags.specs.Writes.{change_events}
-use Rattle.send_recv.specs.Flags.{ChangesBy, WritesLineFlag, TriesBit, Missed, Changed}
+use Rattle.sync_flags.specs.Writes.{change_events, TriesChange, RegisterTaken, BitChanged}
+use Rattle.send_recv.proofs.Looks.SignalFlags.{ChangesBy}
 use Rattle.send_recv.specs.Receiving.{flag_lines}
 use Rattle.sync_flags.specs.Tries.{Aim, AtFlag, AtWord, AtRegister, tries_at, vain_from, all_vain, changing_after}
 use Rattle.send_recv.specs.Tries.{aim_of}
@@ -75,16 +77,16 @@ missed_elsewhere : (core : ℕ) (at : Spot) → at ≢ Register core → tries_a
 missed_elsewhere core (Flag place bit) ne = refl
 missed_elsewhere core (Register other) ne = λ i. if other_register core other ne i then 1 else 0
 
-changed_elsewhere : (core : ℕ) (flag : FlagPlace) (set : Bool) (words : List ℕ) (at : Spot) → at ≢ Register core → tries_at (aim_of BitFlags at) (change_events (flag_word core flag) flag.bit set words) ≡ 0
-changed_elsewhere core flag set words (Flag place bit) ne = refl
-changed_elsewhere core flag set words (Register other) ne = λ i. if other_register core other ne i then 1 else 0
+changed_elsewhere : (core : ℕ) (flag : FlagPlace) (b : ℕ) (set : Bool) (words : List ℕ) (at : Spot) → at ≢ Register core → tries_at (aim_of BitFlags at) (change_events (flag_word core flag) b set words) ≡ 0
+changed_elsewhere core flag b set words (Flag place bit) ne = refl
+changed_elsewhere core flag b set words (Register other) ne = λ i. if other_register core other ne i then 1 else 0
 
-changed_ends : (core : ℕ) (flag : FlagPlace) (set : Bool) (words : List ℕ) (aim : Aim) (n : ℕ) → vain_from aim false n (change_events (flag_word core flag) flag.bit set words) ≡ 0
-changed_ends core flag set words (AtFlag place bit want) n = refl
-changed_ends core flag set words (AtWord place value) n = refl
-changed_ends core flag set words (AtRegister other) n = refl
+changed_ends : (core : ℕ) (flag : FlagPlace) (b : ℕ) (set : Bool) (words : List ℕ) (aim : Aim) (n : ℕ) → vain_from aim false n (change_events (flag_word core flag) b set words) ≡ 0
+changed_ends core flag b set words (AtFlag place bit want) n = refl
+changed_ends core flag b set words (AtWord place value) n = refl
+changed_ends core flag b set words (AtRegister other) n = refl
 
-flag_facts : (s t : Sight) (c d : Private) (core : ℕ) (flag : FlagPlace) (set : Bool) → c.out ≡ None → WritesLineFlag s c core flag set t d → ChangeFacts LineFlags s c core true t d
+flag_facts : (s t : Sight) (c d : Private) (core : ℕ) (flag : FlagPlace) (set : Bool) → c.out ≡ None → WritesThrough s c (flag_word core flag) (if set then 1 else 0) t d → ChangeFacts LineFlags s c core true t d
 flag_facts s t c d core flag set empty w =
     let same : d.evictions ≡ c.evictions = ap (λ (x : Private). x.evictions) w.is in
     record {
@@ -109,11 +111,11 @@ missed_tries core = λ i. if eqb_same core i then 1 else 0
 missed_vain : (core : ℕ) → all_vain (AtRegister core) false (take_of core false ∷ []) ≡ true
 missed_vain core = λ i. (not (eqb_same core i) || true) && true
 
-changed_vain : (core : ℕ) (flag : FlagPlace) (set : Bool) (words : List ℕ) → all_vain (AtRegister core) false (change_events (flag_word core flag) flag.bit set words) ≡ false
-changed_vain core flag set words = λ i. (not (eqb_same core i) || false) && true
+changed_vain : (core : ℕ) (flag : FlagPlace) (b : ℕ) (set : Bool) (words : List ℕ) → all_vain (AtRegister core) false (change_events (flag_word core flag) b set words) ≡ false
+changed_vain core flag b set words = λ i. (not (eqb_same core i) || false) && true
 
-changed_tries : (core : ℕ) (flag : FlagPlace) (set : Bool) (words : List ℕ) → tries_at (AtRegister core) (change_events (flag_word core flag) flag.bit set words) ≡ 1
-changed_tries core flag set words = λ i. if eqb_same core i then 1 else 0
+changed_tries : (core : ℕ) (flag : FlagPlace) (b : ℕ) (set : Bool) (words : List ℕ) → tries_at (AtRegister core) (change_events (flag_word core flag) b set words) ≡ 1
+changed_tries core flag b set words = λ i. if eqb_same core i then 1 else 0
 
 changed_held : (c m d : Private) (core : ℕ) (flag : FlagPlace) (set : Bool) (words : List ℕ) (v : ℕ) → Fills (record c { lines = [] }) (line_of_word (flag_word core flag)) words m
     → d ≡ record m { lines = noted m.lines (flag_word core flag) v } → d.evictions ≡ c.evictions → held d.lines (line_of_word (flag_word core flag)) ≡ Some (slice_set words flag.word v)
@@ -130,46 +132,47 @@ changed_held c m d core flag set words v (Dropped at low given e) is same =
 since_stored : (line : LineAt) (words : List ℕ) (p : WordAt) (v core : ℕ) → same_line line (line_of_word p) ≡ true → stored_since line words (store_of p v ∷ free_of core ∷ []) ≡ slice_set words p.word v
 since_stored line words p v core h = ap (λ b. if b then slice_set words p.word v else words) h
 
-bit_facts : (s t : Sight) (c d : Private) (core : ℕ) (flag : FlagPlace) (set done : Bool) → c.out ≡ None → TriesBit s c core flag set done t d → ChangeFacts BitFlags s c core done t d
-bit_facts s t c d core flag set done empty (Missed missed did e) =
+bit_facts : (s t : Sight) (c d : Private) (core : ℕ) (flag : FlagPlace) (b : ℕ) (set done : Bool) → c.out ≡ None → TriesChange s c (flag_word core flag) b set done t d → ChangeFacts BitFlags s c core done t d
+bit_facts s t c d core flag b set done empty (RegisterTaken missed did e) =
     let same : d.evictions ≡ c.evictions = ap (λ (x : Private). x.evictions) e in
     record {
       events = take_of core false ∷ [];
       did = did;
       held = NoLoad refl;
-      work = subst (λ b. 0 + 4 * c.evictions ≤ 4 * d.evictions + 4 * (if b then 1 else 0)) (sym missed) (omega (arith, same));
+      work = subst (λ x. 0 + 4 * c.evictions ≤ 4 * d.evictions + 4 * (if x then 1 else 0)) (sym missed) (omega (arith, same));
       out = ap (λ (x : Private). x.out) e ∙ empty;
-      tries = λ b. missed_tries core;
-      vain = λ b. missed_vain core ∙ ap (λ (x : Bool). not x) (sym missed);
+      tries = λ x. missed_tries core;
+      vain = λ x. missed_vain core ∙ ap (λ (y : Bool). not y) (sym missed);
       freed = refl;
       elsewhere = λ at ne. missed_elsewhere core at (ne refl);
       ends = λ made. absurd (let e : false ≡ true = sym missed ∙ made in cc);
-      lines = λ b. absurd (cc);
-      rests = λ b. refl;
-      only = λ b. refl;
+      lines = λ x. absurd (cc);
+      rests = λ x. refl;
+      only = λ x. refl;
     }
-bit_facts s t c d core flag set done empty (Changed made words turns did m fills e) =
+bit_facts s t c d core flag b set done empty (BitChanged made words loaded did m fills e) =
     let line = line_of_word (flag_word core flag) in
-    let new = with_bit flag.bit set (slice_index words flag.word) in
+    let new = with_bit b set (slice_index words flag.word) in
     let grown = fills_evictions fills in
     let same : d.evictions ≡ m.evictions = ap (λ (x : Private). x.evictions) e in
     record {
-      events = change_events (flag_word core flag) flag.bit set words;
+      events = change_events (flag_word core flag) b set words;
       did = did;
       held = Last (take_of core true ∷ []) line words (store_of (flag_word core flag) new ∷ free_of core ∷ []) refl refl
           (λ kept. changed_held c m d core flag set words new fills e kept ∙ ap Some (sym (since_stored line words (flag_word core flag) new core (line_itself line))));
-      work = subst (λ b. 4 + 4 * c.evictions ≤ 4 * d.evictions + 4 * (if b then 1 else 0)) (sym made) (omega (arith, grown, same));
+      work = subst (λ x. 4 + 4 * c.evictions ≤ 4 * d.evictions + 4 * (if x then 1 else 0)) (sym made) (omega (arith, grown, same));
       out = ap (λ (x : Private). x.out) e ∙ fills_out fills ∙ empty;
-      tries = λ b. changed_tries core flag set words;
-      vain = λ b. changed_vain core flag set words ∙ ap (λ (x : Bool). not x) (sym made);
+      tries = λ x. changed_tries core flag b set words;
+      vain = λ x. changed_vain core flag b set words ∙ ap (λ (y : Bool). not y) (sym made);
       freed = refl;
-      elsewhere = λ at ne. changed_elsewhere core flag set words at (ne refl);
-      ends = λ done aim n. changed_ends core flag set words aim n;
-      lines = λ b. absurd (cc);
-      rests = λ b. absurd (cc);
-      only = λ b. absurd (let e : true ≡ false = sym made ∙ b in cc);
+      elsewhere = λ at ne. changed_elsewhere core flag b set words at (ne refl);
+      ends = λ done aim n. changed_ends core flag b set words aim n;
+      lines = λ x. absurd (cc);
+      rests = λ x. absurd (cc);
+      only = λ x. absurd (let e : true ≡ false = sym made ∙ x in cc);
     }
 
-pub change_facts : (layout : Layout) (s t : Sight) (c d : Private) (core : ℕ) (flag : FlagPlace) (set done : Bool) → c.out ≡ None → ChangesBy layout s c core flag set done t d → ChangeFacts layout s c core done t d
-change_facts LineFlags s t c d core flag set done empty (is, writes) = subst (λ b. ChangeFacts LineFlags s c core b t d) (sym is) (flag_facts s t c d core flag set empty writes)
-change_facts BitFlags s t c d core flag set done empty tries = bit_facts s t c d core flag set done empty tries
+pub change_facts : (layout : Layout) (s t : Sight) (c d : Private) (core : ℕ) (signal : Signal) (by : ℕ) (set done : Bool) → c.out ≡ None → ChangesBy layout s c core signal by set done t d → ChangeFacts layout s c core done t d
+change_facts LineFlags s t c d core signal by set done empty (is, writes) =
+    subst (λ x. ChangeFacts LineFlags s c core x t d) (sym is) (flag_facts s t c d core (signal_at LineFlags signal by) set empty writes)
+change_facts BitFlags s t c d core signal by set done empty (tries, turns) = bit_facts s t c d core (signal_at BitFlags signal by) by set done empty tries

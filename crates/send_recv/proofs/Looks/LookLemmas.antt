@@ -20,7 +20,8 @@ use Rattle.scc_proto.proofs.Layouts.Roles.{own_word, role_spare_line, role_spare
 use Rattle.scc_proto.proofs.Layouts.PlaceMoves.{idle_loaded, signal_loaded, signal_bits_loaded}
 use Rattle.put_get.specs.Accesses.{loads_of}
 use Rattle.put_get.specs.Cores.{Private}
-use Rattle.send_recv.specs.Flags.{is_set, Looks}
+use Rattle.sync_flags.specs.Flags.{is_set_in}
+use Rattle.send_recv.specs.Flags.{Looks}
 use Rattle.send_recv.specs.Turns.{HoldsNoneBy, HoldsNone}
 use Rattle.send_recv.specs.Steps.{own_core, line_at}
 
@@ -128,7 +129,7 @@ at_itself Ready j value = ap (λ b. b && (value == 1)) (eqb_same j)
 
 looks_by : (layout : Layout) (signal : Signal) (s t : Sight) (j : ℕ) (words : List ℕ) → s.seat.setup.layout ≡ layout → IsSetup s.seat.setup → are_peers s.seat.setup s.seat.rank j ≡ true
     → HoldsNoneBy layout (record_in s).held → Did s (loads_of (line_of_word (flag_word (own_core s.seat) (signal_at layout signal j))) words) t
-    → LooksAt s t signal j (is_set layout (signal_at layout signal j) (slice_index words (signal_at layout signal j).word))
+    → LooksAt s t signal j (is_set_in (signal_at layout signal j).bit (slice_index words (signal_at layout signal j).word))
 looks_by LineFlags signal s t j words lines valid peers hands did = record {
   looked = record {
     seen = seen_alone signal (look_at j (slice_index words 0));
@@ -143,7 +144,7 @@ looks_by BitFlags signal s t j words bits valid peers hands did =
         seen = λ at. look_at_bits s.seat.setup s.seat.rank (slice_index words (signal_word at));
         is = record_did s _ t did ∙ bits_line s.seat (record_in s) words valid bits p.one (hands (own_core s.seat));
       };
-      tells = ap (λ b. b && (is_set BitFlags (signal_at BitFlags signal j) (slice_index words (signal_word signal)))) peers;
+      tells = ap (λ b. b && (is_set_in (Some j) (slice_index words (signal_word signal)))) peers;
     }
 
 -- a look at the flag of a signal that rank j raises

@@ -12,11 +12,11 @@ use Rattle.scc_proto.specs.Ports.{Seat}
 use Rattle.put_get.specs.Accesses.{loads_of}
 use Rattle.put_get.specs.Cores.{Private, Fills}
 use Rattle.put_get.proofs.FillLemmas.{fills_held}
-use Rattle.sync_flags.specs.Tries.{tries_at, all_vain, spot_of, Tried, Vain, Fruitful}
+use Rattle.sync_flags.specs.Flags.{is_set_in}
+use Rattle.sync_flags.specs.Tries.{Aim, AtFlag, tries_at, all_vain, spot_of, Tried, Vain, Fruitful}
 use Rattle.sync_flags.proofs.RowLemmas.{flag_tried}
 use Rattle.send_recv.specs.declared.stages.RecvStage.{RecvStage}
 use Rattle.send_recv.specs.declared.stages.RecvStage.TheVariants.{Look, Header, Lower, Lines, Raise, Finished}
-use Rattle.send_recv.specs.Flags.{bit_of, is_set}
 use Rattle.send_recv.specs.Ops.{RecvAt}
 use Rattle.send_recv.specs.Receiving.{spot_by, recv_spot, IsRecvSpot}
 use Rattle.send_recv.specs.Steps.{own_core, core_of, signal_flag, flag_spot}
@@ -24,24 +24,33 @@ use Rattle.send_recv.specs.Tries.{aim_of, aim_at}
 use Rattle.send_recv.specs.Turns.{LastHeld, Last}
 
 -- the loads of a flag's line are one look at the flag, vain where the flag is not set
-pub look_tried : (layout : Layout) (core : ℕ) (flag : FlagPlace) (words : List ℕ) (found : Bool) (spot : Option Spot) → flag.word < 4 → found ≡ is_set layout flag (slice_index words flag.word)
-    → spot ≡ Some (flag_spot core flag) → flag_spot core flag ≡ spot_of (aim_of layout (flag_spot core flag))
+pub look_tried : (layout : Layout) (core : ℕ) (flag : FlagPlace) (words : List ℕ) (found : Bool) (spot : Option Spot) → flag.word < 4 → found ≡ is_set_in flag.bit (slice_index words flag.word)
+    → spot ≡ Some (flag_spot core flag) → aim_of layout (flag_spot core flag) ≡ AtFlag (flag_word core flag) flag.bit true
     → Tried (aim_at layout spot) (loads_of (line_of_word (flag_word core flag)) words) (if found then None else Some (flag_spot core flag))
-look_tried layout core flag words found spot below tells at same = by found tells
+look_tried layout core flag words found spot below tells at aims = by found tells
   where
-    tried : (tries_at (aim_of layout (flag_spot core flag)) (loads_of (line_of_word (flag_word core flag)) words) ≡ 1)
-        × (all_vain (aim_of layout (flag_spot core flag)) false (loads_of (line_of_word (flag_word core flag)) words) ≡ not (is_set layout flag (slice_index words flag.word)))
-    tried = flag_tried (flag_word core flag) (bit_of layout flag.bit) true words below
+    aimed : aim_at layout spot ≡ Some (AtFlag (flag_word core flag) flag.bit true)
+    aimed = ap (λ (o : Option Spot). aim_at layout o) at ∙ ap (λ (x : Aim). Some x) aims
 
-    by : (b : Bool) → b ≡ is_set layout flag (slice_index words flag.word)
+    tried : (tries_at (AtFlag (flag_word core flag) flag.bit true) (loads_of (line_of_word (flag_word core flag)) words) ≡ 1)
+        × (all_vain (AtFlag (flag_word core flag) flag.bit true) false (loads_of (line_of_word (flag_word core flag)) words)
+        ≡ not (is_set_in flag.bit (slice_index words flag.word)))
+    tried = flag_tried (flag_word core flag) flag.bit true words below
+
+    by : (b : Bool) → b ≡ is_set_in flag.bit (slice_index words flag.word)
         → Tried (aim_at layout spot) (loads_of (line_of_word (flag_word core flag)) words) (if b then None else Some (flag_spot core flag))
-    by true t = Fruitful (aim_of layout (flag_spot core flag)) (ap (λ (o : Option Spot). aim_at layout o) at) tried.0 (tried.1 ∙ ap (λ (x : Bool). not x) (sym t)) refl
-    by false t = Vain (aim_of layout (flag_spot core flag)) (ap (λ (o : Option Spot). aim_at layout o) at) tried.0 (tried.1 ∙ ap (λ (x : Bool). not x) (sym t)) (ap (λ (x : Spot). Some x) same)
+    by true t = Fruitful (AtFlag (flag_word core flag) flag.bit true) aimed tried.0 (tried.1 ∙ ap (λ (x : Bool). not x) (sym t)) refl
+    by false t = Vain (AtFlag (flag_word core flag) flag.bit true) aimed tried.0 (tried.1 ∙ ap (λ (x : Bool). not x) (sym t)) refl
+
+-- a try at the spot of a signal's flag is one at the flag
+pub signal_aims : (layout : Layout) (signal : Signal) (core j : ℕ)
+    → aim_of layout (flag_spot core (signal_at layout signal j)) ≡ AtFlag (flag_word core (signal_at layout signal j)) (signal_at layout signal j).bit true
+signal_aims LineFlags signal core j = refl
+signal_aims BitFlags signal core j = refl
 
 -- the spot of a signal's flag is that of the try at it
 pub signal_aimed : (layout : Layout) (signal : Signal) (core j : ℕ) → flag_spot core (signal_at layout signal j) ≡ spot_of (aim_of layout (flag_spot core (signal_at layout signal j)))
-signal_aimed LineFlags signal core j = refl
-signal_aimed BitFlags signal core j = refl
+signal_aimed layout signal core j = ap (λ (a : Aim). spot_of a) (sym (signal_aims layout signal core j))
 
 -- a spot of a receive is the flag that it looks at, or a register
 pub spot_cases : (P : Spot → Type 0) (layout : Layout) (own other from : ℕ) (stage : RecvStage) (at : Spot) → spot_by layout own other from stage ≡ Some at

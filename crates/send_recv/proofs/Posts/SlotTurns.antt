@@ -1,5 +1,5 @@
 -- The turns of a slot: it looks whether its message was taken, or lowers the flag that said so.
-use Rattle.std.proofs.Common.{◌≡◌, inl, inr, ℕ, Bool, true, false, ◌==◌, ◌&&◌, if◌then◌else◌, List, [], Option, Some, None, IfSome, option_map, refl, sym, ◌∙◌, ap, subst, arith}
+use Rattle.std.proofs.Common.{◌≡◌, inl, inr, ℕ, Bool, true, false, ◌==◌, ◌&&◌, if◌then◌else◌, List, [], Option, Some, None, IfSome, option_map, unwrap_or, refl, sym, ◌∙◌, ap, subst, arith}
 use Rattle.scc_base.specs.Calls.{DataCall}
 use Rattle.scc_base.specs.Places.{WordAt, flag_word, line_of_word}
 use Rattle.scc_base.specs.Layouts.{signal_at}
@@ -40,7 +40,7 @@ use Rattle.send_recv.proofs.Looks.FlagMoves.{MovesFlag, may_change, flag_moved, 
 use Rattle.send_recv.proofs.Looks.LookLemmas.{looks_at}
 use Rattle.send_recv.proofs.Receiving.LookTurn.{looked_post, looked_rest, looked_calls}
 use Rattle.send_recv.proofs.Receiving.HeadTurn.{post_kept, post_itself}
-use Rattle.send_recv.proofs.Looks.TryLemmas.{look_tried, signal_aimed, signal_low, look_held}
+use Rattle.send_recv.proofs.Looks.TryLemmas.{look_tried, signal_aims, signal_low, look_held}
 use Rattle.put_get.proofs.FillLemmas.{fills_out, fills_evictions}
 use Rattle.send_recv.proofs.Looks.ChangeFacts.{change_facts}
 use Rattle.send_recv.proofs.Receiving.FlagTurns.{went_on}
@@ -218,10 +218,10 @@ slot_look_turn found s t c d slot to valid h empty hands full unseen looks =
         did = looks.looks.did;
         does = slot_does (with_slot s c slot) (Some to) false (moves_on (moved_or_waits found (flag_spot own flag))) found t d full unseen (moved_is found (flag_spot own flag)) looks;
         tried = tried_by found (flag_spot own flag) (aim_at layout (slot_spot s.seat slot)) _
-            (look_tried layout own flag looks.words found (slot_spot s.seat slot) (signal_low layout Ready to) looks.is spot (signal_aimed layout Ready own to));
+            (look_tried layout own flag looks.words found (slot_spot s.seat slot) (signal_low layout Ready to) looks.is spot (signal_aims layout Ready own to));
         freed = refl;
         rests = λ spot e. refl;
-        only = look_only found layout (flag_word own flag) flag.bit looks.words;
+        only = look_only found layout (flag_word own flag) (unwrap_or flag.bit 0) looks.words;
         nothing = λ e. never_done found (flag_spot own flag) e;
         means = look_means found slot (flag_spot own flag) to full unseen;
         stage = ap (λ (r : Record). r.stage) l.looked.is ∙ looked_free (l.looked.seen Ready) (record_in s).stage f.free;
@@ -246,7 +246,7 @@ answered_is s slot to h full seen =
 
 -- lowering the flag is this move
 lowers_ready : (s : Sight) (slot : SlotAt) (to : ℕ) → IsSetup s.seat.setup → SlotStands s.seat (record_in s) slot → slot.to ≡ Some to → slot.seen ≡ true
-    → MovesFlag s.seat.setup.layout s.seat (record_in s) s.seat.rank (signal_flag s.seat Ready to) false (LowerSignal Ready to)
+    → MovesFlag s.seat.setup.layout s.seat (record_in s) s.seat.rank Ready to false (LowerSignal Ready to)
 lowers_ready s slot to valid h full seen =
     let f = is_full s slot to h full in
     let peers : are_peers s.seat.setup s.seat.rank to ≡ true = subst (λ (o : Option ℕ). IfSome o (λ j. are_peers s.seat.setup s.seat.rank j ≡ true)) full h.peers in
@@ -255,7 +255,7 @@ lowers_ready s slot to valid h full seen =
 
 pub may_lower_slot : (s : Sight) (c : Private) (slot : SlotAt) (to : ℕ) → IsSetup s.seat.setup → SlotStands s.seat (record_in s) slot → c.out ≡ None → HoldsNone s.seat.setup.layout (record_in s)
     → slot.to ≡ Some to → slot.seen ≡ true → MayChange s c (own_core s.seat) (signal_flag s.seat Ready to) false
-may_lower_slot s c slot to valid h empty hands full seen = may_change s c s.seat.rank (signal_flag s.seat Ready to) false (LowerSignal Ready to) valid hands empty (lowers_ready s slot to valid h full seen)
+may_lower_slot s c slot to valid h empty hands full seen = may_change s c s.seat.rank Ready to false (LowerSignal Ready to) valid hands empty (lowers_ready s slot to valid h full seen)
 
 spot_lines : (layout : Layout) (own to : ℕ) → layout ≡ LineFlags → slot_spot_by layout own (Some to) true ≡ None
 spot_lines LineFlags own to e = refl
@@ -277,8 +277,8 @@ lower_goes s t c d slot to valid h empty hands full seen changes =
     let own = own_core s.seat in
     let f = is_full s slot to h full in
     let peers : are_peers s.seat.setup s.seat.rank to ≡ true = subst (λ (o : Option ℕ). IfSome o (λ j. are_peers s.seat.setup s.seat.rank j ≡ true)) full h.peers in
-    let is = flag_moved s t c d s.seat.rank (signal_flag s.seat Ready to) false (LowerSignal Ready to) valid hands empty (lowers_ready s slot to valid h full seen) changes in
-    let facts = change_facts layout s t c d own (signal_flag s.seat Ready to) false true empty changes in
+    let is = flag_moved s t c d s.seat.rank Ready to false (LowerSignal Ready to) valid hands empty (lowers_ready s slot to valid h full seen) changes in
+    let facts = change_facts layout s t c d own Ready to false true empty changes in
     let before : slot_left slot ≡ 1 = ap (λ (o : Option ℕ). slot_left_by o slot.seen) full ∙ ap (λ b. if b then 1 else 2) seen in
     record {
       stands = record { to = sym (ap (λ (r : Record). option_map (λ (p : OnItsWay). p.to) r.post) is); seen = λ e. absurd (cc); peers = tt };
@@ -310,8 +310,8 @@ lower_waits s t c d slot to valid h empty hands full seen changes =
     let layout = s.seat.setup.layout in
     let own = own_core s.seat in
     let peers : are_peers s.seat.setup s.seat.rank to ≡ true = subst (λ (o : Option ℕ). IfSome o (λ j. are_peers s.seat.setup s.seat.rank j ≡ true)) full h.peers in
-    let m = missed_by layout s t c d own (signal_flag s.seat Ready to) false valid hands changes in
-    let facts = change_facts layout s t c d own (signal_flag s.seat Ready to) false false empty changes in
+    let m = missed_by layout s t c d own Ready to false valid hands changes in
+    let facts = change_facts layout s t c d own Ready to false false empty changes in
     record {
       stands = subst (λ (x : Seat). SlotStands x (record_in t) slot) (sym (seat_kept s facts.events t facts.did)) (subst (λ (x : Record). SlotStands s.seat x slot) (sym m.same) h);
       turned = record {

@@ -66,14 +66,14 @@ lower_permitted size rec op bytes l =
 
 -- lowering the flag is this move
 lowers_sent : (s : Sight) (c : Private) (op : RecvAt) (bytes : List ℕ) → IsSetup s.seat.setup → RecvStands s c op bytes → op.stage ≡ Lower
-    → MovesFlag s.seat.setup.layout s.seat (record_in s) s.seat.rank (signal_flag s.seat Sent op.from) false (LowerSignal Sent op.from)
+    → MovesFlag s.seat.setup.layout s.seat (record_in s) s.seat.rank Sent op.from false (LowerSignal Sent op.from)
 lowers_sent s c op bytes valid r lower =
     let l = is_lowering s.seat (record_in s) c op bytes r lower in
     signal_lowers s.seat.setup.layout s Sent op.from refl valid r.peers (sent_turns s op.from l.header l.seen) (lower_permitted (chunk_of s.seat.setup) (record_in s) op bytes l)
 
 -- the flag may be lowered
 pub may_lower_turn : (s : Sight) (c : Private) (op : RecvAt) (bytes : List ℕ) → IsSetup s.seat.setup → RecvStands s c op bytes → op.stage ≡ Lower → MayChange s c (own_core s.seat) (signal_flag s.seat Sent op.from) false
-may_lower_turn s c op bytes valid r lower = may_change s c s.seat.rank (signal_flag s.seat Sent op.from) false (LowerSignal Sent op.from) valid r.hands r.empty (lowers_sent s c op bytes valid r lower)
+may_lower_turn s c op bytes valid r lower = may_change s c s.seat.rank Sent op.from false (LowerSignal Sent op.from) valid r.hands r.empty (lowers_sent s c op bytes valid r lower)
 
 -- the stage after the lowering
 begins : (size : ℕ) (op : RecvAt) (bytes : List ℕ) (header : Notes) (b : Bool) → (op.chunk == 0) ≡ b → (op.chunk ≡ 0 → SaysHead header op.head)
@@ -186,8 +186,8 @@ lower_goes b s t c d op bytes lines valid r lower changes =
     let layout = s.seat.setup.layout in
     let now : RecvAt = record op { stage = taken_stage b } in
     let l = is_lowering s.seat (record_in s) c op bytes r lower in
-    let is = flag_moved s t c d s.seat.rank (signal_flag s.seat Sent op.from) false (LowerSignal Sent op.from) valid r.hands r.empty (lowers_sent s c op bytes valid r lower) changes in
-    let facts = change_facts layout s t c d (own_core s.seat) (signal_flag s.seat Sent op.from) false true r.empty changes in
+    let is = flag_moved s t c d s.seat.rank Sent op.from false (LowerSignal Sent op.from) valid r.hands r.empty (lowers_sent s c op bytes valid r lower) changes in
+    let facts = change_facts layout s t c d (own_core s.seat) Sent op.from false true r.empty changes in
     let rest : KeepsAllButMessages (record_in s) (record_in t) = record {
       flips = ap (λ (x : Record). x.flips) is;
       hold = ap (λ (x : Record). x.held) is;

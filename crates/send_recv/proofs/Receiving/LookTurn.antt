@@ -30,7 +30,7 @@ use Rattle.send_recv.specs.Steps.{own_core, core_of, signal_flag, flag_spot, aft
 use Rattle.send_recv.specs.Turns.{HoldsNone, IsSamePost, KeepsAllButMessages}
 use Rattle.send_recv.specs.Ranks.{Receiver, receiving}
 use Rattle.send_recv.proofs.Looks.LookLemmas.{IsLooked, looks_at}
-use Rattle.send_recv.proofs.Looks.TryLemmas.{look_tried, signal_aimed, look_elsewhere, le_self, signal_low, look_held}
+use Rattle.send_recv.proofs.Looks.TryLemmas.{look_tried, signal_aims, look_elsewhere, le_self, signal_low, look_held}
 use Rattle.put_get.proofs.FillLemmas.{fills_out, fills_evictions}
 
 -- a turn of a receive, and where it stands afterwards
@@ -133,7 +133,7 @@ look_waits s t c d op bytes valid r look looks =
         did = looks.looks.did;
         does = recv_does (receiving s c op bytes) Look false t d look looks;
         tried = look_tried s.seat.setup.layout (own_core s.seat) (signal_flag s.seat Sent op.from) looks.words false (recv_spot s.seat op) (signal_low s.seat.setup.layout Sent op.from) looks.is
-            (at_look s.seat op look) (signal_aimed s.seat.setup.layout Sent (own_core s.seat) op.from);
+            (at_look s.seat op look) (signal_aims s.seat.setup.layout Sent (own_core s.seat) op.from);
         freed = refl;
         elsewhere = λ at other ne. look_elsewhere s.seat op (own_core s.seat) looks.words at (at_look s.seat op look) other ne;
         fuller = le_self _;
@@ -216,7 +216,7 @@ look_finds s t c d op bytes b first valid r look looks =
         did = looks.looks.did;
         does = recv_does (receiving s c op bytes) Look true t d look looks;
         tried = look_tried s.seat.setup.layout (own_core s.seat) (signal_flag s.seat Sent op.from) looks.words true (recv_spot s.seat op) (signal_low s.seat.setup.layout Sent op.from) looks.is
-            (at_look s.seat op look) (signal_aimed s.seat.setup.layout Sent (own_core s.seat) op.from);
+            (at_look s.seat op look) (signal_aims s.seat.setup.layout Sent (own_core s.seat) op.from);
         freed = refl;
         elsewhere = λ at other ne. look_elsewhere s.seat op (own_core s.seat) looks.words at (at_look s.seat op look) other ne;
         fuller = seen_fuller size op b look;

@@ -47,7 +47,7 @@ raise_takes size rec op bytes r = ap (λ (st : Stage). is_taking op.from st) r.t
 
 -- raising the flag is this move
 raises_ready : (s : Sight) (c : Private) (op : RecvAt) (bytes : List ℕ) → IsSetup s.seat.setup → RecvStands s c op bytes → op.stage ≡ Raise
-    → MovesFlag s.seat.setup.layout s.seat (record_in s) op.from (signal_flag s.seat Ready s.seat.rank) true (RaiseSignal Ready op.from)
+    → MovesFlag s.seat.setup.layout s.seat (record_in s) op.from Ready s.seat.rank true (RaiseSignal Ready op.from)
 raises_ready s c op bytes valid r raise =
     let l = is_raising s.seat (record_in s) c op bytes r raise in
     signal_raises s.seat.setup.layout s Ready op.from refl valid r.peers (ready_is_clear s op.from (raise_takes (chunk_of s.seat.setup) (record_in s) op bytes l)) (raise_permitted (chunk_of s.seat.setup) (record_in s) op bytes l)
@@ -55,13 +55,13 @@ raises_ready s c op bytes valid r raise =
 -- the flag may be raised
 pub may_raise_turn : (s : Sight) (c : Private) (op : RecvAt) (bytes : List ℕ) → IsSetup s.seat.setup → RecvStands s c op bytes → op.stage ≡ Raise
     → MayChange s c (core_of s.seat op.from) (signal_flag s.seat Ready s.seat.rank) true
-may_raise_turn s c op bytes valid r raise = may_change s c op.from (signal_flag s.seat Ready s.seat.rank) true (RaiseSignal Ready op.from) valid r.hands r.empty (raises_ready s c op bytes valid r raise)
+may_raise_turn s c op bytes valid r raise = may_change s c op.from Ready s.seat.rank true (RaiseSignal Ready op.from) valid r.hands r.empty (raises_ready s c op bytes valid r raise)
 
 -- and then the record is
 pub ready_is_raised : (s t : Sight) (c d : Private) (op : RecvAt) (bytes : List ℕ) → IsSetup s.seat.setup → RecvStands s c op bytes → op.stage ≡ Raise
     → Changes s c (core_of s.seat op.from) (signal_flag s.seat Ready s.seat.rank) true true t d → record_in t ≡ after (chunk_of s.seat.setup) (RaiseSignal Ready op.from) (record_in s)
 ready_is_raised s t c d op bytes valid r raise changes =
-    flag_moved s t c d op.from (signal_flag s.seat Ready s.seat.rank) true (RaiseSignal Ready op.from) valid r.hands r.empty (raises_ready s c op bytes valid r raise) changes
+    flag_moved s t c d op.from Ready s.seat.rank true (RaiseSignal Ready op.from) valid r.hands r.empty (raises_ready s c op bytes valid r raise) changes
 
 -- ---- the bytes of the chunk
 

@@ -1,7 +1,6 @@
 -- The turns of a receive that change a flag, by what the try at the flag's register came to.
 use Rattle.std.proofs.Common.{◌≡◌, ◌≢◌, ℕ, ◌+◌, ◌-◌, ◌*◌, ◌<◌, ◌≤◌, Bool, true, false, ◌==◌, if◌then◌else◌, List, [], ◌∷◌, ◌++◌, Option, Some, None, refl, sym, ◌∙◌, ap, subst, arith}
 use Rattle.scc_base.specs.Calls.{Recv}
-use Rattle.scc_base.specs.Places.{FlagPlace}
 use Rattle.scc_base.specs.Layouts.{chunk_size}
 use Rattle.scc_base.specs.Setups.{IsSetup}
 use Rattle.scc_base.specs.Events.{take_of}
@@ -10,6 +9,7 @@ use Rattle.scc_base.specs.declared.events.Spot.{Spot}
 use Rattle.scc_base.specs.declared.events.Spot.TheVariants.{Register}
 use Rattle.scc_base.specs.declared.layouts.Layout.{Layout}
 use Rattle.scc_base.specs.declared.layouts.Layout.TheVariants.{LineFlags, BitFlags}
+use Rattle.scc_base.specs.declared.signals.Signal.{Signal}
 use Rattle.scc_base.specs.declared.signals.Signal.TheVariants.{Sent, Ready}
 use Rattle.scc_proto.specs.Stages.{Record}
 use Rattle.scc_proto.specs.Records.{chunk_of}
@@ -24,7 +24,9 @@ use Rattle.send_recv.specs.declared.stages.RecvStage.{RecvStage}
 use Rattle.send_recv.specs.declared.stages.RecvStage.TheVariants.{Look, Lower, Raise, Finished}
 use Rattle.send_recv.specs.declared.answers.RecvTurn.TheVariants.{Moved, Waiting, Done}
 use Rattle.send_recv.specs.Chunks.{chunk_count, chunk_start, chunk_len, lines_from, is_last_chunk}
-use Rattle.send_recv.specs.Flags.{Changes, ChangesBy, Missed, Changed}
+use Rattle.sync_flags.specs.Writes.{RegisterTaken, BitChanged}
+use Rattle.send_recv.specs.Flags.{Changes}
+use Rattle.send_recv.proofs.Looks.SignalFlags.{ChangesBy}
 use Rattle.send_recv.specs.Ops.{RecvAt, is_received}
 use Rattle.send_recv.specs.Receiving.{IsReceiving, RecvStands, RecvDoes, lines_now, spot_by, recv_spot, recv_left, recv_left_by, lines_left, lines_left_by, flag_lines, is_look, filled_to, filled_by}
 use Rattle.send_recv.specs.Steps.{own_core, core_of, signal_flag, after_lower, after_raise, recv_or_waits, raise_answer}
@@ -46,13 +48,13 @@ pub record Missing (s : Sight) (c : Private) (t : Sight) (d : Private) : Type 0 
   pub same : record_in t ≡ record_in s
   pub core : d ≡ c
 
-pub missed_by : (layout : Layout) (s t : Sight) (c d : Private) (core : ℕ) (flag : FlagPlace) (set : Bool) → IsSetup s.seat.setup → HoldsNoneBy layout (record_in s).held → ChangesBy layout s c core flag set false t d → Missing s c t d
-missed_by LineFlags s t c d core flag set valid hands (is, writes) = absurd (cc)
-missed_by BitFlags s t c d core flag set valid hands (Missed missed did e) = record {
+pub missed_by : (layout : Layout) (s t : Sight) (c d : Private) (core : ℕ) (signal : Signal) (by : ℕ) (set : Bool) → IsSetup s.seat.setup → HoldsNoneBy layout (record_in s).held → ChangesBy layout s c core signal by set false t d → Missing s c t d
+missed_by LineFlags s t c d core signal by set valid hands (is, writes) = absurd (cc)
+missed_by BitFlags s t c d core signal by set valid hands (RegisterTaken missed did e, turns) = record {
   same = record_did_one s (take_of core false) t did ∙ (register_missed s.seat (record_in s) valid core (hands core)).becomes;
   core = e;
 }
-missed_by BitFlags s t c d core flag set valid hands (Changed made words turns did m fills e) = absurd (cc)
+missed_by BitFlags s t c d core signal by set valid hands (BitChanged made words loaded did m fills e, turns) = absurd (cc)
 
 pub waits_tried : (layout : Layout) (spot : Option Spot) (core : ℕ) (events : List Event) → (layout ≡ BitFlags → spot ≡ Some (Register core)) → (layout ≡ BitFlags → tries_at (AtRegister core) events ≡ 1)
     → (layout ≡ BitFlags → all_vain (AtRegister core) false events ≡ true) → (layout ≡ LineFlags → false ≡ true) → Tried (aim_at layout spot) events (Some (Register core))
@@ -62,12 +64,12 @@ waits_tried BitFlags spot core events some tries vain lines = Vain (AtRegister c
 still_work : (events a b x z : ℕ) → events + 4 * a ≤ 4 * b + 4 * 0 → events + 4 * a ≤ 4 * b + 4 * ((x - x) + z)
 still_work events a b x z le = omega (arith, le)
 
-register_waits : (s t : Sight) (c d : Private) (op : RecvAt) (bytes : List ℕ) (core : ℕ) (flag : FlagPlace) (set : Bool) → IsSetup s.seat.setup → RecvStands s c op bytes → IsFlagWord s.seat.setup core flag
-    → (s.seat.setup.layout ≡ BitFlags → recv_spot s.seat op ≡ Some (Register core)) → Changes s c core flag set false t d → RecvDoes (receiving s c op bytes) op.stage false t d → Turns s c op bytes t d op bytes (Waiting (Register core))
-register_waits s t c d op bytes core flag set valid r plain spot changes does =
+register_waits : (s t : Sight) (c d : Private) (op : RecvAt) (bytes : List ℕ) (core : ℕ) (signal : Signal) (by : ℕ) (set : Bool) → IsSetup s.seat.setup → RecvStands s c op bytes → IsFlagWord s.seat.setup core (signal_flag s.seat signal by)
+    → (s.seat.setup.layout ≡ BitFlags → recv_spot s.seat op ≡ Some (Register core)) → Changes s c core (signal_flag s.seat signal by) set false t d → RecvDoes (receiving s c op bytes) op.stage false t d → Turns s c op bytes t d op bytes (Waiting (Register core))
+register_waits s t c d op bytes core signal by set valid r plain spot changes does =
     let layout = s.seat.setup.layout in
-    let m = missed_by layout s t c d core flag set valid r.hands changes in
-    let facts = change_facts layout s t c d core flag set false r.empty changes in
+    let m = missed_by layout s t c d core signal by set valid r.hands changes in
+    let facts = change_facts layout s t c d core signal by set false r.empty changes in
     let rest : KeepsAllButMessages (record_in s) (record_in t) = record {
       flips = ap (λ (x : Record). x.flips) m.same;
       hold = ap (λ (x : Record). x.held) m.same;
@@ -88,7 +90,7 @@ register_waits s t c d op bytes core flag set valid r plain spot changes does =
         fewer = le_self _;
         rests = λ w e. facts.rests refl;
         only = facts.only refl;
-        no_drafts = change_drafts_none s t c d core flag set false r.empty plain changes facts.events facts.did;
+        no_drafts = change_drafts_none s t c d core (signal_flag s.seat signal by) set false r.empty plain changes facts.events facts.did;
         same = (refl, refl);
         means = (refl, refl, record { stage = ap (λ (x : Record). x.stage) m.same; post = post; rest = rest; calls = ap (λ (x : Record). x.calls) m.same });
         rest = rest;
@@ -106,7 +108,7 @@ pub lower_turn : (gone : Bool) (s t : Sight) (c d : Private) (op : RecvAt) (byte
     → Changes s c (own_core s.seat) (signal_flag s.seat Sent op.from) false gone t d
     → Turns s c op bytes t d (after_lower (chunk_of s.seat.setup) gone op) bytes (recv_or_waits gone (Register (own_core s.seat)))
 lower_turn true s t c d op bytes valid r lower changes = lower_goes (lines_now (chunk_of s.seat.setup) op == 0) s t c d op bytes refl valid r lower changes
-lower_turn false s t c d op bytes valid r lower changes = register_waits s t c d op bytes (own_core s.seat) (signal_flag s.seat Sent op.from) false valid r
+lower_turn false s t c d op bytes valid r lower changes = register_waits s t c d op bytes (own_core s.seat) Sent op.from false valid r
     (signal_is_flag s.seat valid Sent op.from s.seat.rank (peers_swap s.seat.setup s.seat.rank op.from r.peers))
     (at_lower s.seat op lower) changes (recv_does (receiving s c op bytes) Lower false t d lower changes)
 
@@ -171,7 +173,7 @@ raise_last s t c d op bytes last valid r raise changes =
     let now : RecvAt = record op { stage = Finished } in
     let l = is_raising s.seat (record_in s) c op bytes r raise in
     let is = ready_is_raised s t c d op bytes valid r raise changes in
-    let facts = change_facts layout s t c d (core_of s.seat op.from) (signal_flag s.seat Ready s.seat.rank) true true r.empty changes in
+    let facts = change_facts layout s t c d (core_of s.seat op.from) Ready s.seat.rank true true r.empty changes in
     let ends = raised_calls layout (record_in s) (record_in t) op bytes l r.long r.in_hand last is in
     let below = r.in_hand in
     let rest : KeepsAllButMessages (record_in s) (record_in t) = record {
@@ -218,7 +220,7 @@ raise_next s t c d op bytes more valid r raise changes =
     let now : RecvAt = record op { chunk = op.chunk + 1; stage = Look } in
     let l = is_raising s.seat (record_in s) c op bytes r raise in
     let is = ready_is_raised s t c d op bytes valid r raise changes in
-    let facts = change_facts layout s t c d (core_of s.seat op.from) (signal_flag s.seat Ready s.seat.rank) true true r.empty changes in
+    let facts = change_facts layout s t c d (core_of s.seat op.from) Ready s.seat.rank true true r.empty changes in
     let goes = raised_stage layout (record_in s) (record_in t) op bytes l r.long r.in_hand more is in
     let low = le_not op.head.len (size * (op.chunk + 1)) more in
     let rest : KeepsAllButMessages (record_in s) (record_in t) = record {
@@ -286,6 +288,6 @@ pub raise_turn : (gone : Bool) (s t : Sight) (c d : Private) (op : RecvAt) (byte
     → Changes s c (core_of s.seat op.from) (signal_flag s.seat Ready s.seat.rank) true gone t d
     → Turns s c op bytes t d (after_raise (chunk_of s.seat.setup) gone op) bytes (raise_answer (chunk_of s.seat.setup) gone (Register (core_of s.seat op.from)) op)
 raise_turn true s t c d op bytes valid r raise changes = raise_by (is_last_chunk (chunk_of s.seat.setup) op.head.len op.chunk) s t c d op bytes refl valid r raise changes
-raise_turn false s t c d op bytes valid r raise changes = register_waits s t c d op bytes (core_of s.seat op.from) (signal_flag s.seat Ready s.seat.rank) true valid r
+raise_turn false s t c d op bytes valid r raise changes = register_waits s t c d op bytes (core_of s.seat op.from) Ready s.seat.rank true valid r
     (signal_is_flag s.seat valid Ready s.seat.rank op.from r.peers)
     (at_raise s.seat op raise) changes (recv_does (receiving s c op bytes) Raise false t d raise changes)

@@ -1,5 +1,5 @@
 -- The turn of a send that looks whether the chunk was taken.
-use Rattle.std.proofs.Common.{◌≡◌, ◌⊎◌, inl, inr, ℕ, ◌+◌, ◌-◌, ◌*◌, ◌<◌, Bool, true, false, List, Option, Some, None, option_map, refl, sym, ◌∙◌, ap, subst, arith}
+use Rattle.std.proofs.Common.{◌≡◌, ◌⊎◌, inl, inr, ℕ, ◌+◌, ◌-◌, ◌*◌, ◌<◌, Bool, true, false, List, Option, Some, None, option_map, unwrap_or, refl, sym, ◌∙◌, ap, subst, arith}
 use Rattle.scc_base.specs.Places.{flag_word, line_of_word}
 use Rattle.scc_base.specs.Layouts.{signal_at}
 use Rattle.scc_base.specs.declared.signals.Signal.TheVariants.{Ready}
@@ -31,7 +31,7 @@ use Rattle.send_recv.specs.Tries.{aim_at}
 use Rattle.send_recv.specs.Turns.{IsAtRest}
 use Rattle.send_recv.proofs.Looks.LookLemmas.{looks_at}
 use Rattle.send_recv.proofs.Receiving.LookTurn.{holds_kept, looked_post, looked_rest, looked_calls}
-use Rattle.send_recv.proofs.Looks.TryLemmas.{look_tried, signal_aimed, signal_low, look_held}
+use Rattle.send_recv.proofs.Looks.TryLemmas.{look_tried, signal_aims, signal_low, look_held}
 use Rattle.put_get.proofs.FillLemmas.{fills_out, fills_evictions}
 use Rattle.send_recv.proofs.Lines.DraftNone.{look_drafts_none}
 use Rattle.send_recv.proofs.Posts.SlotTurns.{moved_is, tried_by, never_done, look_only}
@@ -129,11 +129,11 @@ look_turn found s t c d op slot bytes valid r look looks =
         did = looks.looks.did;
         does = send_does (sending s c op slot bytes) Look (moves_on (moved_or_waits found (flag_spot own flag))) found t d look (moved_is found (flag_spot own flag)) looks;
         tried = tried_by found (flag_spot own flag) (aim_at layout (send_spot s.seat op slot)) _
-            (look_tried layout own flag looks.words found (send_spot s.seat op slot) (signal_low layout Ready op.to) looks.is spot (signal_aimed layout Ready own op.to));
+            (look_tried layout own flag looks.words found (send_spot s.seat op slot) (signal_low layout Ready op.to) looks.is spot (signal_aims layout Ready own op.to));
         freed = refl;
         ends = λ e. never_done found (flag_spot own flag) e;
         rests = λ spot e. refl;
-        only = look_only found layout (flag_word own flag) flag.bit looks.words;
+        only = look_only found layout (flag_word own flag) (unwrap_or flag.bit 0) looks.words;
         same = same_op found op;
         means = look_means found s t c d op slot bytes (flag_spot own flag) look calls
             (λ missed. record { stage = stage ∙ ap (λ b. Sending op.to (part_seen b at.3) message up.chunk) missed ∙ sym up.stage_is; post = post; rest = rest; calls = calls });

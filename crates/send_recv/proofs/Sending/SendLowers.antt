@@ -50,7 +50,7 @@ use Rattle.send_recv.proofs.Sending.SendWaits.{no_stores, register_waits, next_a
 
 -- lowering the flag is this move
 lowers_ready : (s : Sight) (op : SendAt) (bytes : List ℕ) → IsSetup s.seat.setup → are_peers s.seat.setup s.seat.rank op.to ≡ true → IsUp (chunk_of s.seat.setup) (record_in s).stage op bytes Answered
-    → MovesFlag s.seat.setup.layout s.seat (record_in s) s.seat.rank (signal_flag s.seat Ready op.to) false (LowerSignal Ready op.to)
+    → MovesFlag s.seat.setup.layout s.seat (record_in s) s.seat.rank Ready op.to false (LowerSignal Ready op.to)
 lowers_ready s op bytes valid peers up =
     signal_lowers s.seat.setup.layout s Ready op.to refl valid peers (ready_turns s op.to (ap (λ (st : Stage). is_answered op.to st (record_in s).post) up.stage_is ∙ eqb_same op.to))
     (ap (λ (st : Stage). may_go_on op.to st (record_in s).post) up.stage_is ∙ eqb_same op.to)
@@ -58,7 +58,7 @@ lowers_ready s op bytes valid peers up =
 pub may_lower_turn : (s : Sight) (c : Private) (op : SendAt) (slot : SlotAt) (bytes : List ℕ) → IsSetup s.seat.setup → SendStands s c op slot bytes → op.stage ≡ Lower → MayChange s c (own_core s.seat) (signal_flag s.seat Ready op.to) false
 may_lower_turn s c op slot bytes valid r lower =
     let at = at_stage s.seat (record_in s) c op slot bytes Lower r lower in
-    may_change s c s.seat.rank (signal_flag s.seat Ready op.to) false (LowerSignal Ready op.to) valid r.hands at.2 (lowers_ready s op bytes valid r.peers at.3)
+    may_change s c s.seat.rank Ready op.to false (LowerSignal Ready op.to) valid r.hands at.2 (lowers_ready s op bytes valid r.peers at.3)
 
 -- ---- the record after it
 
@@ -185,8 +185,8 @@ lower_goes b s t c d op slot bytes last valid small r lower changes =
     let layout = s.seat.setup.layout in
     let own = own_core s.seat in
     let at = at_stage s.seat (record_in s) c op slot bytes Lower r lower in
-    let is = flag_moved s t c d s.seat.rank (signal_flag s.seat Ready op.to) false (LowerSignal Ready op.to) valid r.hands at.2 (lowers_ready s op bytes valid r.peers at.3) changes in
-    let facts = change_facts layout s t c d own (signal_flag s.seat Ready op.to) false true at.2 changes in
+    let is = flag_moved s t c d s.seat.rank Ready op.to false (LowerSignal Ready op.to) valid r.hands at.2 (lowers_ready s op bytes valid r.peers at.3) changes in
+    let facts = change_facts layout s t c d own Ready op.to false true at.2 changes in
     record {
       stands = subst (λ (x : Seat). IsSending x (record_in t) d (next_op b op) slot bytes) (sym (seat_kept s facts.events t facts.did))
           (lower_stands b s.seat (record_in s) (record_in t) c d op slot bytes small last r lower is facts.out);
@@ -219,7 +219,7 @@ lower_by : (gone b : Bool) (s t : Sight) (c d : Private) (op : SendAt) (slot : S
 lower_by true b s t c d op slot bytes last valid small r lower changes = lower_goes b s t c d op slot bytes last valid small r lower changes
 lower_by false b s t c d op slot bytes last valid small r lower changes =
     let at = at_stage s.seat (record_in s) c op slot bytes Lower r lower in
-    register_waits s t c d op slot bytes (own_core s.seat) (signal_flag s.seat Ready op.to) false valid r at.2 (signal_is_flag s.seat valid Ready op.to s.seat.rank (peers_swap s.seat.setup s.seat.rank op.to r.peers))
+    register_waits s t c d op slot bytes (own_core s.seat) Ready op.to false valid r at.2 (signal_is_flag s.seat valid Ready op.to s.seat.rank (peers_swap s.seat.setup s.seat.rank op.to r.peers))
     (λ e. spot_at s.seat op slot Lower lower ∙ spot_bits s.seat.setup.layout (own_core s.seat) (core_of s.seat op.to) op.to (slot_spot s.seat slot) e) changes
     (send_does (sending s c op slot bytes) Lower false false t d lower refl changes)
 

@@ -27,11 +27,12 @@ use Rattle.put_get.specs.Cores.{Private}
 use Rattle.send_recv.specs.declared.stages.SendStage.TheVariants.{Raise}
 use Rattle.send_recv.specs.Bytes.{words_at}
 use Rattle.send_recv.specs.Chunks.{chunk_start}
-use Rattle.send_recv.specs.Flags.{Changes, ChangesBy, MayChange, MayChangeBy}
+use Rattle.send_recv.specs.Flags.{Changes, MayChange}
 use Rattle.send_recv.specs.Ops.{SendAt, SlotAt}
 use Rattle.send_recv.specs.Sending.{HasDrafted, First, Later, IsBeforeRaise, IsSending, SendStands, lines_in_hand, own_line, header_words, waiting}
 use Rattle.send_recv.specs.Steps.{own_core, core_of, signal_flag}
 use Rattle.send_recv.specs.Turns.{HoldsNoneBy}
+use Rattle.send_recv.proofs.Looks.SignalFlags.{ChangesBy, MayChangeBy}
 use Rattle.send_recv.proofs.Looks.FlagMoves.{MovesFlag, may_change_by, flag_moved_by, signal_raises, sent_is_clear}
 use Rattle.send_recv.proofs.Lines.DraftWhole.{AreBytes, drafted_is, head_drafted, header_whole, begun_is}
 use Rattle.send_recv.proofs.Lines.WaitingOut.{waiting_out}
@@ -86,14 +87,14 @@ flag_other seat op bytes core (suc i) lines below =
 
 -- with bit flags all lines are drafted before the raise, which is one move
 raises_bit : (s : Sight) (c : Private) (op : SendAt) (slot : SlotAt) (bytes : List ℕ) → s.seat.setup.layout ≡ BitFlags → IsSetup s.seat.setup → AreBytes bytes → SendStands s c op slot bytes → (record_in s).post ≡ None
-    → HasDrafted (chunk_of s.seat.setup) (record_in s).stage op bytes (lines_in_hand (chunk_of s.seat.setup) op) → MovesFlag BitFlags s.seat (record_in s) op.to (signal_at BitFlags Sent s.seat.rank) true (RaiseSignal Sent op.to)
+    → HasDrafted (chunk_of s.seat.setup) (record_in s).stage op bytes (lines_in_hand (chunk_of s.seat.setup) op) → MovesFlag BitFlags s.seat (record_in s) op.to Sent s.seat.rank true (RaiseSignal Sent op.to)
 raises_bit s c op slot bytes bits valid small r none drafted =
     let drafting : is_drafting (record_in s).stage (record_in s).post ≡ true = ap (λ (o : Option OnItsWay). is_drafting (record_in s).stage o) none
     ∙ drafting_by (chunk_of s.seat.setup) (record_in s).stage op bytes (lines_in_hand (chunk_of s.seat.setup) op) drafted in
     signal_raises BitFlags s Sent op.to bits valid r.peers (sent_is_clear s op.to r.peers drafting) (permitted_by s.seat (record_in s) c (record_in s).stage op slot bytes small r none drafted)
 
 may_by : (layout : Layout) (s : Sight) (c : Private) (op : SendAt) (slot : SlotAt) (bytes : List ℕ) → s.seat.setup.layout ≡ layout → IsSetup s.seat.setup → AreBytes bytes → SendStands s c op slot bytes
-    → HoldsNoneBy layout (record_in s).held → (record_in s).post ≡ None → IsBeforeRaise layout s.seat (record_in s).stage c op bytes → MayChangeBy layout s c (core_of s.seat op.to) (signal_at layout Sent s.seat.rank) true
+    → HoldsNoneBy layout (record_in s).held → (record_in s).post ≡ None → IsBeforeRaise layout s.seat (record_in s).stage c op bytes → MayChangeBy layout s c (core_of s.seat op.to) Sent s.seat.rank true
 may_by LineFlags s c op slot bytes layout valid small r hands none before =
     let p = peers_are s.seat.setup s.seat.rank op.to r.peers in
     let size = chunk_of s.seat.setup in
@@ -106,7 +107,6 @@ may_by LineFlags s c op slot bytes layout valid small r hands none before =
     let may = permitted_by s.seat (record_in s) c l.new op slot bytes small r none l.drafted in
     let raised = signal_raised s.seat (record (record_in s) { stage = l.new }) valid layout Sent op.to r.peers may in
     record {
-      word_below = omega arith;
       other = subst (λ (o : Option Out). handed_out o (line_of_word (flag_word (core_of s.seat op.to) (signal_at LineFlags Sent s.seat.rank))) ≡ o) (sym out)
           (flag_other s.seat op bytes (core_of s.seat op.to) lines layout (omega (arith, within, one)));
       permitted = subst (λ (o : Option Out). MayMakeAll s.seat (record_in s) (stores_of o ++ store ∷ [])) (sym out)
@@ -114,7 +114,7 @@ may_by LineFlags s c op slot bytes layout valid small r hands none before =
           (subst (λ (x : Record). MayMakeAll s.seat x (store ∷ [])) (sym l.becomes) (raised.may, tt)));
     }
 may_by BitFlags s c op slot bytes bits valid small r hands none before =
-    may_change_by BitFlags s c op.to (signal_at BitFlags Sent s.seat.rank) true (RaiseSignal Sent op.to) bits valid hands before.0 (raises_bit s c op slot bytes bits valid small r none before.1)
+    may_change_by BitFlags s c op.to Sent s.seat.rank true (RaiseSignal Sent op.to) bits valid hands before.0 (raises_bit s c op slot bytes bits valid small r none before.1)
 
 pub may_raise_sent : (s : Sight) (c : Private) (op : SendAt) (slot : SlotAt) (bytes : List ℕ) → IsSetup s.seat.setup → AreBytes bytes → SendStands s c op slot bytes → op.stage ≡ Raise
     → MayChange s c (core_of s.seat op.to) (signal_flag s.seat Sent s.seat.rank) true
@@ -132,7 +132,7 @@ pub record SentRaised (s t : Sight) (op : SendAt) (bytes : List ℕ) : Type 0 wh
 
 raised_by : (layout : Layout) (s t : Sight) (c d : Private) (op : SendAt) (slot : SlotAt) (bytes : List ℕ) → s.seat.setup.layout ≡ layout → IsSetup s.seat.setup → AreBytes bytes → SendStands s c op slot bytes
     → HoldsNoneBy layout (record_in s).held → (record_in s).post ≡ None → IsBeforeRaise layout s.seat (record_in s).stage c op bytes
-    → ChangesBy layout s c (core_of s.seat op.to) (signal_at layout Sent s.seat.rank) true true t d → SentRaised s t op bytes
+    → ChangesBy layout s c (core_of s.seat op.to) Sent s.seat.rank true true t d → SentRaised s t op bytes
 raised_by LineFlags s t c d op slot bytes layout valid small r hands none before (done, writes) =
     let p = peers_are s.seat.setup s.seat.rank op.to r.peers in
     let lines = lines_in_hand (chunk_of s.seat.setup) op in
@@ -151,7 +151,7 @@ raised_by LineFlags s t c d op slot bytes layout valid small r hands none before
 raised_by BitFlags s t c d op slot bytes bits valid small r hands none before tries = record {
   new = (record_in s).stage;
   drafted = before.1;
-  is = flag_moved_by BitFlags s t c d op.to (signal_at BitFlags Sent s.seat.rank) true (RaiseSignal Sent op.to) bits valid hands before.0 (raises_bit s c op slot bytes bits valid small r none before.1) tries;
+  is = flag_moved_by BitFlags s t c d op.to Sent s.seat.rank true (RaiseSignal Sent op.to) bits valid hands before.0 (raises_bit s c op slot bytes bits valid small r none before.1) tries;
 }
 
 pub sent_is_raised : (s t : Sight) (c d : Private) (op : SendAt) (slot : SlotAt) (bytes : List ℕ) → IsSetup s.seat.setup → AreBytes bytes → SendStands s c op slot bytes → op.stage ≡ Raise

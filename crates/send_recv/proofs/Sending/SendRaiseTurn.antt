@@ -1,7 +1,8 @@
 -- The turn of a send that raises `sent`, with what was in the buffer before it.
 use Rattle.std.proofs.Common.{◌≡◌, inl, inr, ℕ, zero, suc, ◌+◌, ◌-◌, ◌*◌, ◌≤◌, Bool, true, false, ◌==◌, if◌then◌else◌, List, [], ◌∷◌, ◌++◌, Option, Some, None, refl, sym, ◌∙◌, ap, subst, arith}
 use Rattle.scc_base.specs.Calls.{Send, Post}
-use Rattle.scc_base.specs.Places.{WordAt, FlagPlace, flag_word}
+use Rattle.scc_base.specs.Places.{WordAt, flag_word}
+use Rattle.scc_base.specs.Layouts.{signal_at}
 use Rattle.scc_base.specs.Setups.{IsSetup}
 use Rattle.scc_base.specs.Events.{store_of}
 use Rattle.scc_base.specs.declared.events.Event.{Event}
@@ -10,6 +11,7 @@ use Rattle.scc_base.specs.declared.events.Spot.TheVariants.{Register}
 use Rattle.scc_base.specs.declared.events.Turn.TheVariants.{Waiting}
 use Rattle.scc_base.specs.declared.layouts.Layout.{Layout}
 use Rattle.scc_base.specs.declared.layouts.Layout.TheVariants.{LineFlags, BitFlags}
+use Rattle.scc_base.specs.declared.signals.Signal.{Signal}
 use Rattle.scc_base.specs.declared.signals.Signal.TheVariants.{Sent}
 use Rattle.scc_proto.specs.Stages.{Raised, Record}
 use Rattle.scc_proto.specs.Records.{chunk_of}
@@ -22,7 +24,8 @@ use Rattle.put_get.specs.Cores.{Private}
 use Rattle.put_get.specs.Transfers.{load_count}
 use Rattle.send_recv.specs.declared.stages.SendStage.TheVariants.{Raise, Look, Finished}
 use Rattle.send_recv.specs.Chunks.{chunk_count, lines_from}
-use Rattle.send_recv.specs.Flags.{Changes, ChangesBy}
+use Rattle.send_recv.specs.Flags.{Changes}
+use Rattle.send_recv.proofs.Looks.SignalFlags.{ChangesBy}
 use Rattle.send_recv.specs.Ops.{SendAt, SlotAt, is_sent}
 use Rattle.send_recv.specs.Receiving.{flag_lines}
 use Rattle.send_recv.specs.Sending.{SlotStands, IsBeforeRaise, IsAtSendStage, IsSending, SendStands, SendMeans, own_line, header_words, lines_in_hand, waiting, of_chunk, from_raise, send_spot, send_spot_by, slot_spot}
@@ -73,9 +76,10 @@ store_last p v (AtFlag place bit want) n = refl
 store_last p v (AtWord place value) n = refl
 store_last p v (AtRegister core) n = refl
 
-facts_by : (layout : Layout) (s t : Sight) (c d : Private) (op : SendAt) (bytes : List ℕ) (core : ℕ) (flag : FlagPlace) → IsFlagWord s.seat.setup core flag → IsBeforeRaise layout s.seat (record_in s).stage c op bytes
-    → ChangesBy layout s c core flag true true t d → RaiseFacts layout s c core t d
-facts_by LineFlags s t c d op bytes core flag plain before (done, writes) =
+facts_by : (layout : Layout) (s t : Sight) (c d : Private) (op : SendAt) (bytes : List ℕ) (core : ℕ) (signal : Signal) (by : ℕ) → IsFlagWord s.seat.setup core (signal_at layout signal by) → IsBeforeRaise layout s.seat (record_in s).stage c op bytes
+    → ChangesBy layout s c core signal by true true t d → RaiseFacts layout s c core t d
+facts_by LineFlags s t c d op bytes core signal by plain before (done, writes) =
+    let flag = signal_at LineFlags signal by in
     let lines = lines_in_hand (chunk_of s.seat.setup) op in
     let out : c.out ≡ waiting s.seat op bytes lines = before.0 in
     let stores = stores_of (waiting s.seat op bytes lines) in
@@ -93,14 +97,14 @@ facts_by LineFlags s t c d op bytes core flag plain before (done, writes) =
       freed = changing-append false stores (store ∷ []) ∙ ap (λ b. changing_after b (store ∷ [])) freed;
       ends = λ aim n. vain-append aim false n stores (store ∷ []) ∙ ap (λ b. vain_from aim b (vain_from aim false n stores) (store ∷ [])) freed ∙ store_last (flag_word core flag) 1 aim (vain_from aim false n stores);
     }
-facts_by BitFlags s t c d op bytes core flag plain before changes =
-    let facts = change_facts BitFlags s t c d core flag true true before.0 changes in
+facts_by BitFlags s t c d op bytes core signal by plain before changes =
+    let facts = change_facts BitFlags s t c d core signal by true true before.0 changes in
     record {
       events = facts.events;
       did = facts.did;
       held = facts.held;
       work = facts.work;
-      drafts = no_stores s.seat.setup c facts.events (drafts_none_by BitFlags s t c d core flag true true before.0 plain changes facts.events facts.did);
+      drafts = no_stores s.seat.setup c facts.events (drafts_none_by (Some by) s t c d core (signal_at BitFlags signal by) true true before.0 plain changes facts.events facts.did);
       out = facts.out;
       tries = facts.tries;
       vain = facts.vain;
@@ -184,7 +188,7 @@ raise_goes b s t c d op slot bytes posts valid small r raise changes =
     let core = core_of s.seat op.to in
     let at = at_stage s.seat (record_in s) c op slot bytes Raise r raise in
     let up = sent_is_raised s t c d op slot bytes valid small r raise changes in
-    let facts = facts_by layout s t c d op bytes core (signal_flag s.seat Sent s.seat.rank) (signal_is_flag s.seat valid Sent s.seat.rank op.to r.peers) at.1 changes in
+    let facts = facts_by layout s t c d op bytes core Sent s.seat.rank (signal_is_flag s.seat valid Sent s.seat.rank op.to r.peers) at.1 changes in
     let a = after_raise b s t c d op slot bytes posts small r raise up facts.out in
     record {
       stands = subst (λ (x : Seat). IsSending x (record_in t) d (next_op b op) (next_slot b op slot) bytes) (sym (seat_kept s facts.events t facts.did))
@@ -212,9 +216,9 @@ raise_goes b s t c d op slot bytes posts valid small r raise changes =
     }
 
 -- with line flags there is no register to be taken
-empty_by : (layout : Layout) (s t : Sight) (c d : Private) (op : SendAt) (bytes : List ℕ) (core : ℕ) (flag : FlagPlace) → IsBeforeRaise layout s.seat (record_in s).stage c op bytes → ChangesBy layout s c core flag true false t d → c.out ≡ None
-empty_by LineFlags s t c d op bytes core flag before (done, writes) = absurd (cc)
-empty_by BitFlags s t c d op bytes core flag before changes = before.0
+empty_by : (layout : Layout) (s t : Sight) (c d : Private) (op : SendAt) (bytes : List ℕ) (core : ℕ) (signal : Signal) (by : ℕ) → IsBeforeRaise layout s.seat (record_in s).stage c op bytes → ChangesBy layout s c core signal by true false t d → c.out ≡ None
+empty_by LineFlags s t c d op bytes core signal by before (done, writes) = absurd (cc)
+empty_by BitFlags s t c d op bytes core signal by before changes = before.0
 
 raise_by : (gone b : Bool) (s t : Sight) (c d : Private) (op : SendAt) (slot : SlotAt) (bytes : List ℕ) → op.posted ≡ b → IsSetup s.seat.setup → AreBytes bytes → SendStands s c op slot bytes → op.stage ≡ Raise
     → Changes s c (core_of s.seat op.to) (signal_flag s.seat Sent s.seat.rank) true gone t d
@@ -224,7 +228,7 @@ raise_by false b s t c d op slot bytes posts valid small r raise changes =
     let at = at_stage s.seat (record_in s) c op slot bytes Raise r raise in
     let layout = s.seat.setup.layout in
     let core = core_of s.seat op.to in
-    register_waits s t c d op slot bytes core (signal_flag s.seat Sent s.seat.rank) true valid r (empty_by layout s t c d op bytes core (signal_flag s.seat Sent s.seat.rank) at.1 changes)
+    register_waits s t c d op slot bytes core Sent s.seat.rank true valid r (empty_by layout s t c d op bytes core Sent s.seat.rank at.1 changes)
     (signal_is_flag s.seat valid Sent s.seat.rank op.to r.peers)
     (λ e. spot_at s.seat op slot Raise raise ∙ spot_bits layout (own_core s.seat) core op.to (slot_spot s.seat slot) e) changes
     (send_does (sending s c op slot bytes) Raise false false t d raise refl changes)

@@ -1,7 +1,7 @@
 -- The turn of a send that found the register of a flag taken, and the answers of one that changed the flag.
 use Rattle.std.proofs.Common.{◌≡◌, inl, ℕ, Bool, true, false, if◌then◌else◌, List, [], Some, None, refl, sym, ap, subst}
 use Rattle.std.specs.List.{list_all}
-use Rattle.scc_base.specs.Places.{FlagPlace}
+use Rattle.scc_base.specs.declared.signals.Signal.{Signal}
 use Rattle.scc_base.specs.Setups.{SetupView, IsSetup}
 use Rattle.scc_base.specs.declared.events.Event.{Event}
 use Rattle.scc_base.specs.declared.events.Spot.{Spot}
@@ -18,7 +18,7 @@ use Rattle.send_recv.specs.Flags.{Changes}
 use Rattle.send_recv.specs.Ops.{SendAt, SlotAt}
 use Rattle.send_recv.specs.Sending.{IsSending, SendStands, SendDoes, send_spot}
 use Rattle.send_recv.specs.Ranks.{sending}
-use Rattle.send_recv.specs.Steps.{moves_on}
+use Rattle.send_recv.specs.Steps.{signal_flag, moves_on}
 use Rattle.send_recv.specs.Turns.{KeepsAllButMessages, StoresFromBuffer, is_no_draft, waits_at}
 use Rattle.send_recv.proofs.Receiving.HeadTurn.{post_kept}
 use Rattle.send_recv.proofs.Looks.ChangeFacts.{change_facts}
@@ -31,12 +31,12 @@ use Rattle.send_recv.proofs.Sending.SendFacts.{SendTurns}
 pub no_stores : (setup : SetupView) (c : Private) (events : List Event) → list_all (is_no_draft setup) events ≡ true → StoresFromBuffer setup c events
 no_stores setup c events none = record { front = []; rest = events; is = refl; none_or_all = inl refl; no_draft = none }
 
-pub register_waits : (s t : Sight) (c d : Private) (op : SendAt) (slot : SlotAt) (bytes : List ℕ) (core : ℕ) (flag : FlagPlace) (set : Bool) → IsSetup s.seat.setup → SendStands s c op slot bytes → c.out ≡ None → IsFlagWord s.seat.setup core flag
-    → (s.seat.setup.layout ≡ BitFlags → send_spot s.seat op slot ≡ Some (Register core)) → Changes s c core flag set false t d → SendDoes (sending s c op slot bytes) op.stage false t d → SendTurns s c op slot bytes t d op slot (Waiting (Register core))
-register_waits s t c d op slot bytes core flag set valid r empty plain spot changes does =
+pub register_waits : (s t : Sight) (c d : Private) (op : SendAt) (slot : SlotAt) (bytes : List ℕ) (core : ℕ) (signal : Signal) (by : ℕ) (set : Bool) → IsSetup s.seat.setup → SendStands s c op slot bytes → c.out ≡ None → IsFlagWord s.seat.setup core (signal_flag s.seat signal by)
+    → (s.seat.setup.layout ≡ BitFlags → send_spot s.seat op slot ≡ Some (Register core)) → Changes s c core (signal_flag s.seat signal by) set false t d → SendDoes (sending s c op slot bytes) op.stage false t d → SendTurns s c op slot bytes t d op slot (Waiting (Register core))
+register_waits s t c d op slot bytes core signal by set valid r empty plain spot changes does =
     let layout = s.seat.setup.layout in
-    let m = missed_by layout s t c d core flag set valid r.hands changes in
-    let facts = change_facts layout s t c d core flag set false empty changes in
+    let m = missed_by layout s t c d core signal by set valid r.hands changes in
+    let facts = change_facts layout s t c d core signal by set false empty changes in
     let rest : KeepsAllButMessages (record_in s) (record_in t) = record {
       flips = ap (λ (x : Record). x.flips) m.same;
       hold = ap (λ (x : Record). x.held) m.same;
@@ -66,7 +66,7 @@ register_waits s t c d op slot bytes core flag set valid r empty plain spot chan
           },
         );
         rest = rest;
-        drafts = no_stores s.seat.setup c facts.events (change_drafts_none s t c d core flag set false empty plain changes facts.events facts.did);
+        drafts = no_stores s.seat.setup c facts.events (change_drafts_none s t c d core (signal_flag s.seat signal by) set false empty plain changes facts.events facts.did);
         held = facts.held;
         work = change_work layout false (load_count facts.events) c.evictions d.evictions (send_spot s.seat op slot) (Register core) spot facts.work;
       };

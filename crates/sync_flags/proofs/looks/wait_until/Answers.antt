@@ -51,5 +51,5 @@ returns-clause-stalls g c =
     let s0 = g.P.Port.sight c.args.port.now in
     let all : c.loop.counter ≡ c.args.polls = omega arith in
     let looked = subst (λ n. LooksInVain s0 c.args.core.now (flag_of s0.seat.setup s0.seat.rank c.args.f) c.args.f.bit c.args.want n (g.P.Port.sight c.loop.port) c.loop.core) all c.loop.invariant.looked in
-    λ events did. stall (record { spot = c.spot.result; polls = c.args.polls }) (AtFlag (flag_of s0.seat.setup s0.seat.rank c.args.f) c.args.f.bit c.args.want) c.args.polls events
+    λ events did. stall (record { spot = c.spot_of_flag.result; polls = c.args.polls }) (AtFlag (flag_of s0.seat.setup s0.seat.rank c.args.f) c.args.f.bit c.args.want) c.args.polls events
     (vain_stalls looked c.place-place.ensures.below events did)

@@ -1,30 +1,30 @@
 use Rattle.std.proofs.Common.{◌↔◌, ℕ, IsErr, sym, ◌∙◌, ap, subst}
-use Rattle.scc_base.specs.Places.{WordAt}
+use Rattle.scc_base.specs.Places.{flag_word, WordAt}
 use Rattle.scc_base.specs.Setups.{SetupView, host_of}
 use Rattle.scc_proto.specs.Ports.{record_in}
 use Rattle.tas_lock.specs.Holds.{IsNotHolding}
-use Rattle.sync_flags.specs.Flags.{flag_at, flag_of}
+use Rattle.sync_flags.specs.Flags.{flag_of}
 use Rattle.sync_flags.specs.Tries.{AtRegister, TriedInVain}
 use Rattle.sync_flags.proofs.WaitLemmas.{no_stall}
 use Rattle.sync_flags.proofs.WriteLemmas.{word_no_stall, bit_stalls, no_bit, each_bit}
 use Rattle.sync_flags.proofs.writes.flag_write.Goals as goal
 
-pub returns-after-set-clause-stalls : goal.returns-after-set-clause-stalls
-returns-after-set-clause-stalls g c = λ events did.
+pub returns-in-None-clause-stalls : goal.returns-in-None-clause-stalls
+returns-in-None-clause-stalls g c = λ events did.
     no_stall tt (AtRegister (flag_of (g.P.Port.sight c.args.port.now).seat.setup c.args.at c.args.f).core) c.args.polls events c.requires.some
     (word_no_stall c.store_word.ensures.stores (flag_of (g.P.Port.sight c.args.port.now).seat.setup c.args.at c.args.f).core events did)
 
-pub returns-after-set-clause-freed : goal.returns-after-set-clause-freed
-returns-after-set-clause-freed g c = no_bit _ c.args.f.bit (sym c.bit_of.ensures.gives ∙ c.in-None.is)
+pub returns-in-None-clause-freed : goal.returns-in-None-clause-freed
+returns-in-None-clause-freed g c = no_bit _ c.args.f.bit (sym c.bit.ensures.gives ∙ c.in-None.is)
 
 pub returns-in-Some-clause-freed : goal.returns-in-Some-clause-freed
 returns-in-Some-clause-freed g c = each_bit _ c.args.f.bit
     (subst (λ (p : WordAt). IsNotHolding (record_in (g.P.Port.sight c.write_bit.new.port)) p.core)
-    (c.place-place.ensures.gives ∙ ap (λ (k : ℕ). flag_at k c.args.f) (c.core_of.ensures.gives ∙ ap (λ (s : SetupView). host_of s.hosts c.args.at) c.setup.ensures.gives))
+    (c.place-place.ensures.gives ∙ ap (λ (k : ℕ). flag_word k c.args.f) (c.core_of.ensures.gives ∙ ap (λ (s : SetupView). host_of s.hosts c.args.at) c.setup.ensures.gives))
     c.write_bit.ensures.freed)
 
 pub returns-in-Some-clause-stalls : goal.returns-in-Some-clause-stalls
 returns-in-Some-clause-stalls g c = λ events did.
     subst (λ (p : WordAt). IsErr c.write_bit.result ↔ TriedInVain (AtRegister p.core) c.args.polls events)
-    (c.place-place.ensures.gives ∙ ap (λ (k : ℕ). flag_at k c.args.f) (c.core_of.ensures.gives ∙ ap (λ (s : SetupView). host_of s.hosts c.args.at) c.setup.ensures.gives))
+    (c.place-place.ensures.gives ∙ ap (λ (k : ℕ). flag_word k c.args.f) (c.core_of.ensures.gives ∙ ap (λ (s : SetupView). host_of s.hosts c.args.at) c.setup.ensures.gives))
     (bit_stalls _ _ _ _ c.place-place.result c.in-Some.bit c.args.set c.args.polls c.write_bit.result c.write_bit.ensures.writes c.requires.some events did)

@@ -1,9 +1,10 @@
 use Rattle.std.proofs.Common.{◌≡◌, ◌<◌, ◌≤◌, ℕ, Bool, true, Option, Some, None, is_none, ap, refl, subst, sym}
+use Rattle.scc_base.specs.Places.{FlagPlace}
 use Rattle.scc_proto.specs.Permission.{leaves_heap}
 use Rattle.scc_base.specs.Setups.{IsSetup, host_of}
 use Rattle.scc_proto.specs.Stages.{FlagWords, Record}
 use Rattle.scc_proto.specs.Ports.{Seat, record_in}
-use Rattle.sync_flags.specs.Flags.{FlagView, flag_of, flag_value}
+use Rattle.sync_flags.specs.Flags.{flag_of, flag_value}
 use Rattle.sync_flags.specs.Writes.{MayWrite}
 use Rattle.sync_flags.proofs.HeapStores.{heap_bit_may, heap_store_may}
 use Rattle.station.specs.Stations.{HoldsNoRegister, NoCallOpen, StationAt}
@@ -11,7 +12,7 @@ use Rattle.station.proofs.HeapFacts.{set_call}
 use Rattle.station.proofs.StationLemmas.{free_after_heap}
 use Rattle.station.proofs.stations.Station.set.Goals as goal
 
-may_write : (seat : Seat) (rec : Record) (r : ℕ) (f : FlagView) (bit : Option ℕ) (set : Bool) → IsSetup seat.setup → r < seat.setup.nue → 225 ≤ f.line
+may_write : (seat : Seat) (rec : Record) (r : ℕ) (f : FlagPlace) (bit : Option ℕ) (set : Bool) → IsSetup seat.setup → r < seat.setup.nue → 225 ≤ f.line
     → leaves_heap rec.stage ≡ true → HoldsNoRegister rec → MayWrite seat rec (flag_of seat.setup r f) bit set
 may_write seat rec r f None set valid lt high leaves none = heap_store_may seat rec r f (flag_value set) valid lt high leaves
 may_write seat rec r f (Some b) set valid lt high leaves none =
