@@ -16,7 +16,7 @@ use Rattle.outcomes.specs.Statuses.{is_quiet}
 use Rattle.outcomes.specs.declared.complaint.Complaint.{Complaint}
 use Rattle.outcomes.specs.declared.status.Status.{Status}
 use Rattle.outcomes.proofs.StatusLemmas.{complaint_quiet, run_loud}
-use Rattle.log_run.specs.LogRuns.{HasRun}
+use Rattle.log_run.specs.LogRuns.{HasRunLogged}
 use Rattle.log_run.specs.Sizes.{has_room_for_all}
 use Rattle.audit_program.specs.declared.logged.Logged.{Logged}
 use Rattle.rcce_audit.specs.declared.verdicts.Verdict.TheVariants as verdict
@@ -77,9 +77,9 @@ has_ran file script chip before after s (Err why) (comes, blank) delivers = reco
 }
 
 -- the log of a chip that a script ran on
-pub has_logged : (script : Script) (set : SetupView) (chip : ChipView) → settled.IsWhole script.nue script.items → set ≡ log_setup_by script → HasRun script set chip → HasLogged script chip
+pub has_logged : (script : Script) (set : SetupView) (chip : ChipView) → settled.IsWholeScript script.nue script.items → set ≡ log_setup_by script → HasRunLogged script set chip → HasLogged script chip
 has_logged script set chip whole same run =
-    let own : HasRun script (log_setup_by script) chip = subst (λ (s : SetupView). HasRun script s chip) same run in
+    let own : HasRunLogged script (log_setup_by script) chip = subst (λ (s : SetupView). HasRunLogged script s chip) same run in
     let log : chip_log chip ≡ script_log script =
     λ i. record { nue = (own.setup i).nue; comms = (own.setup i).comms; lists = map (λ rank. own.finished rank i) (range_with_len 0 48) } in
     record {

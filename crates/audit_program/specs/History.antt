@@ -16,7 +16,7 @@ use Rattle.rcce_audit.specs.Grammar.{log_of}
 use Rattle.rcce_audit.specs.Logs.{LogView}
 use Rattle.rcce_audit.specs.Texts.{log_text}
 use Rattle.rcce_audit.specs.Verdicts.{IsVerdict}
-use Rattle.log_run.specs.LogRuns.{HasRun}
+use Rattle.log_run.specs.LogRuns.{HasRunLogged}
 use Rattle.audit_program.specs.Program.{log_ran, script_log}
 
 -- the setup of a run: line flags, and rank r on core r
@@ -35,7 +35,7 @@ chip_log chip =
 -- A script was run on the chip, and its log, which the plain meaning tells, is the log of the chip's finished calls. The text
 -- of this log is read as this log, and its verdict is that it is legal.
 pub record HasLogged (script : Script) (chip : ChipView) : Type 0 where
-  pub run : HasRun script (log_setup_by script) chip
+  pub run : HasRunLogged script (log_setup_by script) chip
   pub log : chip_log chip ≡ script_log script
   pub read : log_of (log_text (chip_log chip)) ≡ Ok (chip_log chip)
   pub judged : IsVerdict (chip_log chip) verdict.Yes

@@ -6,7 +6,7 @@ use Rattle.outcomes.specs.Numbers.{is_option}
 use Rattle.outcomes.specs.Outcomes.{Ran}
 use Rattle.outcomes.specs.Plans.{Plan, Program}
 use Rattle.outcomes.specs.Plans.Plan.{Runs, Refuses, Reads}
-use Rattle.rcce_io.specs.Sending.{joined}
+use Rattle.rcce_io.specs.Sending.{joined_texts}
 use Rattle.rcce_words.specs.ScriptFiles.{script_plan}
 use Rattle.rcce_words.specs.ScriptWords.{Command, plan_of, script_command}
 use Rattle.rcce_audit.specs.declared.faults.LogFault.{LogFault}
@@ -29,7 +29,7 @@ verdict_ran verdict.Yes = record { finished = true; out = codes "legal\n"; err =
 verdict_ran (verdict.No rank call) =
     record {
       finished = false;
-      out = joined (codes "not legal: ue " ∷ decimal rank ∷ codes " call " ∷ decimal call ∷ codes "\n" ∷ []);
+      out = joined_texts (codes "not legal: ue " ∷ decimal rank ∷ codes " call " ∷ decimal call ∷ codes "\n" ∷ []);
       err = [];
     }
 

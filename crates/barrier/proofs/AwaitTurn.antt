@@ -14,7 +14,7 @@ use Rattle.put_get.proofs.FillLemmas.{fills_out}
 use Rattle.barrier.specs.declared.stages.BarStage.{BarStage}
 use Rattle.barrier.specs.declared.stages.BarStage.TheVariants.{Await, Finished}
 use Rattle.barrier.specs.Flags.{value_at, release_word}
-use Rattle.barrier.specs.Stages.{BarAt, BarStands, IsAtStage, aim_at, is_gather, meeting}
+use Rattle.barrier.specs.Stages.{BarAt, BarStands, IsAtStage, barrier_aim_at, is_gather, meeting}
 use Rattle.sync_flags.specs.Flags.{flag_value}
 use Rattle.sync_flags.specs.Tries.{AtWord}
 use Rattle.sync_flags.specs.Looks.{LooksAt}
@@ -78,8 +78,8 @@ module _ (s : Sight) (c : Private) (op : BarAt) (values : List Bool) (value : �
   does_look : Does s.seat op.comm op.stage (flag_value (value_at values op.comm)) s c t d
   does_look = subst (λ (x : BarStage). Does s.seat op.comm x (flag_value (value_at values op.comm)) s c t d) (sym l.stage) (found, saw)
 
-  aims : aim_at s.seat op.comm op.stage (flag_value (value_at values op.comm)) ≡ Some (AtWord (release_word s.seat op.comm s.seat.rank) (flag_value (value_at values op.comm)))
-  aims = ap (λ (x : BarStage). aim_at s.seat op.comm x (flag_value (value_at values op.comm))) l.stage
+  aims : barrier_aim_at s.seat op.comm op.stage (flag_value (value_at values op.comm)) ≡ Some (AtWord (release_word s.seat op.comm s.seat.rank) (flag_value (value_at values op.comm)))
+  aims = ap (λ (x : BarStage). barrier_aim_at s.seat op.comm x (flag_value (value_at values op.comm))) l.stage
 
   seat_same : t.seat ≡ s.seat
   seat_same = seat_kept s (loads_of (line_of_word (release_word s.seat op.comm s.seat.rank)) saw.words) t saw.looks.did

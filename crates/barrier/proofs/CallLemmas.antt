@@ -23,14 +23,14 @@ use Rattle.barrier.specs.declared.barriers.BarStop.TheVariants.{Stalled}
 use Rattle.barrier.specs.declared.stages.BarStage.{BarStage}
 use Rattle.barrier.specs.declared.stages.BarStage.TheVariants.{Flip, Gather, Release, Await, Finished}
 use Rattle.barrier.specs.Flags.{value_at, member_at, gather_word, release_word}
-use Rattle.barrier.specs.Stages.{BarAt, BarStands, IsAtStage, own_place, is_finished, is_gather, bar_left, bar_call, aim_at, meeting, with_parity}
+use Rattle.barrier.specs.Stages.{BarAt, BarStands, IsAtStage, own_place, is_bar_finished, is_gather, bar_left, bar_call, barrier_aim_at, meeting, with_parity}
 use Rattle.barrier.specs.Turns.{KeepsAllButBarriers, Does, BarTurned, flips_by}
 use Rattle.barrier.specs.Calls.{MayEndAt, Finishes, Stalls}
 use Rattle.barrier.proofs.RestLemmas.{none_changed, kept_both, flips_moved, flips_looking}
 
 -- a look writes nothing
 look_quiet : (seat : Seat) (comm : ℕ) (stage : BarStage) (value : ℕ) (m t : Sight) (b d : Private) (es : List Event) (aim : Aim)
-    → Does seat comm stage value m b t d → Did m es t → aim_at seat comm stage value ≡ Some aim → has_write es ≡ false
+    → Does seat comm stage value m b t d → Did m es t → barrier_aim_at seat comm stage value ≡ Some aim → has_write es ≡ false
 look_quiet seat comm Flip value m t b d es aim does did at = absurd (cc)
 look_quiet seat comm (Gather seen) value m t b d es aim does did at = ap has_write (events_once m t es (loads_of (line_of_word (gather_word seat comm (member_at seat.setup comm seat.rank (seen + 1)))) does.1.words) did does.1.looks.did)
 look_quiet seat comm (Release released) value m t b d es aim does did at = absurd (cc)
@@ -57,8 +57,8 @@ store_ends m t b d p place v value es stores did n =
 
 -- a turn that ends the barrier leaves no vain look behind
 ended : (seat : Seat) (comm : ℕ) (stage : BarStage) (value : ℕ) (m t : Sight) (b d : Private) (es : List Event)
-    → Does seat comm stage value m b t d → Did m es t → Tried (aim_at seat comm stage value) es None → is_gather stage ≡ false → (stage ≡ Await → own_place seat comm ≢ 0)
-    → (place : WordAt) → MayEndAt seat comm place → (n : ℕ) → (is_finished stage ≡ true → n ≡ 0) → vain_from (AtWord place value) false n es ≡ 0
+    → Does seat comm stage value m b t d → Did m es t → Tried (barrier_aim_at seat comm stage value) es None → is_gather stage ≡ false → (stage ≡ Await → own_place seat comm ≢ 0)
+    → (place : WordAt) → MayEndAt seat comm place → (n : ℕ) → (is_bar_finished stage ≡ true → n ≡ 0) → vain_from (AtWord place value) false n es ≡ 0
 ended seat comm Flip value m t b d es does did tried gather member place may n rest = store_ends m t b d _ place value value es does did n
 ended seat comm (Gather seen) value m t b d es does did tried gather member place may n rest = absurd (cc)
 ended seat comm (Release released) value m t b d es does did tried gather member place may n rest = store_ends m t b d _ place value value es does did n
@@ -73,7 +73,7 @@ ended seat comm Finished value m t b d es does did tried gather member place may
 
 -- the turns so far: as many vain looks as counted stand at the end, for what the barrier looks for next
 pub record Underway (s : Sight) (op : BarAt) (vain : ℕ) (t : Sight) (d : Private) (now : BarAt) (values : List Bool) : Type 0 where
-  pub row : Row (aim_at s.seat now.comm now.stage (flag_value (value_at values now.comm))) vain s t
+  pub row : Row (barrier_aim_at s.seat now.comm now.stage (flag_value (value_at values now.comm))) vain s t
   pub stands : BarStands t d now values
   pub same : now.comm ≡ op.comm
   pub calls : (record_in t).calls ≡ (record_in s).calls
@@ -81,7 +81,7 @@ pub record Underway (s : Sight) (op : BarAt) (vain : ℕ) (t : Sight) (d : Priva
   -- the flips that were made, with the one that may still come, are those of the whole barrier
   pub flips : flips_by now.comm now.stage (record_in t).flips ≡ flips_by op.comm op.stage (record_in s).flips
   pub rest : KeepsAllButBarriers (record_in s) (record_in t)
-  pub quiet : is_finished now.stage ≡ true → row.events ≡ []
+  pub quiet : is_bar_finished now.stage ≡ true → row.events ≡ []
 
 pub underway_none : {s : Sight} {c : Private} {op : BarAt} {values : List Bool} → BarStands s c op values → Underway s op 0 s c op values
 unfolding row_none
@@ -96,8 +96,8 @@ underway_none {s} st = record {
   quiet = λ e. refl;
 }
 
-calls_open : (op : BarAt) → is_finished op.stage ≡ false → bar_call op ≡ Bar op.comm ∷ []
-calls_open op e = if_no (is_finished op.stage) [] (Bar op.comm ∷ []) e
+calls_open : (op : BarAt) → is_bar_finished op.stage ≡ false → bar_call op ≡ Bar op.comm ∷ []
+calls_open op e = if_no (is_bar_finished op.stage) [] (Bar op.comm ∷ []) e
 
 pub underway_moved : {s m t : Sight} {b d : Private} {op cur now : BarAt} {vain : ℕ} {values later : List Bool} → Underway s op vain m b cur values
     → BarStands t d now later → BarTurned (meeting m b cur values) (meeting t d now later) turn.Moved → Underway s op 0 t d now later
@@ -129,19 +129,19 @@ underway_waited {s} {m} {t} {b} {d} {op} {cur} {now} {vain} {values} {later} {sp
     let same = same_value u.stands st e turned.means.1 in
     record {
       row = row_waited u.row turned.did (turn_settled m.seat cur.comm cur.stage value m t b d turned.events turned.does turned.did)
-          (subst (λ (a : Option Aim). Tried a turned.events (Some spot)) (λ i. aim_at (seat i) cur.comm cur.stage (same i)) turned.tried)
+          (subst (λ (a : Option Aim). Tried a turned.events (Some spot)) (λ i. barrier_aim_at (seat i) cur.comm cur.stage (same i)) turned.tried)
           (look_quiet m.seat cur.comm cur.stage value m t b d turned.events w.at turned.does turned.did w.is)
-          (ap (λ (x : BarAt). aim_at s.seat x.comm x.stage (flag_value (value_at later x.comm))) e ∙ ap (λ (v : ℕ). aim_at s.seat cur.comm cur.stage v) same);
+          (ap (λ (x : BarAt). barrier_aim_at s.seat x.comm x.stage (flag_value (value_at later x.comm))) e ∙ ap (λ (v : ℕ). barrier_aim_at s.seat cur.comm cur.stage v) same);
       stands = st;
       same = turned.same ∙ u.same;
       calls = ap (λ (r : Record). r.calls) turned.means.1 ∙ u.calls;
       call_left = ap bar_call e ∙ u.call_left;
       flips = (λ i. flips_by (e i).comm (e i).stage (turned.means.1 i).flips) ∙ u.flips;
       rest = kept_both u.rest turned.rest;
-      quiet = λ f. absurd (not_over m.seat cur.comm cur.stage value w.at w.is (sym (ap (λ (x : BarAt). is_finished x.stage) e) ∙ f));
+      quiet = λ f. absurd (not_over m.seat cur.comm cur.stage value w.at w.is (sym (ap (λ (x : BarAt). is_bar_finished x.stage) e) ∙ f));
     }
   where
-    not_over : (seat : Seat) (comm : ℕ) (stage : BarStage) (value : ℕ) (aim : Aim) → aim_at seat comm stage value ≡ Some aim → is_finished stage ≡ true → ⊥
+    not_over : (seat : Seat) (comm : ℕ) (stage : BarStage) (value : ℕ) (aim : Aim) → barrier_aim_at seat comm stage value ≡ Some aim → is_bar_finished stage ≡ true → ⊥
     not_over seat comm Flip value aim at over = absurd (cc)
     not_over seat comm (Gather seen) value aim at over = absurd (cc)
     not_over seat comm (Release released) value aim at over = absurd (cc)
@@ -179,9 +179,9 @@ underway_stalls {s} {m} {t} {cur = cur} {now = now} {vain = vain} {later = later
     let e = turned.means.0 in
     let seat : m.seat ≡ s.seat = seat_kept s u.row.events m u.row.did in
     let v = waited turned.tried in
-    let at : aim_at s.seat now.comm now.stage (flag_value (value_at later now.comm)) ≡ Some v.at
-    = ap (λ (x : BarAt). aim_at s.seat x.comm x.stage (flag_value (value_at later x.comm))) e
-    ∙ ap (λ (x : Seat). aim_at x cur.comm cur.stage (flag_value (value_at later cur.comm))) (sym seat) ∙ v.is in
+    let at : barrier_aim_at s.seat now.comm now.stage (flag_value (value_at later now.comm)) ≡ Some v.at
+    = ap (λ (x : BarAt). barrier_aim_at s.seat x.comm x.stage (flag_value (value_at later x.comm))) e
+    ∙ ap (λ (x : Seat). barrier_aim_at x cur.comm cur.stage (flag_value (value_at later cur.comm))) (sym seat) ∙ v.is in
     let many : vain + 1 ≤ vain_tries v.at w.row.events = w.row.tried v.at at in
     record {
       events = w.row.events;

@@ -7,7 +7,7 @@ use Rattle.scc_base.specs.Setups.{IsSetup, setup_key}
 use Rattle.scc_base.specs.Events.{store_of}
 use Rattle.scc_base.specs.declared.events.Turn.TheVariants as turn
 use Rattle.scc_base.proofs.GroupFacts.{place_below}
-use Rattle.scc_proto.specs.Tables.{put}
+use Rattle.scc_proto.specs.Tables.{table_with}
 use Rattle.scc_proto.specs.Stages.{Stage, Idle, Barrier, Record}
 use Rattle.scc_proto.specs.Moves.{FlipGather, flip_gather, after}
 use Rattle.scc_proto.specs.Permission.{permits, is_idle}
@@ -21,7 +21,7 @@ use Rattle.put_get.specs.Cores.{Private}
 use Rattle.barrier.specs.declared.stages.BarStage.{BarStage}
 use Rattle.barrier.specs.declared.stages.BarStage.TheVariants.{Flip, Gather, Await, Finished}
 use Rattle.barrier.specs.Flags.{IsParityOf, value_at, gather_word}
-use Rattle.barrier.specs.Stages.{BarAt, BarStands, IsAtStage, aim_at, group_size, own_place, is_finished, is_gather, after_flip, meeting}
+use Rattle.barrier.specs.Stages.{BarAt, BarStands, IsAtStage, barrier_aim_at, group_size, own_place, is_bar_finished, is_gather, after_flip, meeting}
 use Rattle.sync_flags.specs.Flags.{flag_value}
 use Rattle.sync_flags.specs.Tries.{NoTry}
 use Rattle.sync_flags.specs.Writes.{StoresWord}
@@ -45,7 +45,7 @@ pub record IsFlipped (values later : List Bool) (comm : ℕ) : Type 0 where
   pub others : (k : ℕ) → k ≢ comm → value_at later k ≡ value_at values k
 
 flipped_parity : (rec new : Record) (values later : List Bool) (comm : ℕ) → comm < 16 → IsParityOf rec values → IsFlipped values later comm
-    → new.flips ≡ put rec.flips comm (suc (rec.flips comm)) → IsParityOf new later
+    → new.flips ≡ table_with rec.flips comm (suc (rec.flips comm)) → IsParityOf new later
 flipped_parity rec new values later comm small p f e k lt = same_or_other (flag_value (value_at later k) ≡ new.flips k % 2) k comm
     (λ t q. subst (λ (x : ℕ). flag_value (value_at later x) ≡ new.flips x % 2) (sym q)
     (ap flag_value f.flipped ∙ next_value (value_at values comm) (rec.flips comm) (p comm small)
@@ -78,7 +78,7 @@ flipping {s} {values = values} st later value k own stage valid b below e flippe
 abbrev pub after_one : Record → ℕ → Bool → Record
 after_one rec comm alone = record rec {
   stage = if alone then Idle else Barrier comm 0 0;
-  flips = put rec.flips comm (suc (rec.flips comm));
+  flips = table_with rec.flips comm (suc (rec.flips comm));
   calls = if alone then rec.calls ++ Bar comm ∷ [] else rec.calls;
 }
 
@@ -120,7 +120,7 @@ module _ (s : Sight) (c : Private) (op : BarAt) (values later : List Bool) (valu
   flipped_by b e =
       let alone = alone_is b e in
       let stage = ap (λ (x : Stage). flip_gather op.comm (group_size s.seat op.comm - 1) x) here ∙ (λ i. if alone i then Idle else Barrier op.comm 0 0) in
-      makes_kept stored (λ i. record (record_in s) { stage = stage i; flips = put (record_in s).flips op.comm (suc ((record_in s).flips op.comm)); calls = if alone i then (record_in s).calls ++ Bar op.comm ∷ [] else (record_in s).calls })
+      makes_kept stored (λ i. record (record_in s) { stage = stage i; flips = table_with (record_in s).flips op.comm (suc ((record_in s).flips op.comm)); calls = if alone i then (record_in s).calls ++ Bar op.comm ∷ [] else (record_in s).calls })
 
   module _ (t : Sight) (d : Private) (stores : StoresWord s c (gather_word s.seat op.comm s.seat.rank) value t d) where
     late_is : (b : Bool) → (group_size s.seat op.comm == 1) ≡ b → record_in t ≡ after_one (record_in s) op.comm b
@@ -153,11 +153,11 @@ module _ (s : Sight) (c : Private) (op : BarAt) (values later : List Bool) (valu
             events = store_of (gather_word s.seat op.comm s.seat.rank) value ∷ [];
             did = stores.did;
             does = does_store;
-            tried = NoTry (ap (λ (x : BarStage). aim_at s.seat op.comm x (flag_value (value_at later op.comm))) l.stage) refl;
+            tried = NoTry (ap (λ (x : BarStage). barrier_aim_at s.seat op.comm x (flag_value (value_at later op.comm))) l.stage) refl;
             same = comm;
             means = (end, ap (λ (r : Record). r.calls) rec ∙ ap (λ (cs : List DataCall). (record_in s).calls ++ cs) (sym (call_of_stage op Flip l.stage refl)), ap is_gather l.stage);
             flips = flips ∙ ap (λ (x : BarStage). flips_by op.comm x (record_in s).flips) (sym l.stage);
-            rest = rest_kept Idle (put (record_in s).flips op.comm (suc ((record_in s).flips op.comm))) ((record_in s).calls ++ Bar op.comm ∷ []) rec;
+            rest = rest_kept Idle (table_with (record_in s).flips op.comm (suc ((record_in s).flips op.comm))) ((record_in s).calls ++ Bar op.comm ∷ []) rec;
             no_draft = no_draft_here;
           },
         )
@@ -179,16 +179,16 @@ module _ (s : Sight) (c : Private) (op : BarAt) (values later : List Bool) (valu
             events = store_of (gather_word s.seat op.comm s.seat.rank) value ∷ [];
             did = stores.did;
             does = does_store;
-            tried = NoTry (ap (λ (x : BarStage). aim_at s.seat op.comm x (flag_value (value_at later op.comm))) l.stage) refl;
+            tried = NoTry (ap (λ (x : BarStage). barrier_aim_at s.seat op.comm x (flag_value (value_at later op.comm))) l.stage) refl;
             same = comm;
             means = (
               left_is s.seat op now Flip (if own_place s.seat op.comm == 0 then Gather 0 else Await) comm l.stage goes_to next.left,
               ap (λ (r : Record). r.calls) rec,
-              ap is_finished l.stage,
-              ap is_finished goes_to ∙ next.goes,
+              ap is_bar_finished l.stage,
+              ap is_bar_finished goes_to ∙ next.goes,
             );
             flips = flips ∙ ap (λ (x : BarStage). flips_by op.comm x (record_in s).flips) (sym l.stage);
-            rest = rest_kept (Barrier op.comm 0 0) (put (record_in s).flips op.comm (suc ((record_in s).flips op.comm))) (record_in s).calls rec;
+            rest = rest_kept (Barrier op.comm 0 0) (table_with (record_in s).flips op.comm (suc ((record_in s).flips op.comm))) (record_in s).calls rec;
             no_draft = no_draft_here;
           },
         )

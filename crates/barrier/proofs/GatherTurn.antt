@@ -13,7 +13,7 @@ use Rattle.put_get.proofs.FillLemmas.{fills_out}
 use Rattle.barrier.specs.declared.stages.BarStage.{BarStage}
 use Rattle.barrier.specs.declared.stages.BarStage.TheVariants.{Gather}
 use Rattle.barrier.specs.Flags.{value_at, member_at, gather_word}
-use Rattle.barrier.specs.Stages.{BarAt, BarStands, IsAtStage, aim_at, group_size, is_finished, after_seen, meeting}
+use Rattle.barrier.specs.Stages.{BarAt, BarStands, IsAtStage, barrier_aim_at, group_size, is_bar_finished, after_member_seen, meeting}
 use Rattle.sync_flags.specs.Flags.{flag_value}
 use Rattle.sync_flags.specs.Tries.{AtWord}
 use Rattle.sync_flags.specs.Looks.{LooksAt}
@@ -82,8 +82,8 @@ module _ (s : Sight) (c : Private) (op : BarAt) (values : List Bool) (seen m val
   does_look = subst (λ (x : BarStage). Does s.seat op.comm x (flag_value (value_at values op.comm)) s c t d) (sym l.stage)
       (found, subst (λ (x : ℕ). LooksAt s c (gather_word s.seat op.comm x) found t d) l.is saw)
 
-  aims : aim_at s.seat op.comm op.stage (flag_value (value_at values op.comm)) ≡ Some (AtWord (gather_word s.seat op.comm m) (flag_value (value_at values op.comm)))
-  aims = ap (λ (x : BarStage). aim_at s.seat op.comm x (flag_value (value_at values op.comm))) l.stage
+  aims : barrier_aim_at s.seat op.comm op.stage (flag_value (value_at values op.comm)) ≡ Some (AtWord (gather_word s.seat op.comm m) (flag_value (value_at values op.comm)))
+  aims = ap (λ (x : BarStage). barrier_aim_at s.seat op.comm x (flag_value (value_at values op.comm))) l.stage
       ∙ ap (λ (x : ℕ). Some (AtWord (gather_word s.seat op.comm x) (flag_value (value_at values op.comm)))) (sym l.is)
 
   seat_same : t.seat ≡ s.seat
@@ -110,7 +110,7 @@ module _ (s : Sight) (c : Private) (op : BarAt) (values : List Bool) (seen m val
         },
       )
 
-  gather_saw : (now : BarAt) → now.comm ≡ op.comm → now.stage ≡ after_seen (group_size s.seat op.comm) seen → slice_index saw.words (op.comm / 8) ≡ value
+  gather_saw : (now : BarAt) → now.comm ≡ op.comm → now.stage ≡ after_member_seen (group_size s.seat op.comm) seen → slice_index saw.words (op.comm / 8) ≡ value
       → BarStands t d now values × BarTurned (meeting s c op values) (meeting t d now values) turn.Moved
   gather_saw now comm stage eq =
       let small = l.stands.below in
@@ -127,10 +127,10 @@ module _ (s : Sight) (c : Private) (op : BarAt) (values : List Bool) (seen m val
           tried = fruitful_look (gather_word s.seat op.comm m) (flag_value (value_at values op.comm)) saw.words low (eq ∙ l.waits_for) aims;
           same = comm;
           means = (
-            left_is s.seat op now (Gather seen) (after_seen (group_size s.seat op.comm) seen) comm l.stage stage next.left,
+            left_is s.seat op now (Gather seen) (after_member_seen (group_size s.seat op.comm) seen) comm l.stage stage next.left,
             ap (λ (r : Record). r.calls) rec,
-            ap is_finished l.stage,
-            ap is_finished stage ∙ next.goes,
+            ap is_bar_finished l.stage,
+            ap is_bar_finished stage ∙ next.goes,
           );
           flips = flips ∙ ap (λ (x : BarStage). flips_by op.comm x (record_in s).flips) (sym l.stage);
           rest = rest_kept (Barrier op.comm (seen + 1) 0) (record_in s).flips (record_in s).calls rec;
@@ -153,9 +153,9 @@ gather_waits {s} {t} {c} {d} {op} {values} {seen} {m} {value} l k e place at got
 
 pub gather_sees : {s t : Sight} {c d : Private} {op : BarAt} {values : List Bool} {seen m value : ℕ} → Looking s c op values seen m value → (k : ℕ) → k ≡ op.comm
     → (place : WordAt) → place ≡ gather_word s.seat k m → (got : ℕ) → LooksAt s c place got t d → got ≡ value
-    → (now : BarAt) → now.comm ≡ op.comm → (size : ℕ) → size ≡ group_size s.seat op.comm → now.stage ≡ after_seen size seen
+    → (now : BarAt) → now.comm ≡ op.comm → (size : ℕ) → size ≡ group_size s.seat op.comm → now.stage ≡ after_member_seen size seen
     → BarStands t d now values × BarTurned (meeting s c op values) (meeting t d now values) turn.Moved
 gather_sees {s} {t} {c} {d} {op} {values} {seen} {m} {value} l k e place at got saw eq now comm size sized stage =
     let there = at ∙ ap (λ (x : ℕ). gather_word s.seat x m) e in
     let h = look_here (gather_word s.seat op.comm m) got there saw in
-    gather_saw s c op values seen m value l t d got h now comm (stage ∙ ap (λ (n : ℕ). after_seen n seen) sized) (sym h.is ∙ eq)
+    gather_saw s c op values seen m value l t d got h now comm (stage ∙ ap (λ (n : ℕ). after_member_seen n seen) sized) (sym h.is ∙ eq)

@@ -19,7 +19,7 @@ use Rattle.put_get.specs.Cores.{Private}
 use Rattle.barrier.specs.declared.stages.BarStage.{BarStage}
 use Rattle.barrier.specs.declared.stages.BarStage.TheVariants.{Release, Finished}
 use Rattle.barrier.specs.Flags.{value_at, member_at, release_word}
-use Rattle.barrier.specs.Stages.{BarAt, BarStands, IsAtStage, aim_at, group_size, is_finished, is_gather, after_release, meeting}
+use Rattle.barrier.specs.Stages.{BarAt, BarStands, IsAtStage, barrier_aim_at, group_size, is_bar_finished, is_gather, after_release, meeting}
 use Rattle.sync_flags.specs.Flags.{flag_value}
 use Rattle.sync_flags.specs.Tries.{NoTry}
 use Rattle.sync_flags.specs.Writes.{StoresWord}
@@ -117,7 +117,7 @@ module _ (s : Sight) (c : Private) (op : BarAt) (values : List Bool) (released m
             events = store_of (release_word s.seat op.comm m) value ∷ [];
             did = stores.did;
             does = does_store;
-            tried = NoTry (ap (λ (x : BarStage). aim_at s.seat op.comm x (flag_value (value_at values op.comm))) l.stage) refl;
+            tried = NoTry (ap (λ (x : BarStage). barrier_aim_at s.seat op.comm x (flag_value (value_at values op.comm))) l.stage) refl;
             same = comm;
             means = (end, ap (λ (r : Record). r.calls) rec ∙ ap (λ (cs : List DataCall). (record_in s).calls ++ cs) (sym (call_of_stage op (Release released) l.stage refl)), ap is_gather l.stage);
             flips = flips ∙ ap (λ (x : BarStage). flips_by op.comm x (record_in s).flips) (sym l.stage);
@@ -143,13 +143,13 @@ module _ (s : Sight) (c : Private) (op : BarAt) (values : List Bool) (released m
             events = store_of (release_word s.seat op.comm m) value ∷ [];
             did = stores.did;
             does = does_store;
-            tried = NoTry (ap (λ (x : BarStage). aim_at s.seat op.comm x (flag_value (value_at values op.comm))) l.stage) refl;
+            tried = NoTry (ap (λ (x : BarStage). barrier_aim_at s.seat op.comm x (flag_value (value_at values op.comm))) l.stage) refl;
             same = comm;
             means = (
               left_is s.seat op now (Release released) (Release (released + 1)) comm l.stage next (omega (arith, more)),
               ap (λ (r : Record). r.calls) rec,
-              ap is_finished l.stage,
-              ap is_finished next,
+              ap is_bar_finished l.stage,
+              ap is_bar_finished next,
             );
             flips = flips ∙ ap (λ (x : BarStage). flips_by op.comm x (record_in s).flips) (sym l.stage);
             rest = rest_kept (Barrier op.comm (group_size s.seat op.comm - 1) (suc released)) (record_in s).flips (record_in s).calls rec;

@@ -13,7 +13,7 @@ use Rattle.barrier.specs.declared.barriers.BarStop.{BarStop}
 use Rattle.barrier.specs.declared.stages.BarStage.{BarStage}
 use Rattle.barrier.specs.declared.stages.BarStage.TheVariants.{Flip, Gather, Release, Await, Finished}
 use Rattle.barrier.specs.Flags.{value_at}
-use Rattle.barrier.specs.Stages.{BarAt, BarStands, IsAtStage, IsBetweenBarriers, group_size, own_place, left_by, bar_left, bar_call, aim_at, new_barrier, meeting, with_parity}
+use Rattle.barrier.specs.Stages.{BarAt, BarStands, IsAtStage, IsBetweenBarriers, group_size, own_place, left_by, bar_left, bar_call, barrier_aim_at, new_barrier, meeting, with_parity}
 use Rattle.barrier.specs.Turns.{KeepsAllButBarriers, flips_by}
 use Rattle.barrier.specs.Calls.{Finishes, Stalls}
 use Rattle.barrier.proofs.StageLemmas.{same_by}
@@ -58,10 +58,10 @@ flips_moved seat rec cur now flips same at left = by now.stage (subst (λ (k : �
     by Finished less = refl
 
 -- a barrier that looks at a flag was entered before
-pub flips_looking : (seat : Seat) (op : BarAt) (value : ℕ) (aim : Aim) (flips : ℕ → ℕ) → aim_at seat op.comm op.stage value ≡ Some aim → flips_by op.comm op.stage flips ≡ flips
+pub flips_looking : (seat : Seat) (op : BarAt) (value : ℕ) (aim : Aim) (flips : ℕ → ℕ) → barrier_aim_at seat op.comm op.stage value ≡ Some aim → flips_by op.comm op.stage flips ≡ flips
 flips_looking seat op value aim flips looks = by op.stage looks
   where
-    by : (stage : BarStage) → aim_at seat op.comm stage value ≡ Some aim → flips_by op.comm stage flips ≡ flips
+    by : (stage : BarStage) → barrier_aim_at seat op.comm stage value ≡ Some aim → flips_by op.comm stage flips ≡ flips
     by Flip at = absurd (cc)
     by (Gather seen) at = refl
     by (Release released) at = refl

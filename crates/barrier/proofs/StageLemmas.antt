@@ -13,7 +13,7 @@ use Rattle.put_get.specs.Cores.{Private}
 use Rattle.barrier.specs.declared.stages.BarStage.{BarStage}
 use Rattle.barrier.specs.declared.stages.BarStage.TheVariants.{Gather, Release, Finished}
 use Rattle.barrier.specs.Flags.{IsParityOf, value_at}
-use Rattle.barrier.specs.Stages.{BarAt, BarStands, IsAtStage, group_size, own_place, is_finished, is_gather, aim_at, left_by, bar_left, bar_call, after_seen, meeting}
+use Rattle.barrier.specs.Stages.{BarAt, BarStands, IsAtStage, group_size, own_place, is_bar_finished, is_gather, barrier_aim_at, left_by, bar_left, bar_call, after_member_seen, meeting}
 use Rattle.barrier.specs.Turns.{KeepsAllButBarriers, Does, BarTurned, flips_by}
 use Rattle.sync_flags.specs.Flags.{flag_value}
 use Rattle.sync_flags.specs.Tries.{NoTry}
@@ -43,10 +43,10 @@ place_here s op su k own place a b c e = e ∙ (λ i. place_of (a i) (b i) (c i)
 pub record Next (seat : Seat) (rec : Record) (comm : ℕ) (before stage : BarStage) : Type 0 where
   pub at : IsAtStage seat rec comm stage
   pub left : left_by (group_size seat comm) (own_place seat comm) before ≡ left_by (group_size seat comm) (own_place seat comm) stage + 1
-  pub goes : is_finished stage ≡ false
+  pub goes : is_bar_finished stage ≡ false
 
 pub gather_next : (seat : Seat) (rec : Record) (comm seen : ℕ) → own_place seat comm ≡ 0 → seen + 1 < group_size seat comm → rec.stage ≡ Barrier comm (seen + 1) 0
-    → Next seat rec comm (Gather seen) (after_seen (group_size seat comm) seen)
+    → Next seat rec comm (Gather seen) (after_member_seen (group_size seat comm) seen)
 gather_next seat rec comm seen root fits stage = by (seen + 2 == group_size seat comm) refl
   where
     by : (b : Bool) → (seen + 2 == group_size seat comm) ≡ b → Next seat rec comm (Gather seen) (if b then Release 0 else Gather (seen + 1))
@@ -80,8 +80,8 @@ rest_kept stage flips calls e = record {
 pub parity_kept : (rec new : Record) (values : List Bool) → IsParityOf rec values → new.flips ≡ rec.flips → IsParityOf new values
 parity_kept rec new values p e comm lt = p comm lt ∙ (λ i. sym e i comm % 2)
 
-pub call_of_stage : (op : BarAt) (stage : BarStage) → op.stage ≡ stage → is_finished stage ≡ false → bar_call op ≡ Bar op.comm ∷ []
-call_of_stage op stage e open_still = if_no (is_finished op.stage) [] (Bar op.comm ∷ []) (ap is_finished e ∙ open_still)
+pub call_of_stage : (op : BarAt) (stage : BarStage) → op.stage ≡ stage → is_bar_finished stage ≡ false → bar_call op ≡ Bar op.comm ∷ []
+call_of_stage op stage e open_still = if_no (is_bar_finished op.stage) [] (Bar op.comm ∷ []) (ap is_bar_finished e ∙ open_still)
 
 -- what is left of two barriers of one communicator
 pub left_is : (seat : Seat) (op now : BarAt) (before stage : BarStage) → now.comm ≡ op.comm → op.stage ≡ before → now.stage ≡ stage
@@ -97,9 +97,9 @@ turn_nothing {s} {c} {op} {values} st e = record {
   events = [];
   did = did_nothing s;
   does = subst (λ (x : BarStage). Does s.seat op.comm x (flag_value (value_at values op.comm)) s c s c) (sym e) (refl, refl);
-  tried = NoTry (ap (λ (x : BarStage). aim_at s.seat op.comm x (flag_value (value_at values op.comm))) e) refl;
+  tried = NoTry (ap (λ (x : BarStage). barrier_aim_at s.seat op.comm x (flag_value (value_at values op.comm))) e) refl;
   same = refl;
-  means = (e, sym (append-nil (record_in s).calls) ∙ ap (λ (cs : List DataCall). (record_in s).calls ++ cs) (sym (if_yes (is_finished op.stage) [] (Bar op.comm ∷ []) (ap is_finished e))), ap is_gather e);
+  means = (e, sym (append-nil (record_in s).calls) ∙ ap (λ (cs : List DataCall). (record_in s).calls ++ cs) (sym (if_yes (is_bar_finished op.stage) [] (Bar op.comm ∷ []) (ap is_bar_finished e))), ap is_gather e);
   flips = ap (λ (x : BarStage). flips_by op.comm x (record_in s).flips) (sym e);
   rest = record { post = refl; notes = refl; registers = refl; heap = refl };
   no_draft = refl;

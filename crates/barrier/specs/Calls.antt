@@ -10,7 +10,7 @@ use Rattle.sync_flags.specs.Tries.{Aim, AtWord, spot_of, vain_tries, TriedInVain
 use Rattle.barrier.specs.declared.barriers.BarStop.{BarStop}
 use Rattle.barrier.specs.declared.barriers.BarStop.TheVariants.{Stalled}
 use Rattle.barrier.specs.Flags.{IsParityOf, value_at, release_word}
-use Rattle.barrier.specs.Stages.{BarAt, BarStands, Member, ParityHolder, bar_call, own_place, aim_at}
+use Rattle.barrier.specs.Stages.{BarAt, BarStands, Member, ParityHolder, bar_call, own_place, barrier_aim_at}
 use Rattle.barrier.specs.Turns.{KeepsAllButBarriers, flips_by}
 
 -- the flags at which the last turn of a rank's barrier may have looked: a member's own release flag; a root ends
@@ -42,7 +42,7 @@ pub record Stalls (old : Member) (polls : ℕ) (rank : ParityHolder) (stop : Bar
   pub is : stop ≡ Stalled now (spot_of aim) polls
   pub stands : BarStands rank.sight rank.core now rank.parity
   pub same : now.comm ≡ old.op.comm
-  pub looks : aim_at old.sight.seat now.comm now.stage (flag_value (value_at rank.parity now.comm)) ≡ Some aim
+  pub looks : barrier_aim_at old.sight.seat now.comm now.stage (flag_value (value_at rank.parity now.comm)) ≡ Some aim
   pub calls : (record_in rank.sight).calls ≡ (record_in old.sight).calls
   pub call_left : bar_call now ≡ bar_call old.op
   pub flips : (record_in rank.sight).flips ≡ flips_by old.op.comm old.op.stage (record_in old.sight).flips

@@ -46,9 +46,9 @@ abbrev pub new_barrier : ℕ → BarAt
 new_barrier comm = record { comm = comm; stage = Flip }
 
 -- the barrier is finished
-abbrev pub is_finished : BarStage → Bool
-is_finished Finished = true
-is_finished _ = false
+abbrev pub is_bar_finished : BarStage → Bool
+is_bar_finished Finished = true
+is_bar_finished _ = false
 
 -- the root is looking at its members
 abbrev pub is_gather : BarStage → Bool
@@ -98,22 +98,22 @@ abbrev pub bar_left : Seat → BarAt → ℕ
 bar_left seat op = left_by (group_size seat op.comm) (own_place seat op.comm) op.stage
 
 -- what a stage looks for: that a flag has the value of the own gather flag
-abbrev pub aim_at : Seat → ℕ → BarStage → (value : ℕ) → Option Aim
-aim_at seat comm (Gather seen) value = Some (AtWord (gather_word seat comm (member_at seat.setup comm seat.rank (seen + 1))) value)
-aim_at seat comm Await value = Some (AtWord (release_word seat comm seat.rank) value)
-aim_at seat comm stage value = None
+abbrev pub barrier_aim_at : Seat → ℕ → BarStage → (value : ℕ) → Option Aim
+barrier_aim_at seat comm (Gather seen) value = Some (AtWord (gather_word seat comm (member_at seat.setup comm seat.rank (seen + 1))) value)
+barrier_aim_at seat comm Await value = Some (AtWord (release_word seat comm seat.rank) value)
+barrier_aim_at seat comm stage value = None
 
 -- the call that a barrier which is not at its end is to finish
 abbrev pub bar_call : BarAt → List DataCall
-bar_call op = if is_finished op.stage then [] else Bar op.comm ∷ []
+bar_call op = if is_bar_finished op.stage then [] else Bar op.comm ∷ []
 
 -- what comes after the flip: a group of one is done, a root looks at its first member, a member awaits its release
 abbrev pub after_flip : (size place : ℕ) → BarStage
 after_flip size place = if size == 1 then Finished else (if place == 0 then Gather 0 else Await)
 
 -- what comes after the root has seen one more member: it looks at the next one, and releases them once it has seen all
-abbrev pub after_seen : (size seen : ℕ) → BarStage
-after_seen size seen = if seen + 2 == size then Release 0 else Gather (seen + 1)
+abbrev pub after_member_seen : (size seen : ℕ) → BarStage
+after_member_seen size seen = if seen + 2 == size then Release 0 else Gather (seen + 1)
 
 -- what comes after the root has released one more member: it releases the next one, and is done after the last
 abbrev pub after_release : (size released : ℕ) → BarStage

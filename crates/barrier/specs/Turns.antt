@@ -5,7 +5,7 @@ use Rattle.scc_base.specs.declared.events.Event.{Event}
 use Rattle.scc_base.specs.declared.events.Spot.{Spot}
 use Rattle.scc_base.specs.declared.events.Turn.{Turn}
 use Rattle.scc_base.specs.declared.events.Turn.TheVariants as turn
-use Rattle.scc_proto.specs.Tables.{put}
+use Rattle.scc_proto.specs.Tables.{table_with}
 use Rattle.scc_proto.specs.Stages.{Record}
 use Rattle.scc_proto.specs.Drafts.{is_draft}
 use Rattle.scc_proto.specs.Ports.{Seat, Sight, Did, record_in}
@@ -17,12 +17,12 @@ use Rattle.sync_flags.specs.Writes.{StoresWord}
 use Rattle.barrier.specs.declared.stages.BarStage.{BarStage}
 use Rattle.barrier.specs.declared.stages.BarStage.TheVariants.{Flip, Gather, Release, Await, Finished}
 use Rattle.barrier.specs.Flags.{value_at, member_at, gather_word, release_word}
-use Rattle.barrier.specs.Stages.{Member, is_finished, is_gather, bar_left, aim_at, bar_call}
+use Rattle.barrier.specs.Stages.{Member, is_bar_finished, is_gather, bar_left, barrier_aim_at, bar_call}
 
 -- where a turn waits
-abbrev pub waits_at : Turn → Option Spot
-waits_at (turn.Waiting spot) = Some spot
-waits_at answer = None
+abbrev pub bar_waits_at : Turn → Option Spot
+bar_waits_at (turn.Waiting spot) = Some spot
+bar_waits_at answer = None
 
 -- what each stage does: it writes one flag, looks at one, or does nothing. Eight parameters: of the stage its place (the
 -- seat, the communicator), itself and the value that this barrier writes; of the rank its sight and its core, before the
@@ -38,7 +38,7 @@ Does seat comm Finished value s c t d = (t ≡ s) × (d ≡ c)
 
 -- how often the own gather flags were flipped, by a turn or by a whole barrier from this stage on
 abbrev pub flips_by : ℕ → BarStage → (ℕ → ℕ) → ℕ → ℕ
-flips_by comm Flip flips = put flips comm (suc (flips comm))
+flips_by comm Flip flips = table_with flips comm (suc (flips comm))
 flips_by comm stage flips = flips
 
 -- what no turn of a barrier changes of a record
@@ -52,7 +52,7 @@ pub record KeepsAllButBarriers (rec new : Record) : Type 0 where
 abbrev pub BarMeans : Member → Member → Turn → Type 0
 BarMeans old now turn.Moved =
     (bar_left old.sight.seat old.op ≡ bar_left old.sight.seat now.op + 1) × ((record_in now.sight).calls ≡ (record_in old.sight).calls)
-    × (is_finished old.op.stage ≡ false) × (is_finished now.op.stage ≡ false)
+    × (is_bar_finished old.op.stage ≡ false) × (is_bar_finished now.op.stage ≡ false)
 BarMeans old now (turn.Waiting spot) = (now.op ≡ old.op) × (record_in now.sight ≡ record_in old.sight)
 BarMeans old now turn.Done = (now.op.stage ≡ Finished) × ((record_in now.sight).calls ≡ (record_in old.sight).calls ++ bar_call old.op)
     × (is_gather old.op.stage ≡ false)
@@ -64,7 +64,8 @@ pub record BarTurned (old now : Member) (answer : Turn) : Type 0 where
   pub does : Does old.sight.seat old.op.comm old.op.stage (flag_value (value_at now.parity old.op.comm)) old.sight old.core
       now.sight now.core
   -- it waits exactly where its one look was vain
-  pub tried : Tried (aim_at old.sight.seat old.op.comm old.op.stage (flag_value (value_at now.parity old.op.comm))) events (waits_at answer)
+  pub tried : Tried (barrier_aim_at old.sight.seat old.op.comm old.op.stage (flag_value (value_at now.parity old.op.comm))) events
+      (bar_waits_at answer)
   pub same : now.op.comm ≡ old.op.comm
   pub means : BarMeans old now answer
   pub flips : (record_in now.sight).flips ≡ flips_by old.op.comm old.op.stage (record_in old.sight).flips

@@ -1,7 +1,7 @@
 //! Where a barrier stands.
 
 ghost use Rattle.std.specs.Prelude.{◌≡◌, ◌+◌, ◌<◌};
-ghost use Rattle.barrier.specs.Stages.{after_flip, after_seen, after_release};
+ghost use Rattle.barrier.specs.Stages.{after_flip, after_member_seen, after_release};
 
 /// What a barrier does next.
 #[derive(Clone, Copy, PartialEq, Eq)]
@@ -35,7 +35,7 @@ pub(crate) fn stage_after_flip(size: u8, place: u8) -> BarStage
 /// The stage after one more member was seen.
 pub(crate) fn stage_after_seen(size: u8, seen: u8) -> BarStage
     requires below { seen + 1 < size }
-    ensures gives { result ≡ after_seen size seen }
+    ensures gives { result ≡ after_member_seen size seen }
 {
     if size - seen == 2 {
         BarStage::Release(0)

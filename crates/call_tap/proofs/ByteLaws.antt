@@ -6,9 +6,9 @@ use Rattle.scc_base.specs.Calls.{DataCall, Bar}
 use Rattle.scc_base.specs.Setups.{SetupView}
 use Rattle.scc_base.specs.declared.events.Event.{Event}
 use Rattle.scc_base.specs.declared.signals.Signal.TheVariants.{Sent, Ready}
-use Rattle.scc_proto.specs.Messages.{Notes, Progress, begun, bytes_from, chunk_bytes, head_of, is_last, message_of, note_word, post_to, recv_from, send_to, with_chunk}
+use Rattle.scc_proto.specs.Messages.{Notes, Progress, fresh_message, bytes_from, chunk_bytes, head_of, is_last, message_of, note_word, post_to, recv_from, send_to, with_chunk}
 use Rattle.scc_proto.specs.Moves.{Move, DraftHeader, DraftChunk, RaiseSignal, LookSignal, ReadHeader, ReadChunk, LowerSignal, FlipGather, LookGather, WriteRelease, LookRelease, StoreHeap, NoMove, Misplaced, after, calls_after, calls_let_go, calls_raised, calls_received, calls_released, calls_sent, draft_chunk, draft_header, finished_if, flip_gather, is_posted, look_gather, look_ready, look_release, lower_ready, lower_sent, raise_ready, raise_sent, read_chunk, stage_after, write_release}
-use Rattle.scc_proto.specs.Records.{Act, Moving, NotingSignal, ChangingSignal, Holding, Freeing, act_of, after_act, chunk_of, is_permitted, record_after, record_from, record_of}
+use Rattle.scc_proto.specs.Records.{EventAct, Moving, NotingSignal, ChangingSignal, Holding, Freeing, act_of, after_act, chunk_of, is_permitted, record_after, record_from, record_of}
 use Rattle.scc_proto.specs.Stages.{Filling, Raised, Answered, Stage, Idle, Drafting, Sending, Between, Taking, Barrier, Record, blank}
 use Rattle.call_tap.specs.Bytes.{AreBelow256, HasBytes}
 
@@ -65,7 +65,7 @@ draft_chunk_open k v (Barrier comm seen released) are = are
 
 raise_sent_open : (to : ℕ) → (stage : Stage) → OpenBytes stage → OpenBytes (raise_sent to stage)
 raise_sent_open to Idle are = are
-raise_sent_open to (Drafting header chunk) are = if_open (is_posted header) Idle (Sending to Raised (begun (head_of header)) chunk) tt none_bytes
+raise_sent_open to (Drafting header chunk) are = if_open (is_posted header) Idle (Sending to Raised (fresh_message (head_of header)) chunk) tt none_bytes
 raise_sent_open to (Sending j Filling message chunk) are = are
 raise_sent_open to (Sending j Raised message chunk) are = are
 raise_sent_open to (Sending j Answered message chunk) are = are
@@ -181,7 +181,7 @@ if_finished false call calls last all = all
 
 calls_raised_have : (size to : ℕ) (stage : Stage) (calls : List DataCall) → OpenBytes stage → HaveBytes calls → HaveBytes (calls_raised size to stage calls)
 calls_raised_have size to Idle calls are all = all
-calls_raised_have size to (Drafting header chunk) calls are all = if_finished (is_posted header) (post_to to (message_of (with_chunk size (begun (head_of header)) chunk))) calls (chunk_through size (begun (head_of header)) chunk none_bytes) all
+calls_raised_have size to (Drafting header chunk) calls are all = if_finished (is_posted header) (post_to to (message_of (with_chunk size (fresh_message (head_of header)) chunk))) calls (chunk_through size (fresh_message (head_of header)) chunk none_bytes) all
 calls_raised_have size to (Sending j part message chunk) calls are all = all
 calls_raised_have size to (Between from message) calls are all = all
 calls_raised_have size to (Taking from message chunk) calls are all = all
@@ -246,7 +246,7 @@ record Bytes (rec : Record) : Type 0 where
 after_move : (size : ℕ) (move : Move) (rec : Record) → Bytes rec → Bytes (after size move rec)
 after_move size move rec is = record { open_bytes = move_open size move rec is.open_bytes; have = move_have size move rec is.open_bytes is.have }
 
-after_any : (size : ℕ) (act : Act) (rec : Record) → Bytes rec → Bytes (after_act size act rec)
+after_any : (size : ℕ) (act : EventAct) (rec : Record) → Bytes rec → Bytes (after_act size act rec)
 after_any size (Moving move) rec is = after_move size move rec is
 after_any size (NotingSignal signal core value) rec is = record { open_bytes = is.open_bytes; have = is.have }
 after_any size (ChangingSignal signal core move) rec is = let moved = after_move size move rec is in record { open_bytes = moved.open_bytes; have = moved.have }

@@ -14,11 +14,11 @@ use Rattle.scc_proto.proofs.PortLaws.{record_of-nil, record_of-push}
 use Rattle.record_machine.specs.Following.{Adds, FollowsRecord, moved_by}
 use Rattle.call_tap.specs.declared.kept.Kept.{Kept}
 use Rattle.call_tap.specs.declared.taps.Tap.{Tap}
-use Rattle.call_tap.specs.Kept.{AreKept, HasTapRoom, IsKept}
+use Rattle.call_tap.specs.Kept.{AreKept, HasTapRoom, AreKeptWithRoom}
 use Rattle.call_tap.specs.Taps.{HasRead, TapReads}
 
 -- a tap of a rank that has made no access
-pub fresh_read : (tap : Tap) (s : SetupView) (rank : ℕ) → tap.machine.setup ≡ s → tap.machine.rank ≡ rank → FollowsRecord tap.machine blank → IsKept tap.kept [] → HasRead tap s rank []
+pub fresh_read : (tap : Tap) (s : SetupView) (rank : ℕ) → tap.machine.setup ≡ s → tap.machine.rank ≡ rank → FollowsRecord tap.machine blank → AreKeptWithRoom tap.kept [] → HasRead tap s rank []
 fresh_read tap s rank setup_is rank_is follows kept = record {
   setup_is = setup_is;
   rank_is = rank_is;
@@ -40,13 +40,13 @@ read_on old new e same goes s rank events read = record {
 }
 
 -- an access that finishes no call
-pub kept_on : (kept : Kept) (now before : List DataCall) → now ≡ before → IsKept kept before → IsKept kept now
-kept_on kept now before same is = subst (λ (calls : List DataCall). IsKept kept calls) (sym same) is
+pub kept_on : (kept : Kept) (now before : List DataCall) → now ≡ before → AreKeptWithRoom kept before → AreKeptWithRoom kept now
+kept_on kept now before same is = subst (λ (calls : List DataCall). AreKeptWithRoom kept calls) (sym same) is
 
 -- an access that finishes a call
 pub kept_more : (kept : Kept) (call : Call) (bytes : List ℕ) (before now : List DataCall) → Adds (Some call) bytes before now
-    → ((done : DataCall) → call_of done ≡ call → moved_by done ≡ bytes → IsKept kept (before ++ done ∷ [])) → IsKept kept now
-kept_more kept call bytes before now adds notes = subst (λ (calls : List DataCall). IsKept kept calls) (sym adds.3) (notes adds.0 adds.1 adds.2)
+    → ((done : DataCall) → call_of done ≡ call → moved_by done ≡ bytes → AreKeptWithRoom kept (before ++ done ∷ [])) → AreKeptWithRoom kept now
+kept_more kept call bytes before now adds notes = subst (λ (calls : List DataCall). AreKeptWithRoom kept calls) (sym adds.3) (notes adds.0 adds.1 adds.2)
 
 -- a port that was continued by one event
 pub read_there : (tap : Tap) (old now : Sight) (e : Event) → Did old (e ∷ []) now → HasRead tap old.seat.setup old.seat.rank (old.events ++ e ∷ []) → HasRead tap now.seat.setup now.seat.rank now.events

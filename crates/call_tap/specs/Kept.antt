@@ -15,5 +15,5 @@ pub record AreKept (k : Kept) (calls : List DataCall) : Type 0 where
   pub bytes_are : k.bytes.items ≡ flat_map moved_by calls
 
 -- these calls are kept, where there is room for them
-abbrev pub IsKept : Kept → List DataCall → Type 0
-IsKept k calls = HasTapRoom calls → AreKept k calls
+abbrev pub AreKeptWithRoom : Kept → List DataCall → Type 0
+AreKeptWithRoom k calls = HasTapRoom calls → AreKept k calls

@@ -6,12 +6,12 @@ use Rattle.scc_proto.specs.Records.{record_of}
 use Rattle.scc_proto.specs.Stages.{Record}
 use Rattle.record_machine.specs.Following.{FollowsRecord}
 use Rattle.call_tap.specs.declared.taps.Tap.{Tap}
-use Rattle.call_tap.specs.Kept.{IsKept}
+use Rattle.call_tap.specs.Kept.{AreKeptWithRoom}
 
 -- a tap has come to this record
 pub record TapReads (tap : Tap) (rec : Record) : Type 0 where
   pub follows : FollowsRecord tap.machine rec
-  pub kept : IsKept tap.kept rec.calls
+  pub kept : AreKeptWithRoom tap.kept rec.calls
 
 -- a tap has read these events of a rank
 pub record HasRead (tap : Tap) (s : SetupView) (rank : ℕ) (events : List Event) : Type 0 where

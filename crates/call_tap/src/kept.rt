@@ -23,12 +23,12 @@ pub struct Kept {
 impl Kept {
     ghost use Rattle.std.specs.Prelude.{◌≡◌, ◌∷◌, ◌++◌, List, [], IfOk};
     ghost use Rattle.scc_base.specs.Calls.{DataCall, call_of};
-    ghost use Rattle.call_tap.specs.Kept.{IsKept};
+    ghost use Rattle.call_tap.specs.Kept.{AreKeptWithRoom};
     ghost use Rattle.record_machine.specs.Following.{moved_by};
 
     /// No calls, with room for them.
     pub fn new(alloc: Global) -> Result<Kept, AllocError>
-        ensures none { IfOk result (λ k. IsKept k []) }
+        ensures none { IfOk result (λ k. AreKeptWithRoom k []) }
     {
         let calls = Vec::with_capacity(alloc, MOST_CALLS)?;
         let bytes = Vec::with_capacity(alloc, MOST_BYTES)?;
@@ -37,8 +37,9 @@ impl Kept {
 
     /// One call more, as far as there is room.
     pub(crate) fn note(&mut self, call: Call, bytes: &[u8])
-        ensures notes { (calls : List DataCall) (done : DataCall) → call_of done ≡ call → moved_by done ≡ bytes.now → IsKept self.old calls
-            → IsKept self.new (calls ++ done ∷ []) }
+        ensures notes { (calls : List DataCall) (done : DataCall) → call_of done ≡ call → moved_by done ≡ bytes.now
+            → AreKeptWithRoom self.old calls
+            → AreKeptWithRoom self.new (calls ++ done ∷ []) }
     {
         let left = MOST_BYTES.saturating_sub(self.bytes.len());
         if self.calls.len() < MOST_CALLS && bytes.len() <= left {

@@ -12,7 +12,7 @@ use Rattle.outcomes.specs.declared.status.Status.{Status}
 use Rattle.outcomes.specs.declared.status.Status.TheVariants as status
 use Rattle.outcomes.specs.Delivery.{AreSteady, ShowsOr, Sinks}
 use Rattle.outcomes.specs.Outcomes.{Outcome, too_long}
-use Rattle.outcomes.specs.Plans.{contents_outcome, expected, plan_outcome, words_outcome}
+use Rattle.outcomes.specs.Plans.{contents_outcome, expected_outcome, plan_outcome, words_outcome}
 use Rattle.outcomes.specs.Promises.{Promises}
 use Rattle.check_program.specs.Program.{command_plan, rccecheck, check_run_plan}
 use Rattle.check_program.specs.Statuses.{HasRunStatus, command_status, contents_status, parsed_status, run_status}
@@ -38,12 +38,12 @@ module _ (program : List ℕ) (files : List NamedFile) where
   of_command (Some command) = of_contents command (contents_of command.script files)
 
 -- a call that shows the expected outcome has its status
-pub shown : (words : List (List ℕ)) (told : List NamedFile) (before after : Sinks) (s : Status) → ShowsOr rccecheck.name (expected rccecheck words told) before after s → (s ≡ run_status words told) ⊎ (s ≡ status.Memory)
+pub shown : (words : List (List ℕ)) (told : List NamedFile) (before after : Sinks) (s : Status) → ShowsOr rccecheck.name (expected_outcome rccecheck words told) before after s → (s ≡ run_status words told) ⊎ (s ≡ status.Memory)
 shown words told before after s (inl shows) = inl (shows.same_status ∙ of_command rccecheck.name told (script_command words))
 shown words told before after s (inr memory) = inr memory.same_status
 
 by_told : (words : List (List ℕ)) (told : Option (List NamedFile)) (faults faults_after : ℕ) (before after : Sinks) (s : Status)
-    → IfSome told (λ t. IsSteady faults faults_after → AreSteady before after → ShowsOr rccecheck.name (expected rccecheck words t) before after s)
+    → IfSome told (λ t. IsSteady faults faults_after → AreSteady before after → ShowsOr rccecheck.name (expected_outcome rccecheck words t) before after s)
     → IfSome told (λ t. IsSteady faults faults_after → AreSteady before after → (s ≡ run_status words t) ⊎ (s ≡ status.Memory))
 by_told words None faults faults_after before after s is = tt
 by_told words (Some t) faults faults_after before after s is = λ steady sinks_steady. shown words t before after s (is steady sinks_steady)

@@ -17,7 +17,7 @@ use Rattle.script_plain.specs.Meaning.{plain_end, plain_ends, seen_of}
 use Rattle.script_plain.proofs.Runs.PlainLaws.{length-plain_end}
 use Rattle.script_plain.proofs.Messages.RestLaws.{ends_length}
 use Rattle.script_reader.specs.Script.{Script}
-use Rattle.check_program.specs.Waiting.{cause_at, cause_of, first_from, found_at, is_absent_from, is_waiting, least_walked, trouble_of, waits_by_call, waits_by_end, waits_for, walked}
+use Rattle.check_program.specs.Waiting.{cause_at, cause_of, first_from, found_at, is_absent_from, is_waiting, least_walked, trouble_of, waits_by_call, waits_by_end, waits_for, after_steps}
 use Rattle.check_program.specs.declared.causes.Cause.{Cause}
 use Rattle.check_program.specs.declared.trouble.Found.{Found}
 use Rattle.check_program.specs.declared.trouble.Trouble.{Trouble}
@@ -98,8 +98,8 @@ many script ends same = ap length same ∙ ends_length (seen_of (plain_end scrip
 
 module _ (next : ℕ → Option ℕ) where
   -- one step, and then the rest of a walk
-  pub walked_on : (n m at to : ℕ) → n ≡ suc m → next at ≡ Some to → walked next n at ≡ walked next m to
-  walked_on n m at to more is = ap (λ (k : ℕ). walked next k at) more ∙ ap (λ (o : Option ℕ). option_map_or (walked next m) o at) is
+  pub walked_on : (n m at to : ℕ) → n ≡ suc m → next at ≡ Some to → after_steps next n at ≡ after_steps next m to
+  walked_on n m at to more is = ap (λ (k : ℕ). after_steps next k at) more ∙ ap (λ (o : Option ℕ). option_map_or (after_steps next m) o at) is
 
   least_by : (n at : ℕ) (o : Option ℕ) → option_map_or (λ k. min at (least_walked next n k)) o at ≤ at
   least_by n at None = omega arith
@@ -138,10 +138,10 @@ still_first test n number whole low fails left =
     sym (first_past test (n - number) (n - (number + 1)) number (omega (arith, low)) fails) ∙ left
 
 -- the cause that a walk comes to
-pub cause_is : (next : ℕ → Option ℕ) (ends : List Ended) (nue rank last on : ℕ) (why : Cause) → length ends ≡ nue → Some on ≡ next rank → last ≡ walked next nue rank → why ≡ cause_at next ends last (next last)
+pub cause_is : (next : ℕ → Option ℕ) (ends : List Ended) (nue rank last on : ℕ) (why : Cause) → length ends ≡ nue → Some on ≡ next rank → last ≡ after_steps next nue rank → why ≡ cause_at next ends last (next last)
     → Some why ≡ option_map (λ k. cause_of next ends rank) (next rank)
 cause_is next ends nue rank last on why many waits walk is =
-    ap Some (is ∙ ap (λ (k : ℕ). cause_at next ends k (next k)) (walk ∙ ap (λ (n : ℕ). walked next n rank) (sym many)))
+    ap Some (is ∙ ap (λ (k : ℕ). cause_at next ends k (next k)) (walk ∙ ap (λ (n : ℕ). after_steps next n rank) (sym many)))
     ∙ ap (option_map (λ (k : ℕ). cause_of next ends rank)) waits
 
 -- one rank more

@@ -53,9 +53,9 @@ is_waiting (ue_end.Waits line call) = true
 is_waiting (ue_end.Mismatch line from sent asked) = false
 
 -- where n steps lead from a rank, each to the rank that is waited for; a rank that does not wait is not left
-abbrev pub walked : (ℕ → Option ℕ) → ℕ → ℕ → ℕ
-walked next zero rank = rank
-walked next (suc n) rank = option_map_or (walked next n) (next rank) rank
+abbrev pub after_steps : (ℕ → Option ℕ) → ℕ → ℕ → ℕ
+after_steps next zero rank = rank
+after_steps next (suc n) rank = option_map_or (after_steps next n) (next rank) rank
 
 -- the least of the ranks to which up to n steps lead
 abbrev pub least_walked : (ℕ → Option ℕ) → ℕ → ℕ → ℕ
@@ -63,21 +63,21 @@ least_walked next zero rank = rank
 least_walked next (suc n) rank = option_map_or (λ k. min rank (least_walked next n k)) (next rank) rank
 
 -- where exactly n steps lead
-abbrev pub stepped : (ℕ → Option ℕ) → ℕ → ℕ → Option ℕ
-stepped next zero rank = Some rank
-stepped next (suc n) rank = option_and_then (stepped next n) (next rank)
+abbrev pub after_exact_steps : (ℕ → Option ℕ) → ℕ → ℕ → Option ℕ
+after_exact_steps next zero rank = Some rank
+after_exact_steps next (suc n) rank = option_and_then (after_exact_steps next n) (next rank)
 
 -- some steps lead from a rank to another
 abbrev pub Reaches : (ℕ → Option ℕ) → ℕ → ℕ → Type 0
-Reaches next rank other = (n : ℕ) × (stepped next n rank ≡ Some other)
+Reaches next rank other = (n : ℕ) × (after_exact_steps next n rank ≡ Some other)
 
 -- a rank leads to another in n steps, where n is at most `most`
 abbrev pub ReachesIn : (ℕ → Option ℕ) → ℕ → ℕ → ℕ → Type 0
-ReachesIn next most rank other = (n : ℕ) × (n ≤ most) × (stepped next n rank ≡ Some other)
+ReachesIn next most rank other = (n : ℕ) × (n ≤ most) × (after_exact_steps next n rank ≡ Some other)
 
 -- some steps, and at least one, lead from a rank back to it
 abbrev pub IsInRing : (ℕ → Option ℕ) → ℕ → Type 0
-IsInRing next rank = (n : ℕ) × (0 < n) × (stepped next n rank ≡ Some rank)
+IsInRing next rank = (n : ℕ) × (0 < n) × (after_exact_steps next n rank ≡ Some rank)
 
 -- a rank that has refused a message
 abbrev pub HasEndedRefusing : UeEnd → Type 0
@@ -107,7 +107,7 @@ cause_at next ends last (Some k) = cause.Cycle (least_walked next (length ends) 
 
 -- the cause for which a rank waits: as many steps are walked as there are ranks
 abbrev pub cause_of : (ℕ → Option ℕ) → List Ended → ℕ → Cause
-cause_of next ends rank = let last = walked next (length ends) rank in cause_at next ends last (next last)
+cause_of next ends rank = let last = after_steps next (length ends) rank in cause_at next ends last (next last)
 
 -- it waits for a rank, with a cause
 abbrev pub trouble_by_waits : Cause → Option ℕ → Trouble

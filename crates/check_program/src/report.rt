@@ -1,7 +1,7 @@
 //! What was found of a script, and its lines on out.
 
 ghost use Rattle.std.specs.Prelude.{◌≡◌, map, IfOk};
-ghost use Rattle.rcce_io.specs.Sending.{Sends, joined};
+ghost use Rattle.rcce_io.specs.Sending.{Sends, joined_texts};
 ghost use Rattle.script_plain.specs.Matches.{plain_matches};
 ghost use Rattle.script_plain.specs.Meaning.{keys_of, plain_ends};
 ghost use Rattle.check_program.specs.Program.{check_ran_of};
@@ -44,7 +44,7 @@ impl outcomes::Report for Report {
 
 /// Writes a line for each message.
 fn write_matches<S: Sink>(sink: &mut S, matches: &Matches) -> Result<(), WriteFault>
-    ensures { Sends (joined (map match_line matches.now)) (S.seen sink.old) (S.seen sink.new) result }
+    ensures { Sends (joined_texts (map match_line matches.now)) (S.seen sink.old) (S.seen sink.new) result }
 {
     let mut buffer = Buffer::new();
     for i in 0..matches.len() {

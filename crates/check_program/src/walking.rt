@@ -4,7 +4,7 @@ ghost use Rattle.std.specs.Prelude.{◌≡◌, ◌<◌, is_some, length, IfSome}
 ghost use Rattle.std.specs.Option.{option_map};
 ghost use Rattle.script_plain.specs.Ends.{ended_at};
 ghost use Rattle.script_plain.specs.Meaning.{keys_of, plain_ends};
-ghost use Rattle.check_program.specs.Waiting.{IsCause, cause_of, is_waiting, least_walked, stopped_by, waits_for, walked};
+ghost use Rattle.check_program.specs.Waiting.{IsCause, cause_of, is_waiting, least_walked, stopped_by, waits_for, after_steps};
 
 use crate::causes::Cause;
 use crate::waiting::waits_for;
@@ -40,7 +40,7 @@ pub fn cause(end: &End, scripts: &Scripts, rank: Rank) -> Option<Cause>
 fn walk(ends: &End, scripts: &Scripts, rank: Rank) -> Rank
     requires ended { ends.now ≡ plain_ends scripts.now }
     requires below { rank < scripts.now.nue }
-    ensures walked { result ≡ walked (waits_for (keys_of scripts.now) ends.now) scripts.now.nue rank }
+    ensures walked { result ≡ after_steps (waits_for (keys_of scripts.now) ends.now) scripts.now.nue rank }
     ensures below { result < scripts.now.nue }
 {
     let mut at = rank;

@@ -23,7 +23,7 @@ use Rattle.scc_mesh.proofs.LookLaws.{saw_later}
 use Rattle.scc_mesh.proofs.PortEnds.{chip_ends}
 use Rattle.scc_mesh.proofs.TurnLaws.{turn_leaves}
 use Rattle.chip_run.specs.Conducts.{Conduct, WorkerView}
-use Rattle.chip_run.specs.Turns.{HasStayed, HasWaited, IsDone, IsOver, LookedAt, NoneElseHolds, OwnTurn, Turned, TurnedAtHome, TurnMeans, WaitsThen, rest_by}
+use Rattle.chip_run.specs.Turns.{HasStayed, HasWaited, IsDone, WantsNothing, LookedAt, NoneElseHolds, OwnTurn, Turned, TurnedAtHome, TurnMeans, WaitsThen, rest_by}
 use Rattle.chip_run.specs.Wants.{Want}
 use Rattle.chip_run.specs.declared.rests.Rest.{Rest}
 
@@ -186,8 +186,8 @@ module _ {A : Type 0} (c : Conduct A) where
       alike : Like (records_in chip r) (records_in now r)
       alike = subst (λ (rec : Record). Like (records_in chip r) rec) (sym same) (like_self (records_in chip r))
 
-      over : IsOver (records_in now r) (c.seen s r x)
-      over = subst (λ (rec : Record). IsOver rec (c.seen s r x)) (sym same) (subst (λ (v : WorkerView). IsOver (record_of s r (events_in chip r)) v) (sym done.seen) done.over)
+      over : WantsNothing (records_in now r) (c.seen s r x)
+      over = subst (λ (rec : Record). WantsNothing rec (c.seen s r x)) (sym same) (subst (λ (v : WorkerView). WantsNothing (record_of s r (events_in chip r)) v) (sym done.seen) done.over)
 
       stayed_stopped : (c.seen s r x).is_stopped ≡ true → HasStayed c false chip r now w x
       stayed_stopped so = record { stays = done.stays; seen = done.seen; alike = alike; rests = inl (record { over = over; stopped = so }) }

@@ -4,7 +4,7 @@ use Rattle.scc_base.specs.Heads.{MessageHead}
 use Rattle.scc_base.specs.Setups.{SetupView}
 use Rattle.scc_base.specs.declared.signals.Signal.TheVariants.{Ready}
 use Rattle.scc_proto.specs.Agreement.{Agrees}
-use Rattle.scc_proto.specs.Like.{unanswered, Like}
+use Rattle.scc_proto.specs.Like.{as_unanswered, Like}
 use Rattle.scc_proto.specs.Messages.{Notes, Progress}
 use Rattle.scc_proto.specs.Pairs.{Offering, pair_of, sending_side}
 use Rattle.scc_proto.specs.Records.{chunk_of}
@@ -40,7 +40,7 @@ raise_waits s memory records me to head part message chunk agrees peers stage up
 module _ (s : SetupView) (view : View) (me : ℕ) (rec now : Record) (like : Like rec now) where
   slot_same : SlotWaits view me rec → SlotWaits view me now
   slot_same waits =
-      let (q, there, to_is) = post_like waits.post now.post (sym (ap (option_map unanswered) waits.is_posted) ∙ like.post) in
+      let (q, there, to_is) = post_like waits.post now.post (sym (ap (option_map as_unanswered) waits.is_posted) ∙ like.post) in
       record { stage = sym like.stage ∙ waits.stage; post = q; is_posted = there; vain = λ is. waits.vain (ap (λ (x : ℕ). view.signal Ready x me) to_is ∙ is) }
 
   raise_same : (to : ℕ) (head : MessageHead) → RaiseWaits s view me to head rec → RaiseWaits s view me to head now

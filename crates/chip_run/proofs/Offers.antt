@@ -6,8 +6,8 @@ use Rattle.scc_base.specs.Setups.{SetupView}
 use Rattle.scc_base.specs.declared.signals.Signal.TheVariants.{Sent}
 use Rattle.scc_proto.specs.Agreement.{Agrees}
 use Rattle.scc_proto.specs.Legality.{Outgoing}
-use Rattle.scc_proto.specs.Messages.{Notes, Message, Progress, begun, is_last, with_chunk, sent_messages, received_messages}
-use Rattle.scc_proto.specs.Pairs.{Offering, Receiving, sending_side, taking_side, resumed, pending, settling, HasArrived, Pair, pair_of, Phase, InRest, InRaised, InTaken, InReady}
+use Rattle.scc_proto.specs.Messages.{Notes, Message, Progress, fresh_message, is_last, with_chunk, sent_messages, received_messages}
+use Rattle.scc_proto.specs.Pairs.{Offering, Receiving, sending_side, taking_side, message_so_far, pending, settling, HasArrived, Pair, pair_of, Phase, InRest, InRaised, InTaken, InReady}
 use Rattle.scc_proto.specs.Passed.{slot_by, slot_of}
 use Rattle.scc_proto.specs.Records.{chunk_of}
 use Rattle.scc_proto.specs.Singles.{is_free, IsPosted, IsOnItsWay}
@@ -26,10 +26,10 @@ pub record IsOut (size : ℕ) (x : Pair) (is_post : Bool) (message : Progress) (
   pub seen : (x.sent_flag ≡ 1) ⊎ ((words : Notes) × (x.taking ≡ Receiving message words))
 
 module _ (size : ℕ) (x : Pair) (a p : Bool) (m : Progress) (c : Notes) (is : x.sending ≡ Offering a p m c) where
-  raised_out : (through : Option Progress) (head : _) (b : Bool) (w : Notes) → x.sent_flag ≡ 1 → Offering false b (resumed through head) w ≡ Offering a p m c
-      → x.sent ≡ x.received ++ pending size b (resumed through head) w → IsOut size x p m c
+  raised_out : (through : Option Progress) (head : _) (b : Bool) (w : Notes) → x.sent_flag ≡ 1 → Offering false b (message_so_far through head) w ≡ Offering a p m c
+      → x.sent ≡ x.received ++ pending size b (message_so_far through head) w → IsOut size x p m c
   raised_out through head b w flag side level =
-      let eb : b ≡ p = cc (side) in let em : resumed through head ≡ m = cc (side) in let ew : w ≡ c = cc (side) in
+      let eb : b ≡ p = cc (side) in let em : message_so_far through head ≡ m = cc (side) in let ew : w ≡ c = cc (side) in
       record { level = level ∙ (λ i. x.received ++ pending size (eb i) (em i) (ew i)); seen = inl flag }
 
   taken_out : (message : Progress) (b : Bool) (w words : Notes) → x.taking ≡ Receiving message words → Offering false b message w ≡ Offering a p m c
@@ -79,7 +79,7 @@ looking_awaits from (Taking i message chunk) looks m w is = looks
 looking_awaits from (Barrier comm seen released) looks m w is = looks
 
 -- the side of a posted message where nothing else is being sent
-pub free_side : (st : Stage) (post : OnItsWay) → is_free st ≡ true → sending_side post.to st (Some post) ≡ Offering post.is_answered true (begun post.head) post.chunk
+pub free_side : (st : Stage) (post : OnItsWay) → is_free st ≡ true → sending_side post.to st (Some post) ≡ Offering post.is_answered true (fresh_message post.head) post.chunk
 free_side Idle post free = post_here post.to post (eqb_same post.to)
 free_side (Drafting header chunk) post free = absurd (cc (free))
 free_side (Sending to part message chunk) post free = absurd (cc (free))
@@ -89,7 +89,7 @@ free_side (Barrier comm seen released) post free = post_here post.to post (eqb_s
 
 -- the message that a posted one is in its slot
 abbrev pub message_on : SetupView → OnItsWay → Outgoing
-message_on s post = record { to = post.to; head = post.head; bytes = (with_chunk (chunk_of s) (begun post.head) post.chunk).bytes }
+message_on s post = record { to = post.to; head = post.head; bytes = (with_chunk (chunk_of s) (fresh_message post.head) post.chunk).bytes }
 
 module _ (s : SetupView) (memory : Memory) (records : ℕ → Record) (agrees : Agrees s memory records) where
   abbrev pub pair : ℕ → ℕ → Pair
@@ -110,10 +110,10 @@ module _ (s : SetupView) (memory : Memory) (records : ℕ → Record) (agrees : 
   post_in_slot k low waits =
       let post = waits.post in
       let on = posted_is k low post waits.is_posted in
-      let side : sending_side post.to (records k).stage (records k).post ≡ Offering post.is_answered true (begun post.head) post.chunk =
+      let side : sending_side post.to (records k).stage (records k).post ≡ Offering post.is_answered true (fresh_message post.head) post.chunk =
       ap (λ (o : Option OnItsWay). sending_side post.to (records k).stage o) waits.is_posted ∙ free_side (records k).stage post on.free in
-      let out = out_by (chunk_of s) (pair k post.to) post.is_answered true (begun post.head) post.chunk side waits.vain (agrees.pairs k post.to on.peers) in
-      slot_full k post waits.is_posted (one_ahead (chunk_of s) (pair k post.to) (begun post.head) post.chunk out)
+      let out = out_by (chunk_of s) (pair k post.to) post.is_answered true (fresh_message post.head) post.chunk side waits.vain (agrees.pairs k post.to on.peers) in
+      slot_full k post waits.is_posted (one_ahead (chunk_of s) (pair k post.to) (fresh_message post.head) post.chunk out)
 
   -- what a full slot shows of its pair
   pub record FullSlot (i : ℕ) (m : Outgoing) : Type 0 where
@@ -121,7 +121,7 @@ module _ (s : SetupView) (memory : Memory) (records : ℕ → Record) (agrees : 
     pub is_posted : (records i).post ≡ Some post
     pub free : is_free (records i).stage ≡ true
     pub message_is : message_on s post ≡ m
-    pub out : IsOut (chunk_of s) (pair_of i post.to (view_of s memory) (records i) (records post.to)) true (begun post.head) post.chunk
+    pub out : IsOut (chunk_of s) (pair_of i post.to (view_of s memory) (records i) (records post.to)) true (fresh_message post.head) post.chunk
 
   pub full_slot : (i : ℕ) → i < s.nue → (m : Outgoing) → slot_of s records i ≡ Some m → FullSlot i m
   full_slot i low m full = by (records i).post refl full
@@ -132,14 +132,14 @@ module _ (s : SetupView) (memory : Memory) (records : ℕ → Record) (agrees : 
       by_test post true is test e = absurd (cc (e))
       by_test post false is test e =
           let on = posted_is i low post is in
-          let side : sending_side post.to (records i).stage (records i).post ≡ Offering post.is_answered true (begun post.head) post.chunk =
+          let side : sending_side post.to (records i).stage (records i).post ≡ Offering post.is_answered true (fresh_message post.head) post.chunk =
           ap (λ (o : Option OnItsWay). sending_side post.to (records i).stage o) is ∙ free_side (records i).stage post on.free in
           record {
             post = post;
             is_posted = is;
             free = on.free;
             message_is = same_Some (message_on s post) m e;
-            out = posted_out (chunk_of s) (pair i post.to) post.is_answered true (begun post.head) post.chunk side refl
+            out = posted_out (chunk_of s) (pair i post.to) post.is_answered true (fresh_message post.head) post.chunk side refl
                 (posted_last s i (records i) (agrees.singles.0 i low) post is) (apart _ _ test) (agrees.pairs i post.to on.peers);
           }
         where
@@ -164,8 +164,8 @@ module _ (s : SetupView) (memory : Memory) (records : ℕ → Record) (agrees : 
   no_fetch i j low m full mine takes =
       let slot = full_slot i low m full in
       let to_is : slot.post.to ≡ j = ap (λ (o : Outgoing). o.to) slot.message_is ∙ mine in
-      no_take i j true (begun slot.post.head) slot.post.chunk
-      (subst (λ (x : ℕ). IsOut (chunk_of s) (pair_of i x (view_of s memory) (records i) (records x)) true (begun slot.post.head) slot.post.chunk) to_is slot.out) takes
+      no_take i j true (fresh_message slot.post.head) slot.post.chunk
+      (subst (λ (x : ℕ). IsOut (chunk_of s) (pair_of i x (view_of s memory) (records i) (records x)) true (fresh_message slot.post.head) slot.post.chunk) to_is slot.out) takes
 
   -- a raised chunk of a send beside a vain look of its receiver
   pub raise_out : (i to : ℕ) (head : _) (waits : RaiseWaits s (view_of s memory) i to head (records i))

@@ -4,33 +4,33 @@ use Rattle.std.proofs.Common.{◌≡◌, ℕ, zero, suc, ◌+◌, ◌%◌, List,
 use Rattle.scc_mesh.specs.Scenes.{ChipView}
 use Rattle.chip_run.specs.declared.rests.Rest.{Rest}
 use Rattle.chip_run.specs.Crews.{CrewStands, IsCrew, OneTurn}
-use Rattle.chip_run.specs.Orders.{TurnsOf, drawn, named, sweeps_of}
+use Rattle.chip_run.specs.Orders.{TurnsOf, generator_after, named_ranks, sweeps_of}
 use Rattle.chip_run.specs.Conducts.{Conduct}
 use Rattle.chip_run.proofs.CrewLaws.{stands_both, stands_first, stands_on}
 
 module _ {G : Type 0} (step : G → ℕ × G) (nue : ℕ) where
-  pub drawn_more : (m n : ℕ) (g : G) → drawn step (m + n) g ≡ drawn step n (drawn step m g)
-  unfolding drawn
-  drawn_more zero n g = let e : zero + n ≡ n = omega arith in ap (λ (k : ℕ). drawn step k g) e
-  drawn_more (suc m) n g = let e : suc m + n ≡ suc (m + n) = omega arith in ap (λ (k : ℕ). drawn step k g) e ∙ drawn_more m n (step g).1
+  pub drawn_more : (m n : ℕ) (g : G) → generator_after step (m + n) g ≡ generator_after step n (generator_after step m g)
+  unfolding generator_after
+  drawn_more zero n g = let e : zero + n ≡ n = omega arith in ap (λ (k : ℕ). generator_after step k g) e
+  drawn_more (suc m) n g = let e : suc m + n ≡ suc (m + n) = omega arith in ap (λ (k : ℕ). generator_after step k g) e ∙ drawn_more m n (step g).1
 
-  pub named_more : (m n : ℕ) (g : G) → named step nue (m + n) g ≡ named step nue m g ++ named step nue n (drawn step m g)
-  unfolding drawn named
-  named_more zero n g = let e : zero + n ≡ n = omega arith in ap (λ (k : ℕ). named step nue k g) e
+  pub named_more : (m n : ℕ) (g : G) → named_ranks step nue (m + n) g ≡ named_ranks step nue m g ++ named_ranks step nue n (generator_after step m g)
+  unfolding generator_after named_ranks
+  named_more zero n g = let e : zero + n ≡ n = omega arith in ap (λ (k : ℕ). named_ranks step nue k g) e
   named_more (suc m) n g =
       let e : suc m + n ≡ suc (m + n) = omega arith in
-      ap (λ (k : ℕ). named step nue k g) e ∙ ap (λ (l : List ℕ). (step g).0 % nue ∷ l) (named_more m n (step g).1)
+      ap (λ (k : ℕ). named_ranks step nue k g) e ∙ ap (λ (l : List ℕ). (step g).0 % nue ∷ l) (named_more m n (step g).1)
 
-  pub drawn_one : (g : G) → drawn step 1 g ≡ (step g).1
-  unfolding drawn
+  pub drawn_one : (g : G) → generator_after step 1 g ≡ (step g).1
+  unfolding generator_after
   drawn_one g = refl
 
-  pub named_one : (g : G) → named step nue 1 g ≡ (step g).0 % nue ∷ []
-  unfolding named
+  pub named_one : (g : G) → named_ranks step nue 1 g ≡ (step g).0 % nue ∷ []
+  unfolding named_ranks
   named_one g = refl
 
-  pub none_drawn : (g : G) → drawn step 0 g ≡ g
-  unfolding drawn
+  pub none_drawn : (g : G) → generator_after step 0 g ≡ g
+  unfolding generator_after
   none_drawn g = refl
 
 module _ {A : Type 0} (c : Conduct A) where
@@ -76,18 +76,18 @@ turns_next c at chip mid now crew some later came turns turn =
     (turns_then c (range_with_len 0 at) (at ∷ []) chip mid now crew some later turns (one_turn c at mid now some later came turn))
 
 module _ {A G : Type 0} (c : Conduct A) (step : G → ℕ × G) (nue : ℕ) where
-  pub none_picked : (g : G) (chip : ChipView) (crew : List A) → TurnsOf c (named step nue 0 g) chip crew chip crew
-  unfolding named
+  pub none_picked : (g : G) (chip : ChipView) (crew : List A) → TurnsOf c (named_ranks step nue 0 g) chip crew chip crew
+  unfolding named_ranks
   none_picked g chip crew = (refl, refl)
 
   -- one turn more, of the rank that the next word names
-  pub picked_on : (n at word : ℕ) (first now next : G) (chip mid last : ChipView) (crew some later : List A) (came : Rest) → TurnsOf c (named step nue n first) chip crew mid some
-      → now ≡ drawn step n first → (word, next) ≡ step now → at ≡ word % nue → OneTurn c mid some at last later came → TurnsOf c (named step nue (n + 1) first) chip crew last later
+  pub picked_on : (n at word : ℕ) (first now next : G) (chip mid last : ChipView) (crew some later : List A) (came : Rest) → TurnsOf c (named_ranks step nue n first) chip crew mid some
+      → now ≡ generator_after step n first → (word, next) ≡ step now → at ≡ word % nue → OneTurn c mid some at last later came → TurnsOf c (named_ranks step nue (n + 1) first) chip crew last later
   picked_on n at word first now next chip mid last crew some later came turns is drew here turn =
-      let named_is : at ≡ (step (drawn step n first)).0 % nue = here ∙ ap (λ (p : ℕ × G). p.0 % nue) drew ∙ ap (λ (g : G). (step g).0 % nue) is in
-      subst (λ (l : List ℕ). TurnsOf c l chip crew last later) (sym (named_more step nue n 1 first ∙ ap (λ (l : List ℕ). named step nue n first ++ l) (named_one step nue (drawn step n first))))
-      (turns_then c (named step nue n first) ((step (drawn step n first)).0 % nue ∷ []) chip mid last crew some later turns
+      let named_is : at ≡ (step (generator_after step n first)).0 % nue = here ∙ ap (λ (p : ℕ × G). p.0 % nue) drew ∙ ap (λ (g : G). (step g).0 % nue) is in
+      subst (λ (l : List ℕ). TurnsOf c l chip crew last later) (sym (named_more step nue n 1 first ∙ ap (λ (l : List ℕ). named_ranks step nue n first ++ l) (named_one step nue (generator_after step n first))))
+      (turns_then c (named_ranks step nue n first) ((step (generator_after step n first)).0 % nue ∷ []) chip mid last crew some later turns
       (subst (λ (k : ℕ). TurnsOf c (k ∷ []) mid some last later) named_is (one_turn c at mid last some later came turn)))
 
-  pub drawn_on : (n word : ℕ) (first now next : G) → now ≡ drawn step n first → (word, next) ≡ step now → next ≡ drawn step (n + 1) first
-  drawn_on n word first now next is drew = ap (λ (p : ℕ × G). p.1) drew ∙ ap (λ (g : G). (step g).1) is ∙ sym (drawn_more step nue n 1 first ∙ drawn_one step nue (drawn step n first))
+  pub drawn_on : (n word : ℕ) (first now next : G) → now ≡ generator_after step n first → (word, next) ≡ step now → next ≡ generator_after step (n + 1) first
+  drawn_on n word first now next is drew = ap (λ (p : ℕ × G). p.1) drew ∙ ap (λ (g : G). (step g).1) is ∙ sym (drawn_more step nue n 1 first ∙ drawn_one step nue (generator_after step n first))

@@ -1,7 +1,7 @@
 -- A run whose last sweep moved nobody: all rest, and nothing is in draft.
 use Rattle.std.proofs.Common.{◌≡◌, inl, inr, ℕ, ◌<◌, Bool, true, false, List, length, slice_index_or, Some, None, refl, sym, ap, ◌∙◌, subst, arith}
 use Rattle.scc_base.specs.Setups.{SetupView}
-use Rattle.scc_proto.specs.Passed.{open_of, open_call}
+use Rattle.scc_proto.specs.Passed.{call_in_stage, open_call}
 use Rattle.scc_proto.specs.Records.{chunk_of}
 use Rattle.scc_proto.specs.Stages.{Raised, Stage, Idle, Drafting, Sending, Between, Taking, Barrier, Record}
 use Rattle.scc_proto.specs.Views.{View, view_of}
@@ -37,8 +37,8 @@ ends_with_by {A} c rest.Unfinished end n start first chip crew is all swept =
 
 -- ---- a rank that rests with no open call is in the midst of nothing
 module _ (s : SetupView) (rec : Record) (none : open_call s rec ≡ None) where
-  closed : (st : Stage) → rec.stage ≡ st → open_of (chunk_of s) st ≡ None
-  closed st at = ap (open_of (chunk_of s)) (sym at) ∙ none
+  closed : (st : Stage) → rec.stage ≡ st → call_in_stage (chunk_of s) st ≡ None
+  closed st at = ap (call_in_stage (chunk_of s)) (sym at) ∙ none
 
   by_looking : (from : ℕ) (st : Stage) → rec.stage ≡ st → IsLooking from st → rec.stage ≡ Idle
   by_looking from Idle at looks = at
@@ -67,7 +67,7 @@ idle_at_rest true s records k w rests none = rests.over.idle
 idle_at_rest false s records k w (inl stopped) none = stopped.over.idle
 idle_at_rest false s records k w (inr waits) none =
     let same : (waits.records k).stage ≡ (records k).stage = (waits.alike k).stage in
-    sym same ∙ idle_by_look s (waits.records k) (ap (open_of (chunk_of s)) same ∙ none) (view_of s waits.memory) k w.want waits.waits
+    sym same ∙ idle_by_look s (waits.records k) (ap (call_in_stage (chunk_of s)) same ∙ none) (view_of s waits.memory) k w.want waits.waits
 
 pub none_drafts : {A : Type 0} (c : Conduct A) (chip : ChipView) (crew : List A) → length crew ≡ (about_in chip).nue → AllRest c chip crew (length crew) → NoneDrafts (about_in chip) (records_in chip)
 none_drafts c chip crew each rests k low none =

@@ -8,7 +8,7 @@ use Rattle.chip_run.specs.declared.runs.Mode.{Mode}
 use Rattle.chip_run.specs.declared.runs.Mode.TheVariants as mode
 use Rattle.chip_run.specs.declared.runs.Rounds.{Rounds}
 use Rattle.chip_run.specs.declared.runs.Rounds.TheVariants as rounds
-use Rattle.chip_run.specs.Orders.{TurnsOf, drawn, drawn_in, named, ranks_by}
+use Rattle.chip_run.specs.Orders.{TurnsOf, generator_after, drawn_in, named_ranks, ranks_by}
 use Rattle.chip_run.specs.Runs.{InOrder, NextRound, RoundsTo, RowsTo, TookRows, rounds_of}
 use Rattle.chip_run.specs.Conducts.{Conduct}
 use Rattle.chip_run.proofs.OrderLaws.{turns_then}
@@ -18,7 +18,7 @@ module _ {G : Type 0} (step : G → ℕ × G) (nue : ℕ) where
   unfolding ranks_by
   none_ranks g = refl
 
-  more_ranks : (n : ℕ) (g : G) → ranks_by step nue (n + 1) g ≡ ranks_by step nue n g ++ (named step nue (1000 * nue) (drawn_in step nue n g) ++ range_with_len 0 nue)
+  more_ranks : (n : ℕ) (g : G) → ranks_by step nue (n + 1) g ≡ ranks_by step nue n g ++ (named_ranks step nue (1000 * nue) (drawn_in step nue n g) ++ range_with_len 0 nue)
   unfolding ranks_by
   more_ranks n g = let e : n + 1 ≡ suc n = omega arith in ap (λ (k : ℕ). ranks_by step nue k g) e
 
@@ -26,7 +26,7 @@ module _ {G : Type 0} (step : G → ℕ × G) (nue : ℕ) where
   unfolding drawn_in
   none_in g = refl
 
-  more_drawn : (n : ℕ) (g : G) → drawn_in step nue (n + 1) g ≡ drawn step (1000 * nue) (drawn_in step nue n g)
+  more_drawn : (n : ℕ) (g : G) → drawn_in step nue (n + 1) g ≡ generator_after step (1000 * nue) (drawn_in step nue n g)
   unfolding drawn_in
   more_drawn n g = let e : n + 1 ≡ suc n = omega arith in ap (λ (k : ℕ). drawn_in step nue k g) e
 
@@ -42,18 +42,18 @@ module _ {A : Type 0} (c : Conduct A) where
   picked_round : (n : ℕ) (picks now : Lcg) (new : Rounds) (chip mid half last : ChipView) (crew some more later : List A)
       → now ≡ drawn_in pcg32 (length crew) n picks → TurnsOf c (ranks_by pcg32 (length crew) n picks) chip crew mid some
       → length some ≡ length crew → length more ≡ length some
-      → new ≡ rounds.Picked (drawn pcg32 (1000 * length some) now) → TurnsOf c (named pcg32 (length some) (1000 * length some) now) mid some half more
+      → new ≡ rounds.Picked (generator_after pcg32 (1000 * length some) now) → TurnsOf c (named_ranks pcg32 (length some) (1000 * length some) now) mid some half more
       → TurnsOf c (range_with_len 0 (length more)) half more last later
       → (new ≡ rounds.Picked (drawn_in pcg32 (length crew) (n + 1) picks)) × TurnsOf c (ranks_by pcg32 (length crew) (n + 1) picks) chip crew last later
   picked_round n picks now new chip mid half last crew some more later at before many same goes round sweep =
       let size = length crew in (
-        goes ∙ ap (λ (k : ℕ). rounds.Picked (drawn pcg32 (1000 * k) now)) many ∙ ap (λ (g : Lcg). rounds.Picked (drawn pcg32 (1000 * size) g)) at
+        goes ∙ ap (λ (k : ℕ). rounds.Picked (generator_after pcg32 (1000 * k) now)) many ∙ ap (λ (g : Lcg). rounds.Picked (generator_after pcg32 (1000 * size) g)) at
             ∙ ap (λ (g : Lcg). rounds.Picked g) (sym (more_drawn pcg32 size n picks)),
         subst (λ (l : List ℕ). TurnsOf c l chip crew last later) (sym (more_ranks pcg32 size n picks))
-            (turns_then c (ranks_by pcg32 size n picks) (named pcg32 size (1000 * size) (drawn_in pcg32 size n picks) ++ range_with_len 0 size) chip mid last crew some later before
-            (turns_then c (named pcg32 size (1000 * size) (drawn_in pcg32 size n picks)) (range_with_len 0 size) mid half last some more later
-            (subst (λ (g : Lcg). TurnsOf c (named pcg32 size (1000 * size) g) mid some half more) at
-            (subst (λ (k : ℕ). TurnsOf c (named pcg32 k (1000 * k) now) mid some half more) many round))
+            (turns_then c (ranks_by pcg32 size n picks) (named_ranks pcg32 size (1000 * size) (drawn_in pcg32 size n picks) ++ range_with_len 0 size) chip mid last crew some later before
+            (turns_then c (named_ranks pcg32 size (1000 * size) (drawn_in pcg32 size n picks)) (range_with_len 0 size) mid half last some more later
+            (subst (λ (g : Lcg). TurnsOf c (named_ranks pcg32 size (1000 * size) g) mid some half more) at
+            (subst (λ (k : ℕ). TurnsOf c (named_ranks pcg32 k (1000 * k) now) mid some half more) many round))
             (subst (λ (k : ℕ). TurnsOf c (range_with_len 0 k) half more last later) (same ∙ many) sweep))),
       )
 

@@ -6,7 +6,7 @@ use Rattle.scc_base.specs.Setups.{SetupView}
 use Rattle.scc_base.specs.declared.signals.Signal.TheVariants.{Sent, Ready}
 use Rattle.scc_base.specs.declared.events.Event.{Event}
 use Rattle.scc_proto.specs.Agreement.{Agrees}
-use Rattle.scc_proto.specs.Like.{unanswered, Like}
+use Rattle.scc_proto.specs.Like.{as_unanswered, Like}
 use Rattle.scc_proto.specs.Records.{record_from}
 use Rattle.scc_proto.specs.Resting.{is_resting}
 use Rattle.scc_proto.specs.Singles.{IsPosted, IsOnItsWay}
@@ -20,9 +20,9 @@ use Rattle.chip_run.specs.Wants.{Want}
 use Rattle.chip_run.specs.Waiting.{SlotWaits, RaiseWaits, TakeWaits, IsLooking, BarWaits, AtRoot, AtMember, Waits}
 
 -- a posted message is there in both, for the same rank
-pub post_like : (p : OnItsWay) (o : Option OnItsWay) → Some (unanswered p) ≡ option_map unanswered o → (q : OnItsWay) × (o ≡ Some q) × (p.to ≡ q.to)
+pub post_like : (p : OnItsWay) (o : Option OnItsWay) → Some (as_unanswered p) ≡ option_map as_unanswered o → (q : OnItsWay) × (o ≡ Some q) × (p.to ≡ q.to)
 post_like p None is = absurd (cc (is))
-post_like p (Some q) is = (q, refl, ap (λ (x : OnItsWay). x.to) (same_Some (unanswered p) (unanswered q) is))
+post_like p (Some q) is = (q, refl, ap (λ (x : OnItsWay). x.to) (same_Some (as_unanswered p) (as_unanswered q) is))
 
 module _ (s : SetupView) (one other : Memory) (records recs : ℕ → Record) (a : Agrees s one records) (b : Agrees s other recs) (like : (k : ℕ) → Like (records k) (recs k)) where
   same : SameFlagWords s (view_of s one) (view_of s other)
@@ -31,7 +31,7 @@ module _ (s : SetupView) (one other : Memory) (records recs : ℕ → Record) (a
   pub slot_like : (k : ℕ) → k < s.nue → SlotWaits (view_of s one) k (records k) → SlotWaits (view_of s other) k (recs k)
   slot_like k low waits =
       let on : IsOnItsWay s k (records k).stage waits.post = subst (IsPosted s k (records k).stage) waits.is_posted (a.singles.0 k low).post in
-      let (q, there, to_is) = post_like waits.post (recs k).post (sym (ap (option_map unanswered) waits.is_posted) ∙ (like k).post) in
+      let (q, there, to_is) = post_like waits.post (recs k).post (sym (ap (option_map as_unanswered) waits.is_posted) ∙ (like k).post) in
       record {
         stage = sym (like k).stage ∙ waits.stage;
         post = q;

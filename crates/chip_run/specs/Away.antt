@@ -109,8 +109,8 @@ pub record IsAtHome (tied : SetupView → ℕ → List Event → Type 0) (token 
   pub empty : token ≡ None
 
 -- how the members of a crew conduct themselves, each at home: as their workers do
-abbrev pub members_of : {A : Type 0} → Conduct A → Conduct (Member A)
-members_of c = record {
+abbrev pub conduct_of_members : {A : Type 0} → Conduct A → Conduct (Member A)
+conduct_of_members c = record {
   seen = λ s r m. c.seen s r m.worker;
   tied = λ m. IsAtHome (c.tied m.worker) m.token;
   moves = λ m n. c.moves m.worker n.worker;

@@ -7,14 +7,14 @@ use Rattle.chip_run.specs.Crews.{OneTurn}
 use Rattle.chip_run.specs.Conducts.{Conduct}
 
 -- a generator after n words; a step gives its next word and what it is then
-unfoldable pub drawn : {G : Type 0} → (G → ℕ × G) → ℕ → G → G
-drawn step zero g = g
-drawn step (suc n) g = drawn step n (step g).1
+unfoldable pub generator_after : {G : Type 0} → (G → ℕ × G) → ℕ → G → G
+generator_after step zero g = g
+generator_after step (suc n) g = generator_after step n (step g).1
 
 -- the ranks that the next n words of a generator name, the first word first
-unfoldable pub named : {G : Type 0} → (G → ℕ × G) → ℕ → ℕ → G → List ℕ
-named step nue zero g = []
-named step nue (suc n) g = (step g).0 % nue ∷ named step nue n (step g).1
+unfoldable pub named_ranks : {G : Type 0} → (G → ℕ × G) → ℕ → ℕ → G → List ℕ
+named_ranks step nue zero g = []
+named_ranks step nue (suc n) g = (step g).0 % nue ∷ named_ranks step nue n (step g).1
 
 -- turns were taken by these ranks, one after the other
 abbrev pub TurnsOf : {A : Type 0} → Conduct A → List ℕ → ChipView → List A → ChipView → List A → Type 0
@@ -25,12 +25,12 @@ TurnsOf {A} c (at ∷ rest) chip crew now later =
 -- a generator after n rounds of a thousand turns a rank
 unfoldable pub drawn_in : {G : Type 0} → (G → ℕ × G) → ℕ → ℕ → G → G
 drawn_in step nue zero g = g
-drawn_in step nue (suc n) g = drawn step (1000 * nue) (drawn_in step nue n g)
+drawn_in step nue (suc n) g = generator_after step (1000 * nue) (drawn_in step nue n g)
 
 -- the ranks that take turns in n rounds: in each round those that the generator names, and after it ranks 0 to nue - 1
 unfoldable pub ranks_by : {G : Type 0} → (G → ℕ × G) → ℕ → ℕ → G → List ℕ
 ranks_by step nue zero g = []
-ranks_by step nue (suc n) g = ranks_by step nue n g ++ (named step nue (1000 * nue) (drawn_in step nue n g) ++ range_with_len 0 nue)
+ranks_by step nue (suc n) g = ranks_by step nue n g ++ (named_ranks step nue (1000 * nue) (drawn_in step nue n g) ++ range_with_len 0 nue)
 
 -- the ranks that take turns in n sweeps: ranks 0 to nue - 1, n times
 abbrev pub sweeps_of : ℕ → ℕ → List ℕ

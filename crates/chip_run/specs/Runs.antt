@@ -10,7 +10,7 @@ use Rattle.chip_run.specs.declared.runs.Rounds.{Rounds}
 use Rattle.chip_run.specs.declared.runs.Rounds.TheVariants as rounds
 use Rattle.chip_run.specs.Away.{TookRow}
 use Rattle.chip_run.specs.Crews.{CrewStands}
-use Rattle.chip_run.specs.Orders.{TurnsOf, drawn, drawn_in, named, ranks_by}
+use Rattle.chip_run.specs.Orders.{TurnsOf, generator_after, drawn_in, named_ranks, ranks_by}
 use Rattle.chip_run.specs.Conducts.{Conduct}
 
 -- how the rounds of a run are made: in threads, or by one generator, made of the seed, that serves the whole run
@@ -38,8 +38,8 @@ abbrev pub NextRound : {A : Type 0} → Conduct A
     → Rounds → Rounds → ChipView → List A → ChipView → List A → Type 0
 NextRound c rounds.InThreads new chip crew now later = (new ≡ rounds.InThreads) × TookRows c chip crew now later
 NextRound c (rounds.Picked picks) new chip crew now later =
-    (new ≡ rounds.Picked (drawn pcg32 (1000 * length crew) picks))
-    × TurnsOf c (named pcg32 (length crew) (1000 * length crew) picks) chip crew now later
+    (new ≡ rounds.Picked (generator_after pcg32 (1000 * length crew) picks))
+    × TurnsOf c (named_ranks pcg32 (length crew) (1000 * length crew) picks) chip crew now later
 
 -- n rounds, with a sweep of all ranks in their order behind each one. Eight parameters: those of `NextRound`, and n.
 abbrev pub RoundsTo : {A : Type 0} → Conduct A

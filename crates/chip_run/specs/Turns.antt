@@ -59,7 +59,7 @@ pub record HasWaited {A : Type 0} (c : Conduct A) (stepped : List Event → Even
   pub look : LookedAt stepped s rank own events (c.seen s rank old).want
 
 -- a rank wants nothing, and nothing is open there
-pub record IsOver (rec : Record) (w : WorkerView) : Type 0 where
+pub record WantsNothing (rec : Record) (w : WorkerView) : Type 0 where
   pub ends : w.want ≡ Want.Nothing
   pub idle : rec.stage ≡ Idle
 
@@ -69,7 +69,7 @@ pub record IsDone {A : Type 0} (c : Conduct A) (s : SetupView) (rank : ℕ) (own
   pub stays : c.stays old new
   pub seen : c.seen s rank new ≡ c.seen s rank old
   pub nothing : events ≡ []
-  pub over : IsOver (record_of s rank own) (c.seen s rank old)
+  pub over : WantsNothing (record_of s rank own) (c.seen s rank old)
 
 -- what each answer of a turn means. Nine parameters: those of `HasWaited`, and the answer.
 abbrev pub TurnMeans : {A : Type 0} → Conduct A → (List Event → Event → Type 0) → SetupView → ℕ → List Event → List Event → A → A
@@ -123,12 +123,12 @@ pub record WaitsThen (s : SetupView) (now : ℕ → Record) (me : ℕ) (want : W
 
 -- a rank has finished: it wants nothing, and was not stopped
 pub record HasFinished (rec : Record) (w : WorkerView) : Type 0 where
-  pub over : IsOver rec w
+  pub over : WantsNothing rec w
   pub running : w.is_stopped ≡ false
 
 -- a rank was stopped, and wants nothing
 pub record HasStopped (rec : Record) (w : WorkerView) : Type 0 where
-  pub over : IsOver rec w
+  pub over : WantsNothing rec w
   pub stopped : w.is_stopped ≡ true
 
 -- a rank rests: it has finished, or it was stopped or waits

@@ -31,9 +31,9 @@ impl<W: Worker + Drop> Member<W> {
 }
 
 impl<W: Worker + Drop> Worker for Member<W> {
-    ghost use Rattle.chip_run.specs.Away.{members_of};
+    ghost use Rattle.chip_run.specs.Away.{conduct_of_members};
 
-    ghost conduct = { members_of W.conduct };
+    ghost conduct = { conduct_of_members W.conduct };
 
     fn turn<P: Port>(&mut self, port: P) -> (Turn, P) {
         self.worker.turn(port)

@@ -1,7 +1,7 @@
 //! A run: rounds and sweeps, until a sweep in which no worker moves.
 
 ghost use Rattle.std.specs.Prelude.{◌≡◌, ◌<◌, length};
-ghost use Rattle.chip_run.specs.Away.{members_of};
+ghost use Rattle.chip_run.specs.Away.{conduct_of_members};
 ghost use Rattle.chip_run.specs.Crews.{AllRest, CrewStands, RunEndedAs, IsCrew};
 ghost use Rattle.chip_run.specs.Runs.{InOrder, NextRound, rounds_of};
 ghost use Rattle.chip_run.specs.Waiting.{NoneDrafts};
@@ -55,12 +55,12 @@ fn next_round<W: Worker + Drop + Send, G: Gate + Sync, R: Threads + Sync>(
     gate: &G,
     threads: &mut usize,
 )
-    requires crew { IsCrew (members_of W.conduct) chip.old crew.old }
+    requires crew { IsCrew (conduct_of_members W.conduct) chip.old crew.old }
     requires some { 0 < length crew.old }
     requires threads { 0 < threads.old }
     ensures threads { 0 < threads.new }
-    ensures stands { CrewStands (members_of W.conduct) chip.old crew.old chip.new crew.new }
-    ensures next { NextRound (members_of W.conduct) rounds.old rounds.new chip.old crew.old chip.new crew.new }
+    ensures stands { CrewStands (conduct_of_members W.conduct) chip.old crew.old chip.new crew.new }
+    ensures next { NextRound (conduct_of_members W.conduct) rounds.old rounds.new chip.old crew.old chip.new crew.new }
 {
     match rounds {
         Rounds::InThreads => *threads = round_in_threads(rt, chip, crew, gate, *threads),
@@ -76,20 +76,20 @@ pub fn run<W: Worker + Drop + Send, G: Gate + Sync, R: Threads + Sync>(
     mode: Mode,
     gate: &G,
 ) -> RunEnd
-    requires crew { IsCrew (members_of W.conduct) chip.old crew.old }
+    requires crew { IsCrew (conduct_of_members W.conduct) chip.old crew.old }
     requires some { 0 < length crew.old }
     // It is the same chip, whole, with the same members, each as it is after some turns and tied to its rank's events; no member
     // holds a token.
-    ensures stands { CrewStands (members_of W.conduct) chip.old crew.old chip.new crew.new }
+    ensures stands { CrewStands (conduct_of_members W.conduct) chip.old crew.old chip.new crew.new }
     // Each worker rests: it has finished, a mismatch stopped it, or it waits.
-    ensures rests { AllRest (members_of W.conduct) chip.new crew.new (length crew.new) }
+    ensures rests { AllRest (conduct_of_members W.conduct) chip.new crew.new (length crew.new) }
     // It answers Finished where all have finished, and Stuck where one has not.
-    ensures answer { RunEndedAs (members_of W.conduct) result chip.new crew.new }
+    ensures answer { RunEndedAs (conduct_of_members W.conduct) result chip.new crew.new }
     // A rank that has no call open is in the midst of nothing: it has no message in draft.
     ensures no_draft { NoneDrafts (about_in chip.new) (records_in chip.new) }
     // Under Serial the turns were those of the ranks that the seed's generator names, and in threads each worker took a row of
     // turns in each round; with a sweep behind each round.
-    ensures order { InOrder (members_of W.conduct) mode chip.old crew.old chip.new crew.new }
+    ensures order { InOrder (conduct_of_members W.conduct) mode chip.old crew.old chip.new crew.new }
 {
     let mut rounds = Rounds::of(mode);
     let mut threads = crew.len();

@@ -1,7 +1,7 @@
 //! A round in threads: each worker takes a row of turns, in a thread of its own where the system grants one for each.
 
 ghost use Rattle.std.specs.Prelude.{◌≡◌, ◌≢◌, ℕ, ◌+◌, ◌^◌, ◌<◌, length, slice_index_or};
-ghost use Rattle.chip_run.specs.Away.{IsAtHome, IsAway, Served, TookRow, members_of};
+ghost use Rattle.chip_run.specs.Away.{IsAtHome, IsAway, Served, TookRow, conduct_of_members};
 ghost use Rattle.chip_run.specs.Crews.{IsCrew};
 ghost use Rattle.chip_run.specs.Runs.{TookRows};
 ghost use Rattle.scc_mesh.specs.Scenes.{IsHomeBelow, IsHomeFrom, IsWhole, about_in, events_in, table_in};
@@ -71,7 +71,7 @@ fn go<W: Worker + Drop, G: Gate>(
 
 /// Hands out all ranks, in rank order.
 fn hand_out<W: Worker + Drop>(chip: &mut Chip, crew: &mut [Member<W>])
-    requires crew { IsCrew (members_of W.conduct) chip.old crew.old }
+    requires crew { IsCrew (conduct_of_members W.conduct) chip.old crew.old }
     ensures none { IsHomeBelow chip.new 0 }
     ensures same { (about_in chip.new ≡ about_in chip.old) × (table_in chip.new ≡ table_in chip.old) }
     ensures served { Served (λ k m n. (n.worker ≡ m.worker)
@@ -199,11 +199,11 @@ pub(crate) fn round_in_threads<W: Worker + Drop + Send, G: Gate + Sync, R: Threa
     gate: &G,
     threads: usize,
 ) -> usize
-    requires crew { IsCrew (members_of W.conduct) chip.old crew.old }
+    requires crew { IsCrew (conduct_of_members W.conduct) chip.old crew.old }
     requires some { 0 < length crew.old }
     requires threads { 0 < threads }
     // Each worker took a row of turns.
-    ensures took { TookRows (members_of W.conduct) chip.old crew.old chip.new crew.new }
+    ensures took { TookRows (conduct_of_members W.conduct) chip.old crew.old chip.new crew.new }
     ensures next { 0 < result }
 {
     let each = crew.len().div_ceil(threads);

@@ -13,7 +13,7 @@ use Rattle.send_recv.specs.declared.answers.RecvTurn.TheVariants as turn
 use Rattle.send_recv.proofs.OtherPort.{free_there, receive_there, send_there, slot_there}
 use Rattle.sync_flags.specs.Turns.{at_port}
 use Rattle.sync_flags.proofs.TurnLemmas.{record_at_port}
-use Rattle.coll_more.specs.Ops.{MoreAt, bytes_of, data_of, is_copied, new_more, table_of, window, taking_part}
+use Rattle.coll_more.specs.Ops.{MoreAt, bytes_of_piece, data_call_of, is_copied, new_more, table_of, window, taking_part}
 use Rattle.coll_more.specs.Standing.{HasEnded, IsFit, MoreStands, StandsAt}
 use Rattle.coll_more.specs.Turns.{MoreTurned, call_bound, is_over_by, more_left, piece_bound}
 use Rattle.coll_more.specs.declared.kinds.More.{More}
@@ -37,7 +37,7 @@ module _ (base : List DataCall) (s : Sight) (c : Private) (m : MoreAt) (slot : S
   pub ended_by : (stage : Stage) → m.stage ≡ stage → is_over_by (table_of s.seat m) m.ended stage ≡ true → MoreStands base (taking_part s c m slot src dst) → HasEnded base (taking_part s c m slot src dst)
   ended_by Own is over st = absurd (cc)
   ended_by Between is over st = record {
-    calls = st.calls ∙ ap (λ (xs : List PieceCall). base ++ map (data_of src dst) xs) (past_all (table_of s.seat m) m.ended (none_past (slice_get (table_of s.seat m) m.ended) over));
+    calls = st.calls ∙ ap (λ (xs : List PieceCall). base ++ map (data_call_of src dst) xs) (past_all (table_of s.seat m) m.ended (none_past (slice_get (table_of s.seat m) m.ended) over));
     own = st.own (ap is_copied is);
     no_call = subst (λ (x : Stage). StandsAt s c slot (table_of s.seat m) m.ended src dst x) is st.at;
   }
@@ -80,7 +80,7 @@ module _ (s : Sight) (m r : Gv) (h : ℕ) where
       → StandsAt (at_port s m r h) c slot table ended src dst stage
   at_there c slot table ended src dst Own st = (st.0, free_there s m r h c slot st.1)
   at_there c slot table ended src dst Between st = free_there s m r h c slot st
-  at_there c slot table ended src dst (Sending call op) st = (st.0, st.1, send_there s m r h c op slot (bytes_of call src dst) st.2)
+  at_there c slot table ended src dst (Sending call op) st = (st.0, st.1, send_there s m r h c op slot (bytes_of_piece call src dst) st.2)
   at_there c slot table ended src dst (Receiving call op) st = (st.0, st.1, slot_there s m r h slot st.2, receive_there s m r h c op (window call.first call.len dst) st.3)
 
   pub stands_there : (base : List DataCall) (c : Private) (op : MoreAt) (slot : SlotAt) (src dst : List ℕ) → MoreStands base (taking_part s c op slot src dst) → MoreStands base (taking_part (at_port s m r h) c op slot src dst)

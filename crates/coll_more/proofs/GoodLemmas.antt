@@ -4,7 +4,7 @@ use Rattle.std.proofs.Common.{◌≡◌, ◌≢◌, ◌⊎◌, ℕ, zero, suc, �
 use Rattle.coll_more.specs.Ops.{is_taking}
 use Rattle.scc_proto.proofs.Tests.{eqb_other, same_by_eqb}
 use Rattle.coll_more.proofs.ListLemmas.{some_same}
-use Rattle.coll_more.specs.Tables.{alltoall_calls, calls_of, dst_len_of, for_each, gather_calls, gives, gives_piece, gives_then_takes, has_own, rooted, scatter_calls, shares, spread_calls, src_len_of, takes, takes_piece, takes_then_gives}
+use Rattle.coll_more.specs.Tables.{alltoall_calls, piece_calls, dst_len_of, for_each, gather_calls, gives, gives_piece, gives_then_takes, has_own, rooted_calls, scatter_calls, shares, spread_calls, src_len_of, takes, takes_piece, takes_then_gives}
 use Rattle.coll_more.specs.declared.kinds.More.{More}
 use Rattle.coll_more.specs.declared.kinds.More.TheVariants.{Gather, Scatter, Allgather, Alltoall}
 use Rattle.coll_more.specs.declared.kinds.PieceCall.{PieceCall}
@@ -30,7 +30,7 @@ each_at P [] k x all at = absurd (cc)
 each_at P (y ∷ ys) zero x all at = subst P (some_same y x at) all.0
 each_at P (y ∷ ys) (suc k) x all at = each_at P ys k x all.1 at
 
-each_rooted : (P : PieceCall → Type 0) (calls : List PieceCall) (call : PieceCall) (rank : ℕ) → (rank ≡ 0 → Each P calls) → (0 < rank → P call) → Each P (rooted rank calls call)
+each_rooted : (P : PieceCall → Type 0) (calls : List PieceCall) (call : PieceCall) (rank : ℕ) → (rank ≡ 0 → Each P calls) → (0 < rank → P call) → Each P (rooted_calls rank calls call)
 each_rooted P calls call zero one two = one refl
 each_rooted P calls call (suc r) one two = (two (omega arith), tt)
 
@@ -192,7 +192,7 @@ module _ (nue len : ℕ) (few : nue ≤ 48) (fits : len ≤ 1024) where
         let other : rank ≢ p = λ same. absurd (omega (arith, same, over)) in
         (pair_gives p within other, (pair_takes p within other (inr over), tt))))
 
-    pub good_calls : (more : More) → Each (IsGood rank nue len (has_own more rank) (src_len_of more rank nue len) (dst_len_of more rank nue len)) (calls_of more rank nue len)
+    pub good_calls : (more : More) → Each (IsGood rank nue len (has_own more rank) (src_len_of more rank nue len) (dst_len_of more rank nue len)) (piece_calls more rank nue len)
     good_calls Gather = good_gather len (dst_len_of Gather rank nue len) refl gather_dst
     good_calls Scatter = good_scatter
     good_calls Allgather = each_both (IsGood rank nue len (rank == 0) len (nue * len)) (gather_calls rank nue len) (spread_calls rank nue len) (good_gather len (nue * len) refl (λ root. refl)) good_spread
@@ -304,7 +304,7 @@ module _ (len : ℕ) where
   rising_scatter zero nue = rising_gives 1 (nue - 1) 0
   rising_scatter (suc r) nue = (λ is. omega arith, tt)
 
-  pub rising_calls : (more : More) (rank nue : ℕ) → Rising 0 (calls_of more rank nue len)
+  pub rising_calls : (more : More) (rank nue : ℕ) → Rising 0 (piece_calls more rank nue len)
   rising_calls Gather rank nue = rising_gather rank nue
   rising_calls Scatter rank nue = rising_scatter rank nue
   rising_calls Allgather rank nue = rising_allgather rank nue

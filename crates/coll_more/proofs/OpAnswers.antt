@@ -13,10 +13,10 @@ use Rattle.send_recv.specs.Sending.{SendStands, SendTurned}
 use Rattle.send_recv.specs.declared.answers.RecvTurn.{RecvTurn}
 use Rattle.send_recv.specs.declared.answers.RecvTurn.TheVariants as receive
 use Rattle.send_recv.specs.Ranks.{receiving, sending}
-use Rattle.coll_more.specs.Ops.{HasOwn, MoreAt, begun_at, bytes_by, bytes_of, is_taking, table_of, window, taking_part}
+use Rattle.coll_more.specs.Ops.{HasOwn, MoreAt, begun_at, bytes_by, bytes_of_piece, is_taking, table_of, window, taking_part}
 use Rattle.coll_more.specs.Standing.{IsFit, Stands}
-use Rattle.coll_more.specs.Tables.{calls_of, dst_len_of, has_own, src_len_of}
-use Rattle.coll_more.specs.Turns.{Turns, is_between, is_own}
+use Rattle.coll_more.specs.Tables.{piece_calls, dst_len_of, has_own, src_len_of}
+use Rattle.coll_more.specs.Turns.{MoreTurns, is_between, is_copying_own}
 use Rattle.coll_more.specs.declared.kinds.PieceCall.{PieceCall}
 use Rattle.coll_more.specs.declared.kinds.Way.{Way}
 use Rattle.coll_more.specs.declared.kinds.Way.TheVariants.{Gives, Shares, Takes}
@@ -28,7 +28,7 @@ use Rattle.coll_more.proofs.SendTurns.{send_done, send_moved, send_waited}
 use Rattle.coll_more.proofs.TableLemmas.{next_fits}
 use Rattle.coll_more.proofs.TurnLemmas.{begun_turns, inside_here, over_turns, own_turns}
 
-own_by : (stage : Stage) → IsTrue (is_own stage) → stage ≡ Own
+own_by : (stage : Stage) → IsTrue (is_copying_own stage) → stage ≡ Own
 own_by Own is = refl
 own_by Between is = absurd (cc)
 own_by (Sending call op) is = absurd (cc)
@@ -40,7 +40,7 @@ between_by Between is = refl
 between_by (Sending call op) is = absurd (cc)
 between_by (Receiving call op) is = absurd (cc)
 
-pub at_own : (m : MoreAt) → IsTrue (is_own m.stage) → m ≡ record m { stage = Own }
+pub at_own : (m : MoreAt) → IsTrue (is_copying_own m.stage) → m ≡ record m { stage = Own }
 at_own m is = λ i. record m { stage = own_by m.stage is i }
 
 pub at_between : (m : MoreAt) → IsTrue (is_between m.stage) → m ≡ record m { stage = Between }
@@ -48,40 +48,40 @@ at_between m is = λ i. record m { stage = between_by m.stage is i }
 
 module _ (s t : Sight) (c d : Private) (old a now b : MoreAt) (slot after : SlotAt) (src dst later : List ℕ) (answer : RecvTurn) where
   -- a turn of ops that are spelled in another way
-  carry : old ≡ a → now ≡ b → Stands (taking_part s c old slot src dst) → (Stands (taking_part s c a slot src dst) → Turns (taking_part s c a slot src dst) (taking_part t d b after src later) answer) → Turns (taking_part s c old slot src dst) (taking_part t d now after src later) answer
+  carry : old ≡ a → now ≡ b → Stands (taking_part s c old slot src dst) → (Stands (taking_part s c a slot src dst) → MoreTurns (taking_part s c a slot src dst) (taking_part t d b after src later) answer) → MoreTurns (taking_part s c old slot src dst) (taking_part t d now after src later) answer
   carry before behind fit turns =
-      subst (λ (x : MoreAt). Turns (taking_part s c x slot src dst) (taking_part t d now after src later) answer) (sym before)
-      (subst (λ (y : MoreAt). Turns (taking_part s c a slot src dst) (taking_part t d y after src later) answer) (sym behind) (turns (subst (λ (x : MoreAt). Stands (taking_part s c x slot src dst)) before fit)))
+      subst (λ (x : MoreAt). MoreTurns (taking_part s c x slot src dst) (taking_part t d now after src later) answer) (sym before)
+      (subst (λ (y : MoreAt). MoreTurns (taking_part s c a slot src dst) (taking_part t d y after src later) answer) (sym behind) (turns (subst (λ (x : MoreAt). Stands (taking_part s c x slot src dst)) before fit)))
 
 module _ (m old now : MoreAt) (s : Sight) (c : Private) (slot : SlotAt) (src dst : List ℕ) (fit : Stands (taking_part s c old slot src dst)) where
   pub owned : (later : List ℕ) → old ≡ record m { stage = Own } → now ≡ record m { stage = Between } → length later ≡ length dst → HasOwn m.more s.seat.rank m.len src later
-      → Turns (taking_part s c old slot src dst) (taking_part s c now slot src later) receive.Moved
+      → MoreTurns (taking_part s c old slot src dst) (taking_part s c now slot src later) receive.Moved
   owned later before behind long has = carry s s c c old _ now _ slot slot src dst later receive.Moved before behind fit (λ there. own_turns m s c slot src dst later there long has)
 
   pub begun_next : s.seat.setup.nue ≤ 48 → s.seat.rank < s.seat.setup.nue → (call : PieceCall) → slice_get (table_of s.seat m) m.ended ≡ Some call
-      → old ≡ record m { stage = Between } → now ≡ record m { stage = begun_at call } → Turns (taking_part s c old slot src dst) (taking_part s c now slot src dst) receive.Moved
+      → old ≡ record m { stage = Between } → now ≡ record m { stage = begun_at call } → MoreTurns (taking_part s c old slot src dst) (taking_part s c now slot src dst) receive.Moved
   begun_next few low call at before behind = carry s s c c old _ now _ slot slot src dst dst receive.Moved before behind fit (λ there. begun_turns m s c slot src dst few low call at there.1.fits)
 
-  pub nothing_left : slice_get (table_of s.seat m) m.ended ≡ None → old ≡ record m { stage = Between } → now ≡ record m { stage = Between } → Turns (taking_part s c old slot src dst) (taking_part s c now slot src dst) receive.Done
+  pub nothing_left : slice_get (table_of s.seat m) m.ended ≡ None → old ≡ record m { stage = Between } → now ≡ record m { stage = Between } → MoreTurns (taking_part s c old slot src dst) (taking_part s c now slot src dst) receive.Done
   nothing_left none before behind = carry s s c c old _ now _ slot slot src dst dst receive.Done before behind fit (λ there. over_turns m s c slot src dst there none)
 
 module _ (m old now : MoreAt) (s t : Sight) (c d : Private) (call : PieceCall) (slot : SlotAt) (src dst : List ℕ) (fit : Stands (taking_part s c old slot src dst)) where
-  module _ (op next : SendAt) (after : SlotAt) (bytes : List ℕ) (before : old ≡ record m { stage = Sending call op }) (out : bytes ≡ bytes_of call src dst) (stands : SendStands t d next after bytes) where
-    there_send : SendStands t d next after (bytes_of call src dst)
+  module _ (op next : SendAt) (after : SlotAt) (bytes : List ℕ) (before : old ≡ record m { stage = Sending call op }) (out : bytes ≡ bytes_of_piece call src dst) (stands : SendStands t d next after bytes) where
+    there_send : SendStands t d next after (bytes_of_piece call src dst)
     there_send = subst (λ (x : List ℕ). SendStands t d next after x) out stands
 
-    turned_send : (answer : Turn) → SendTurned (sending s c op slot bytes) (sending t d next after bytes) answer → SendTurned (sending s c op slot (bytes_of call src dst)) (sending t d next after (bytes_of call src dst)) answer
+    turned_send : (answer : Turn) → SendTurned (sending s c op slot bytes) (sending t d next after bytes) answer → SendTurned (sending s c op slot (bytes_of_piece call src dst)) (sending t d next after (bytes_of_piece call src dst)) answer
     turned_send answer r = subst (λ (x : List ℕ). SendTurned (sending s c op slot x) (sending t d next after x) answer) out r
 
-    pub sending_moved : now ≡ record m { stage = Sending call next } → SendTurned (sending s c op slot bytes) (sending t d next after bytes) turn.Moved → Turns (taking_part s c old slot src dst) (taking_part t d now after src dst) receive.Moved
+    pub sending_moved : now ≡ record m { stage = Sending call next } → SendTurned (sending s c op slot bytes) (sending t d next after bytes) turn.Moved → MoreTurns (taking_part s c old slot src dst) (taking_part t d now after src dst) receive.Moved
     sending_moved is r = carry s t c d old _ now _ slot after src dst dst receive.Moved before is fit (λ there. send_moved m s t c d call op next slot after src dst there there_send (turned_send turn.Moved r))
 
     pub sending_waited : (spot : Spot) → now ≡ record m { stage = Sending call next } → SendTurned (sending s c op slot bytes) (sending t d next after bytes) (turn.Waiting spot)
-        → Turns (taking_part s c old slot src dst) (taking_part t d now after src dst) (receive.Waiting spot)
+        → MoreTurns (taking_part s c old slot src dst) (taking_part t d now after src dst) (receive.Waiting spot)
     sending_waited spot is r =
         carry s t c d old _ now _ slot after src dst dst (receive.Waiting spot) before is fit (λ there. send_waited m s t c d call op next slot after src dst there there_send spot (turned_send (turn.Waiting spot) r))
 
-    pub sending_done : now ≡ record m { ended = m.ended + 1; stage = Between } → SendTurned (sending s c op slot bytes) (sending t d next after bytes) turn.Done → Turns (taking_part s c old slot src dst) (taking_part t d now after src dst) receive.Moved
+    pub sending_done : now ≡ record m { ended = m.ended + 1; stage = Between } → SendTurned (sending s c op slot bytes) (sending t d next after bytes) turn.Done → MoreTurns (taking_part s c old slot src dst) (taking_part t d now after src dst) receive.Moved
     sending_done is r = carry s t c d old _ now _ slot after src dst dst receive.Moved before is fit (λ there. send_done m s t c d call op next slot after src dst there there_send (turned_send turn.Done r))
 
   module _ (few : s.seat.setup.nue ≤ 48) (low : s.seat.rank < s.seat.setup.nue) (op next : RecvAt) (later : List ℕ) (before : old ≡ record m { stage = Receiving call op })
@@ -90,28 +90,28 @@ module _ (m old now : MoreAt) (s t : Sight) (c d : Private) (call : PieceCall) (
     abbrev Got : RecvTurn → Type 0
     Got answer = RecvTurned (receiving s c op (window call.first call.len dst)) (receiving t d next (window call.first call.len later)) answer
 
-    pub receiving_moved : now ≡ record m { stage = Receiving call next } → Got receive.Moved → Turns (taking_part s c old slot src dst) (taking_part t d now slot src later) receive.Moved
+    pub receiving_moved : now ≡ record m { stage = Receiving call next } → Got receive.Moved → MoreTurns (taking_part s c old slot src dst) (taking_part t d now slot src later) receive.Moved
     receiving_moved is r =
         carry s t c d old _ now _ slot slot src dst later receive.Moved before is fit (λ there. recv_moved m s t c d call op next slot src dst later few low there stands long front behind r)
 
-    pub receiving_waited : (spot : Spot) → now ≡ record m { stage = Receiving call next } → Got (receive.Waiting spot) → Turns (taking_part s c old slot src dst) (taking_part t d now slot src later) (receive.Waiting spot)
+    pub receiving_waited : (spot : Spot) → now ≡ record m { stage = Receiving call next } → Got (receive.Waiting spot) → MoreTurns (taking_part s c old slot src dst) (taking_part t d now slot src later) (receive.Waiting spot)
     receiving_waited spot is r =
         carry s t c d old _ now _ slot slot src dst later (receive.Waiting spot) before is fit (λ there. recv_waited m s t c d call op next slot src dst later few low there stands long front behind spot r)
 
-    pub receiving_refused : (sent : MessageHead) → now ≡ record m { stage = Receiving call next } → Got (receive.Mismatch sent) → Turns (taking_part s c old slot src dst) (taking_part t d now slot src later) (receive.Mismatch sent)
+    pub receiving_refused : (sent : MessageHead) → now ≡ record m { stage = Receiving call next } → Got (receive.Mismatch sent) → MoreTurns (taking_part s c old slot src dst) (taking_part t d now slot src later) (receive.Mismatch sent)
     receiving_refused sent is r =
         carry s t c d old _ now _ slot slot src dst later (receive.Mismatch sent) before is fit (λ there. recv_refused m s t c d call op next slot src dst later few low there stands long front behind sent r)
 
-    pub receiving_done : now ≡ record m { ended = m.ended + 1; stage = Between } → Got receive.Done → Turns (taking_part s c old slot src dst) (taking_part t d now slot src later) receive.Moved
+    pub receiving_done : now ≡ record m { ended = m.ended + 1; stage = Between } → Got receive.Done → MoreTurns (taking_part s c old slot src dst) (taking_part t d now slot src later) receive.Moved
     receiving_done is r =
         carry s t c d old _ now _ slot slot src dst later receive.Moved before is fit (λ there. recv_done m s t c d call op next slot src dst later few low there stands long front behind r)
 
 -- ---- what the calls of a turn ask for
 
 -- a rank and its number of ranks, spelled in another way
-pub next_here : (m : MoreAt) (s : Sight) (rank nue : ℕ) (o : Option PieceCall) → rank ≡ s.seat.rank → nue ≡ s.seat.setup.nue → o ≡ slice_get (calls_of m.more rank nue m.len) m.ended
+pub next_here : (m : MoreAt) (s : Sight) (rank nue : ℕ) (o : Option PieceCall) → rank ≡ s.seat.rank → nue ≡ s.seat.setup.nue → o ≡ slice_get (piece_calls m.more rank nue m.len) m.ended
     → slice_get (table_of s.seat m) m.ended ≡ o
-next_here m s rank nue o one two at = sym (at ∙ (λ i. slice_get (calls_of m.more (one i) (two i) m.len) m.ended))
+next_here m s rank nue o one two at = sym (at ∙ (λ i. slice_get (piece_calls m.more (one i) (two i) m.len) m.ended))
 
 pub short_here : (m : MoreAt) (s : Sight) (call : PieceCall) → s.seat.setup.nue ≤ 48 → s.seat.rank < s.seat.setup.nue → m.len ≤ 1024 → slice_get (table_of s.seat m) m.ended ≡ Some call → call.len ≤ 65536
 short_here m s call few low short next =

@@ -9,8 +9,8 @@ use Rattle.scc_proto.specs.Messages.{Message, received_messages, sent_messages}
 use Rattle.scc_proto.proofs.Legality.LegalMessages.{legal_messages}
 use Rattle.scc_proto.proofs.Messages.MessageLists.{received_messages-append, sent_messages-append}
 use Rattle.scc_proto.proofs.Tests.{eqb_other, eqb_same, same_or_other}
-use Rattle.coll_more.specs.Ops.{data_of, window}
-use Rattle.coll_more.specs.Pieces.{HaveMade, all_of, pieces_for}
+use Rattle.coll_more.specs.Ops.{data_call_of, window}
+use Rattle.coll_more.specs.Pieces.{HaveMadeCall, all_of, pieces_for}
 use Rattle.coll_more.specs.Tables.{alltoall_calls, for_each, gives_piece, gives_then_takes, shares, takes_piece, takes_then_gives}
 use Rattle.coll_more.specs.declared.kinds.More.{More}
 use Rattle.coll_more.specs.declared.kinds.More.TheVariants.{Gather, Scatter, Allgather, Alltoall}
@@ -41,16 +41,16 @@ module _ (F : List PieceCall → List Message) (nothing : F [] ≡ []) (both : (
 
 module _ (p : ℕ) (src dst : List ℕ) where
   abbrev sent : List PieceCall → List Message
-  sent xs = sent_messages p (map (data_of src dst) xs)
+  sent xs = sent_messages p (map (data_call_of src dst) xs)
 
   abbrev got : List PieceCall → List Message
-  got xs = received_messages p (map (data_of src dst) xs)
+  got xs = received_messages p (map (data_call_of src dst) xs)
 
   sent_both : (xs ys : List PieceCall) → sent (xs ++ ys) ≡ sent xs ++ sent ys
-  sent_both xs ys = ap (sent_messages p) (map-append (data_of src dst) xs ys) ∙ sent_messages-append p (map (data_of src dst) xs) (map (data_of src dst) ys)
+  sent_both xs ys = ap (sent_messages p) (map-append (data_call_of src dst) xs ys) ∙ sent_messages-append p (map (data_call_of src dst) xs) (map (data_call_of src dst) ys)
 
   got_both : (xs ys : List PieceCall) → got (xs ++ ys) ≡ got xs ++ got ys
-  got_both xs ys = ap (received_messages p) (map-append (data_of src dst) xs ys) ∙ received_messages-append p (map (data_of src dst) xs) (map (data_of src dst) ys)
+  got_both xs ys = ap (received_messages p) (map-append (data_call_of src dst) xs ys) ∙ received_messages-append p (map (data_call_of src dst) xs) (map (data_call_of src dst) ys)
 
   abbrev message : ℕ → List ℕ → Message
   message len bytes = record { head = plain_head len; bytes = bytes }
@@ -147,7 +147,7 @@ module _ (nue len : ℕ) (keys : ℕ → ℕ → ℕ) (calls : ℕ → List Data
   first_piece : (bytes : List ℕ) → window (0 * len) len bytes ≡ window 0 len bytes
   first_piece bytes = let none : 0 * len ≡ 0 = omega arith in ap (λ (n : ℕ). window n len bytes) none
 
-  gather_at : HaveMade Gather nue len srcs dsts calls → (low : 0 < nue) (q : ℕ) → q < nue → window (q * len) len (dsts 0) ≡ srcs q
+  gather_at : HaveMadeCall Gather nue len srcs dsts calls → (low : 0 < nue) (q : ℕ) → q < nue → window (q * len) len (dsts 0) ≡ srcs q
   gather_at made low zero less = (made 0 low).own refl ∙ first_piece (srcs 0) ∙ whole len (srcs 0) (made 0 low).src_is
   gather_at made low (suc q) less =
       met (suc q) 0 (message 0 [] [] len (window 0 len (srcs (suc q)))) (message 0 [] [] len (window (suc q * len) len (dsts 0)))
@@ -155,11 +155,11 @@ module _ (nue len : ℕ) (keys : ℕ → ℕ → ℕ) (calls : ℕ → List Data
       (ap (received_messages (suc q)) (made 0 low).calls_are ∙ got_pieces (suc q) (srcs 0) (dsts 0) len (nue - 1) (omega arith) (omega (arith, less)))
       ∙ whole len (srcs (suc q)) (made (suc q) less).src_is
 
-  gather_pieces : HaveMade Gather nue len srcs dsts calls → (rank : ℕ) → rank < nue → dsts rank ≡ pieces_for Gather nue len srcs rank
+  gather_pieces : HaveMadeCall Gather nue len srcs dsts calls → (rank : ℕ) → rank < nue → dsts rank ≡ pieces_for Gather nue len srcs rank
   gather_pieces made zero low = joined len (dsts 0) srcs nue (made 0 low).dst_is (gather_at made low)
   gather_pieces made (suc r) low = nil_from_length (dsts (suc r)) (made (suc r) low).dst_is
 
-  scatter_pieces : HaveMade Scatter nue len srcs dsts calls → (rank : ℕ) → rank < nue → dsts rank ≡ pieces_for Scatter nue len srcs rank
+  scatter_pieces : HaveMadeCall Scatter nue len srcs dsts calls → (rank : ℕ) → rank < nue → dsts rank ≡ pieces_for Scatter nue len srcs rank
   scatter_pieces made zero low = sym (first_piece (dsts 0) ∙ whole len (dsts 0) (made 0 low).dst_is) ∙ (made 0 low).own refl
   scatter_pieces made (suc r) low =
       sym (whole len (dsts (suc r)) (made (suc r) low).dst_is)
@@ -167,7 +167,7 @@ module _ (nue len : ℕ) (keys : ℕ → ℕ → ℕ) (calls : ℕ → List Data
       (ap (sent_messages (suc r)) (made 0 (omega (arith, low))).calls_are ∙ sent_pieces (suc r) (srcs 0) (dsts 0) len (nue - 1) (omega arith) (omega (arith, low)))
       (ap (received_messages 0) (made (suc r) low).calls_are)
 
-  allgather_at : HaveMade Allgather nue len srcs dsts calls → (low : 0 < nue) (q : ℕ) → q < nue → window (q * len) len (dsts 0) ≡ srcs q
+  allgather_at : HaveMadeCall Allgather nue len srcs dsts calls → (low : 0 < nue) (q : ℕ) → q < nue → window (q * len) len (dsts 0) ≡ srcs q
   allgather_at made low zero less = (made 0 low).own refl ∙ first_piece (srcs 0) ∙ whole len (srcs 0) (made 0 low).src_is
   allgather_at made low (suc q) less =
       met (suc q) 0 (message 0 [] [] len (window 0 len (srcs (suc q)))) (message 0 [] [] len (window (suc q * len) len (dsts 0)))
@@ -175,10 +175,10 @@ module _ (nue len : ℕ) (keys : ℕ → ℕ → ℕ) (calls : ℕ → List Data
       (ap (received_messages (suc q)) (made 0 low).calls_are ∙ got_gathered (suc q) (srcs 0) (dsts 0) len (nue * len) (nue - 1) (omega arith) (omega (arith, less)))
       ∙ whole len (srcs (suc q)) (made (suc q) less).src_is
 
-  allgather_root : HaveMade Allgather nue len srcs dsts calls → (low : 0 < nue) → dsts 0 ≡ all_of nue srcs
+  allgather_root : HaveMadeCall Allgather nue len srcs dsts calls → (low : 0 < nue) → dsts 0 ≡ all_of nue srcs
   allgather_root made low = joined len (dsts 0) srcs nue (made 0 low).dst_is (allgather_at made low)
 
-  allgather_pieces : HaveMade Allgather nue len srcs dsts calls → (rank : ℕ) → rank < nue → dsts rank ≡ pieces_for Allgather nue len srcs rank
+  allgather_pieces : HaveMadeCall Allgather nue len srcs dsts calls → (rank : ℕ) → rank < nue → dsts rank ≡ pieces_for Allgather nue len srcs rank
   allgather_pieces made zero low = allgather_root made low
   allgather_pieces made (suc r) low =
       let root : 0 < nue = omega (arith, low) in
@@ -189,7 +189,7 @@ module _ (nue len : ℕ) (keys : ℕ → ℕ → ℕ) (calls : ℕ → List Data
       ∙ whole (nue * len) (dsts 0) (made 0 root).dst_is
       ∙ allgather_root made root
 
-  alltoall_pieces : HaveMade Alltoall nue len srcs dsts calls → (rank : ℕ) → rank < nue → dsts rank ≡ pieces_for Alltoall nue len srcs rank
+  alltoall_pieces : HaveMadeCall Alltoall nue len srcs dsts calls → (rank : ℕ) → rank < nue → dsts rank ≡ pieces_for Alltoall nue len srcs rank
   alltoall_pieces made rank low = joined len (dsts rank) (λ k. window (rank * len) len (srcs k)) nue (made rank low).dst_is (λ q less.
       same_or_other (window (q * len) len (dsts rank) ≡ window (rank * len) len (srcs q)) q rank
       (λ test same. subst (λ (k : ℕ). window (k * len) len (dsts rank) ≡ window (rank * len) len (srcs k)) (sym same) ((made rank low).own refl))
@@ -198,7 +198,7 @@ module _ (nue len : ℕ) (keys : ℕ → ℕ → ℕ) (calls : ℕ → List Data
       (ap (sent_messages rank) (made q less).calls_are ∙ sent_pair rank (srcs q) (dsts q) len q nue low (side_of rank q (λ e. other (sym e))))
       (ap (received_messages q) (made rank low).calls_are ∙ got_pair q (srcs rank) (dsts rank) len rank nue less (side_of q rank other))))
 
-  pub pieces_there : (more : More) → HaveMade more nue len srcs dsts calls → (rank : ℕ) → rank < nue → dsts rank ≡ pieces_for more nue len srcs rank
+  pub pieces_there : (more : More) → HaveMadeCall more nue len srcs dsts calls → (rank : ℕ) → rank < nue → dsts rank ≡ pieces_for more nue len srcs rank
   pieces_there Gather made = gather_pieces made
   pieces_there Scatter made = scatter_pieces made
   pieces_there Allgather made = allgather_pieces made

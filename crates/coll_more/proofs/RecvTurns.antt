@@ -18,10 +18,10 @@ use Rattle.send_recv.specs.declared.answers.RecvTurn.{RecvTurn}
 use Rattle.send_recv.specs.declared.answers.RecvTurn.TheVariants as turn
 use Rattle.send_recv.specs.Ranks.{receiving}
 use Rattle.send_recv.proofs.Starts.{free_after_received, slot_after}
-use Rattle.coll_more.specs.Ops.{HasOwn, MoreAt, Participant, bytes_by, data_by, data_of, ended_calls, is_taking, table_of, window, taking_part}
-use Rattle.coll_more.specs.Standing.{IsFit, IsRecvOf, MoreStands, Stands}
+use Rattle.coll_more.specs.Ops.{HasOwn, MoreAt, Participant, bytes_by, data_by, data_call_of, ended_calls, is_taking, table_of, window, taking_part}
+use Rattle.coll_more.specs.Standing.{IsFit, IsRecvOfPiece, MoreStands, Stands}
 use Rattle.coll_more.specs.Tables.{dst_len_of, has_own, src_len_of}
-use Rattle.coll_more.specs.Turns.{Turns, left_from}
+use Rattle.coll_more.specs.Turns.{MoreTurns, left_from}
 use Rattle.coll_more.specs.declared.kinds.PieceCall.{PieceCall}
 use Rattle.coll_more.specs.declared.kinds.Way.{Way}
 use Rattle.coll_more.specs.declared.kinds.Way.TheVariants.{Gives, Shares, Takes}
@@ -65,13 +65,13 @@ module _ (m : MoreAt) (s t : Sight) (c d : Private) (call : PieceCall) (op next 
   abbrev Turned : RecvTurn → Type 0
   Turned answer = RecvTurned (receiving s c op (window call.first call.len dst)) (receiving t d next (window call.first call.len later)) answer
 
-  later_of : IsRecvOf call op → (next.from ≡ op.from) × (next.head ≡ op.head) → is_received next.stage ≡ false → IsRecvOf call next
+  later_of : IsRecvOfPiece call op → (next.from ≡ op.from) × (next.head ≡ op.head) → is_received next.stage ≡ false → IsRecvOfPiece call next
   later_of of same unended = record { way = of.way; from = same.0 ∙ of.from; head = same.1 ∙ of.head; unended = unended }
 
   module _ (few : s.seat.setup.nue ≤ 48) (low : s.seat.rank < s.seat.setup.nue) (fit : Stands old)
       (there : RecvStands t d next (window call.first call.len later)) (long : length later ≡ length dst) (front : take call.first later ≡ take call.first dst)
       (behind : drop (call.first + call.len) later ≡ drop (call.first + call.len) dst) where
-    here : IsRecvOf call op
+    here : IsRecvOfPiece call op
     here = fit.1.at.1
 
     good : IsGood s.seat.rank s.seat.setup.nue m.len (has_own m.more s.seat.rank) (src_len_of m.more s.seat.rank s.seat.setup.nue m.len) (dst_len_of m.more s.seat.rank s.seat.setup.nue m.len) call
@@ -79,7 +79,7 @@ module _ (m : MoreAt) (s t : Sight) (c d : Private) (call : PieceCall) (op next 
 
     -- the calls that have ended keep their bytes
     kept_calls : ended_calls s.seat m src dst ≡ ended_calls s.seat m src later
-    kept_calls = same_taken (data_of src dst) (data_of src later) (table_of s.seat m) m.ended (λ k x less at.
+    kept_calls = same_taken (data_call_of src dst) (data_call_of src later) (table_of s.seat m) m.ended (λ k x less at.
         ap (data_by x.way x.peer x.len) (old_bytes src dst later x call x.way
         (λ of. later_behind 0 (table_of s.seat m) k m.ended x call (rising_calls m.len m.more s.seat.rank s.seat.setup.nue) at fit.1.at.0 less of here.way) front))
 
@@ -114,7 +114,7 @@ module _ (m : MoreAt) (s t : Sight) (c d : Private) (call : PieceCall) (op next 
         at = (subst (λ (x : Seat). slice_get (table_of x m) m.ended ≡ Some call) (sym seat) st.at.0, later_of st.at.1 r.same unended, slot_after r.events r.did r.post st.at.2, there);
       }
 
-    pub recv_moved : Turned turn.Moved → Turns old now turn.Moved
+    pub recv_moved : Turned turn.Moved → MoreTurns old now turn.Moved
     recv_moved r = record {
       stands = kept turn.Moved r r.means.3 r.means.1;
       turned = turned_by old now turn.Moved r.events r.did r.does r.tried r.freed (λ spot same. absurd (cc)) r.only (refl, refl)
@@ -124,21 +124,21 @@ module _ (m : MoreAt) (s t : Sight) (c d : Private) (call : PieceCall) (op next 
         less : (1 + recv_left (chunk_of s.seat.setup) next) + left_from s.seat m (m.ended + 1) < (1 + recv_left (chunk_of s.seat.setup) op) + left_from s.seat m (m.ended + 1)
         less = let fewer = r.means.0 in omega (arith, fewer)
 
-    pub recv_waited : (spot : Spot) → Turned (turn.Waiting spot) → Turns old now (turn.Waiting spot)
+    pub recv_waited : (spot : Spot) → Turned (turn.Waiting spot) → MoreTurns old now (turn.Waiting spot)
     recv_waited spot r = record {
       stands = kept (turn.Waiting spot) r (ap (λ (x : RecvAt). is_received x.stage) r.means.0 ∙ here.unended) r.means.2.calls;
       turned = turned_by old now (turn.Waiting spot) r.events r.did r.does r.tried r.freed (λ at same. r.rests spot refl) r.only (refl, refl)
           (record { same_op = (λ i. record m { stage = Receiving call (r.means.0 i) }); same_slot = refl; same_dst = same_parts dst later call.first call.len front r.means.1 behind; rest = r.means.2 }, refl) r.rest (none_stored s.seat.setup c r.events r.no_drafts) r.held;
     }
 
-    pub recv_refused : (sent : MessageHead) → Turned (turn.Mismatch sent) → Turns old now (turn.Mismatch sent)
+    pub recv_refused : (sent : MessageHead) → Turned (turn.Mismatch sent) → MoreTurns old now (turn.Mismatch sent)
     recv_refused sent r = record {
       stands = kept (turn.Mismatch sent) r (ap (λ (x : RecvAt). is_received x.stage) r.means.0 ∙ here.unended) r.means.3.calls;
       turned = turned_by old now (turn.Mismatch sent) r.events r.did r.does r.tried r.freed (λ spot same. absurd (cc)) r.only (refl, refl)
           (record { same_op = (λ i. record m { stage = Receiving call (r.means.0 i) }); same_slot = refl; same_dst = same_parts dst later call.first call.len front r.means.1 behind; rest = r.means.3 }, refl, (r.means.2, λ same. r.means.4 (same ∙ sym here.head), r.means.5, subst (λ (j : ℕ). (record_in t).notes j ≡ Some r.means.5) here.from r.means.6, r.means.7)) r.rest (none_stored s.seat.setup c r.events r.no_drafts) r.held;
     }
 
-    pub recv_done : Turned turn.Done → Turns old past turn.Moved
+    pub recv_done : Turned turn.Done → MoreTurns old past turn.Moved
     recv_done r = record {
       stands = λ base st. record {
         fits = fits_there turn.Done r st.fits;
@@ -153,7 +153,7 @@ module _ (m : MoreAt) (s t : Sight) (c d : Private) (call : PieceCall) (op next 
         less : left_from s.seat m (m.ended + 1) < (1 + recv_left (chunk_of s.seat.setup) op) + left_from s.seat m (m.ended + 1)
         less = omega arith
 
-        got : recv_call op (window call.first call.len dst) ≡ data_of src later call ∷ []
+        got : recv_call op (window call.first call.len dst) ≡ data_call_of src later call ∷ []
         got =
             got_call op call.peer (plain_head call.len) (window call.first call.len dst) here.from here.head here.unended
             ∙ ap (λ (x : List ℕ). Recv call.peer (plain_head call.len) x ∷ []) (sym r.means.1)
@@ -164,6 +164,6 @@ module _ (m : MoreAt) (s t : Sight) (c d : Private) (call : PieceCall) (op next 
         more base st =
             r.means.2
             ∙ (λ i. (st.calls ∙ ap (λ (x : List DataCall). base ++ x) kept_calls) i ++ got i)
-            ∙ append_assoc base (ended_calls s.seat m src later) (data_of src later call ∷ [])
-            ∙ ap (λ (x : List DataCall). base ++ x) (sym (next_taken (data_of src later) (table_of s.seat m) m.ended call st.at.0))
+            ∙ append_assoc base (ended_calls s.seat m src later) (data_call_of src later call ∷ [])
+            ∙ ap (λ (x : List DataCall). base ++ x) (sym (next_taken (data_call_of src later) (table_of s.seat m) m.ended call st.at.0))
             ∙ ap (λ (x : Seat). base ++ ended_calls x (record m { ended = m.ended + 1 }) src later) (sym (seat turn.Done r))

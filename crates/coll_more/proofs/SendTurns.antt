@@ -15,9 +15,9 @@ use Rattle.send_recv.specs.Sending.{SendStands, SendTurned, send_call, send_left
 use Rattle.send_recv.specs.declared.answers.RecvTurn.TheVariants as receive
 use Rattle.send_recv.specs.Ranks.{sending}
 use Rattle.send_recv.proofs.Starts.{free_after_sent}
-use Rattle.coll_more.specs.Ops.{HasOwn, MoreAt, Participant, bytes_of, data_by, data_of, ended_calls, is_taking, table_of, taking_part}
-use Rattle.coll_more.specs.Standing.{IsFit, IsSendOf, MoreStands, Stands}
-use Rattle.coll_more.specs.Turns.{Turns, left_from}
+use Rattle.coll_more.specs.Ops.{HasOwn, MoreAt, Participant, bytes_of_piece, data_by, data_call_of, ended_calls, is_taking, table_of, taking_part}
+use Rattle.coll_more.specs.Standing.{IsFit, IsSendOfPiece, MoreStands, Stands}
+use Rattle.coll_more.specs.Turns.{MoreTurns, left_from}
 use Rattle.coll_more.specs.declared.kinds.PieceCall.{PieceCall}
 use Rattle.coll_more.specs.declared.kinds.Way.{Way}
 use Rattle.coll_more.specs.declared.kinds.Way.TheVariants.{Gives, Shares, Takes}
@@ -46,13 +46,13 @@ module _ (m : MoreAt) (s t : Sight) (c d : Private) (call : PieceCall) (op next 
   past = taking_part t d (record m { ended = m.ended + 1; stage = Between }) after src dst
 
   abbrev Turned : Turn → Type 0
-  Turned answer = SendTurned (sending s c op slot (bytes_of call src dst)) (sending t d next after (bytes_of call src dst)) answer
+  Turned answer = SendTurned (sending s c op slot (bytes_of_piece call src dst)) (sending t d next after (bytes_of_piece call src dst)) answer
 
-  later_of : IsSendOf call op → (next.to ≡ op.to) × (next.head ≡ op.head) × (next.posted ≡ op.posted) → is_sent next.stage ≡ false → IsSendOf call next
+  later_of : IsSendOfPiece call op → (next.to ≡ op.to) × (next.head ≡ op.head) × (next.posted ≡ op.posted) → is_sent next.stage ≡ false → IsSendOfPiece call next
   later_of of same unended = record { way = of.way; to = same.0 ∙ of.to; head = same.1 ∙ of.head; plain = same.2 ∙ of.plain; unended = unended }
 
-  module _ (fit : Stands old) (there : SendStands t d next after (bytes_of call src dst)) where
-    here : IsSendOf call op
+  module _ (fit : Stands old) (there : SendStands t d next after (bytes_of_piece call src dst)) where
+    here : IsSendOfPiece call op
     here = fit.1.at.1
 
     module _ (answer : Turn) (r : Turned answer) where
@@ -73,7 +73,7 @@ module _ (m : MoreAt) (s t : Sight) (c d : Private) (call : PieceCall) (op next 
         at = (subst (λ (x : Seat). slice_get (table_of x m) m.ended ≡ Some call) (sym seat) st.at.0, later_of st.at.1 r.same unended, there);
       }
 
-    pub send_moved : Turned turn.Moved → Turns old now receive.Moved
+    pub send_moved : Turned turn.Moved → MoreTurns old now receive.Moved
     send_moved r = record {
       stands = kept turn.Moved r r.means.3 r.means.1;
       turned = turned_by old now receive.Moved r.events r.did r.does r.tried r.freed (λ spot same. absurd (cc)) r.only (refl, refl)
@@ -84,14 +84,14 @@ module _ (m : MoreAt) (s t : Sight) (c d : Private) (call : PieceCall) (op next 
             < (1 + send_left s.seat.setup.layout (chunk_of s.seat.setup) op slot) + left_from s.seat m (m.ended + 1)
         less = let fewer = r.means.0 in omega (arith, fewer)
 
-    pub send_waited : (spot : Spot) → Turned (turn.Waiting spot) → Turns old now (receive.Waiting spot)
+    pub send_waited : (spot : Spot) → Turned (turn.Waiting spot) → MoreTurns old now (receive.Waiting spot)
     send_waited spot r = record {
       stands = kept (turn.Waiting spot) r (ap (λ (x : SendAt). is_sent x.stage) r.means.0 ∙ here.unended) r.means.2.calls;
       turned = turned_by old now (receive.Waiting spot) r.events r.did r.does r.tried r.freed (λ at same. r.rests spot refl) r.only (refl, refl)
           (record { same_op = (λ i. record m { stage = Sending call (r.means.0 i) }); same_slot = r.means.1; same_dst = refl; rest = r.means.2 }, refl) r.rest r.drafts r.held;
     }
 
-    pub send_done : Turned turn.Done → Turns old past receive.Moved
+    pub send_done : Turned turn.Done → MoreTurns old past receive.Moved
     send_done r = record {
       stands = λ base st. record {
         fits = fits_there turn.Done r st.fits;
@@ -110,7 +110,7 @@ module _ (m : MoreAt) (s t : Sight) (c d : Private) (call : PieceCall) (op next 
             → (record_in t).calls ≡ base ++ ended_calls t.seat (record m { ended = m.ended + 1 }) src dst
         more base st =
             r.means.2
-            ∙ (λ i. st.calls i ++ (sent_call op call.peer (plain_head call.len) (bytes_of call src dst) here.to here.head here.plain here.unended ∙ ap (λ (x : DataCall). x ∷ []) (sent_data call.way call.peer call.len (bytes_of call src dst) here.way)) i)
-            ∙ append_assoc base (ended_calls s.seat m src dst) (data_of src dst call ∷ [])
-            ∙ ap (λ (x : List DataCall). base ++ x) (sym (next_taken (data_of src dst) (table_of s.seat m) m.ended call st.at.0))
+            ∙ (λ i. st.calls i ++ (sent_call op call.peer (plain_head call.len) (bytes_of_piece call src dst) here.to here.head here.plain here.unended ∙ ap (λ (x : DataCall). x ∷ []) (sent_data call.way call.peer call.len (bytes_of_piece call src dst) here.way)) i)
+            ∙ append_assoc base (ended_calls s.seat m src dst) (data_call_of src dst call ∷ [])
+            ∙ ap (λ (x : List DataCall). base ++ x) (sym (next_taken (data_call_of src dst) (table_of s.seat m) m.ended call st.at.0))
             ∙ ap (λ (x : Seat). base ++ ended_calls x (record m { ended = m.ended + 1 }) src dst) (sym (seat turn.Done r))

@@ -1,7 +1,7 @@
 -- The messages of a table by their places.
 use Rattle.std.proofs.Common.{◌≡◌, ℕ, zero, suc, ◌+◌, ◌-◌, ◌*◌, ◌/◌, ◌%◌, ◌<◌, ◌≤◌, ◌==◌, Bool, true, false, if◌then◌else◌, List, [], ◌∷◌, length, Some, None, slice_get, refl, ap, ◌∙◌, arith, length-append}
 use Rattle.std.proofs.lemmas.Option.{slice_get_within}
-use Rattle.coll_more.specs.Tables.{alltoall_calls, calls_of, for_each, gather_calls, gives, gives_then_takes, rooted, shares, spread_calls, takes, takes_then_gives}
+use Rattle.coll_more.specs.Tables.{alltoall_calls, piece_calls, for_each, gather_calls, gives, gives_then_takes, rooted_calls, shares, spread_calls, takes, takes_then_gives}
 use Rattle.coll_more.specs.declared.kinds.More.{More}
 use Rattle.coll_more.specs.declared.kinds.More.TheVariants.{Gather, Scatter, Allgather, Alltoall}
 use Rattle.coll_more.specs.declared.kinds.PieceCall.{PieceCall}
@@ -29,16 +29,16 @@ module _ (f : ℕ → PieceCall) where
   ones_many a (suc n) = ap suc (ones_many (a + 1) n)
 
   -- the root's messages, and the one of another rank
-  pub root_at : (call : PieceCall) (rank n k : ℕ) → rank ≡ 0 → k < n → slice_get (rooted rank (ones 1 n) call) k ≡ Some (f (k + 1))
+  pub root_at : (call : PieceCall) (rank n k : ℕ) → rank ≡ 0 → k < n → slice_get (rooted_calls rank (ones 1 n) call) k ≡ Some (f (k + 1))
   root_at call rank n k root less =
       let same : 1 + k ≡ k + 1 = omega arith in
-      ap (λ (r : ℕ). slice_get (rooted r (ones 1 n) call) k) root ∙ one_at 1 n k less ∙ ap (λ (p : ℕ). Some (f p)) same
+      ap (λ (r : ℕ). slice_get (rooted_calls r (ones 1 n) call) k) root ∙ one_at 1 n k less ∙ ap (λ (p : ℕ). Some (f p)) same
 
-  pub root_none : (call : PieceCall) (rank n k : ℕ) → rank ≡ 0 → n ≤ k → slice_get (rooted rank (ones 1 n) call) k ≡ None
-  root_none call rank n k root past = ap (λ (r : ℕ). slice_get (rooted r (ones 1 n) call) k) root ∙ none_at 1 n k past
+  pub root_none : (call : PieceCall) (rank n k : ℕ) → rank ≡ 0 → n ≤ k → slice_get (rooted_calls rank (ones 1 n) call) k ≡ None
+  root_none call rank n k root past = ap (λ (r : ℕ). slice_get (rooted_calls r (ones 1 n) call) k) root ∙ none_at 1 n k past
 
-  pub root_many : (call : PieceCall) (rank n : ℕ) → rank ≡ 0 → length (rooted rank (ones 1 n) call) ≡ n
-  root_many call rank n root = ap (λ (r : ℕ). length (rooted r (ones 1 n) call)) root ∙ ones_many 1 n
+  pub root_many : (call : PieceCall) (rank n : ℕ) → rank ≡ 0 → length (rooted_calls rank (ones 1 n) call) ≡ n
+  root_many call rank n root = ap (λ (r : ℕ). length (rooted_calls r (ones 1 n) call)) root ∙ ones_many 1 n
 
 -- two messages a rank
 module _ (f g : ℕ → PieceCall) where
@@ -122,11 +122,11 @@ module _ (rank nue len k : ℕ) where
 
 -- ---- how many there are
 
-few_rooted : (f : ℕ → PieceCall) (call : PieceCall) (rank n nue : ℕ) → n ≤ nue → 0 < nue → length (rooted rank (for_each (λ p. f p ∷ []) 1 n) call) ≤ nue
+few_rooted : (f : ℕ → PieceCall) (call : PieceCall) (rank n nue : ℕ) → n ≤ nue → 0 < nue → length (rooted_calls rank (for_each (λ p. f p ∷ []) 1 n) call) ≤ nue
 few_rooted f call zero n nue le some = let many = ones_many f 1 n in omega (arith, le, many)
 few_rooted f call (suc r) n nue le some = omega (arith, some)
 
-pub few_calls : (more : More) (rank nue len : ℕ) → rank < nue → length (calls_of more rank nue len) ≤ 2 * nue
+pub few_calls : (more : More) (rank nue len : ℕ) → rank < nue → length (piece_calls more rank nue len) ≤ 2 * nue
 few_calls Gather rank nue len low =
     let few = few_rooted (λ p. takes p (p * len) len) (gives 0 0 len) rank (nue - 1) nue (omega arith) (omega (arith, low)) in
     omega (arith, few)
@@ -145,8 +145,8 @@ few_calls Alltoall rank nue len low =
     omega (arith, one, two, both, low)
 
 -- the place of the next message fits its number
-pub next_fits : (more : More) (rank nue len k : ℕ) (call : PieceCall) → rank < nue → nue ≤ 48 → slice_get (calls_of more rank nue len) k ≡ Some call → k + 1 < 256
+pub next_fits : (more : More) (rank nue len k : ℕ) (call : PieceCall) → rank < nue → nue ≤ 48 → slice_get (piece_calls more rank nue len) k ≡ Some call → k + 1 < 256
 next_fits more rank nue len k call low few at =
-    let inside = slice_get_within (calls_of more rank nue len) k call at in
+    let inside = slice_get_within (piece_calls more rank nue len) k call at in
     let most = few_calls more rank nue len low in
     omega (arith, inside, most, few)

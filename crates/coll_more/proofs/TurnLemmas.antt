@@ -22,10 +22,10 @@ use Rattle.send_recv.specs.declared.answers.RecvTurn.{RecvTurn}
 use Rattle.send_recv.specs.declared.answers.RecvTurn.TheVariants as turn
 use Rattle.send_recv.proofs.Starts.{new_receive_left, new_send_left, receive_starts, send_starts}
 use Rattle.sync_flags.specs.Tries.{NoTry, Tried, changing_after}
-use Rattle.coll_more.specs.Ops.{HasOwn, MoreAt, Participant, begun_at, begun_by, bytes_by, bytes_of, data_of, ended_calls, is_taking, table_of, window, taking_part}
+use Rattle.coll_more.specs.Ops.{HasOwn, MoreAt, Participant, begun_at, begun_by, bytes_by, bytes_of_piece, data_call_of, ended_calls, is_taking, table_of, window, taking_part}
 use Rattle.coll_more.specs.Standing.{IsFit, MoreStands, Stands, StandsAt}
 use Rattle.coll_more.specs.Tables.{dst_len_of, has_own, src_len_of}
-use Rattle.coll_more.specs.Turns.{MoreDoes, MoreMeans, MoreTurned, Turns, aim_by, call_bound, left_by, left_from}
+use Rattle.coll_more.specs.Turns.{MoreDoes, MoreMeans, MoreTurned, MoreTurns, stage_aim, call_bound, left_at_stage, left_from}
 use Rattle.coll_more.specs.declared.kinds.PieceCall.{PieceCall}
 use Rattle.coll_more.specs.declared.kinds.Way.{Way}
 use Rattle.coll_more.specs.declared.kinds.Way.TheVariants.{Gives, Shares, Takes}
@@ -39,7 +39,7 @@ plain_valid len short = record { kind_below = omega arith; comm_below = omega ar
 
 -- a turn of a call, by what the turn of its message was
 pub turned_by : (old now : Participant) (answer : RecvTurn) (events : List Event) → Did old.sight events now.sight → MoreDoes old old.op.stage (goes_on answer) now.sight now.core
-    → Tried (aim_by old.sight.seat old.slot old.op.stage) events (recv_waits answer) → changing_after false events ≡ false
+    → Tried (stage_aim old.sight.seat old.slot old.op.stage) events (recv_waits answer) → changing_after false events ≡ false
     → ((spot : Spot) → answer ≡ turn.Waiting spot → list_all is_resting events ≡ true) → OnlyTries (aim_at (layout_at old.sight) (recv_waits answer)) events
     → (now.op.more ≡ old.op.more) × (now.op.len ≡ old.op.len) → MoreMeans old now answer → KeepsAllButMessages (record_in old.sight) (record_in now.sight)
     → StoresFromBuffer old.sight.seat.setup old.core events → LastHeld events old.core.evictions now.core → MoreTurned old now answer
@@ -61,7 +61,7 @@ turned_by old now answer events did does tried freed rests only same means rest 
 -- a turn without events
 module _ (m : MoreAt) (s : Sight) (c : Private) (slot : SlotAt) (src dst : List ℕ) where
   pub own_turns : (later : List ℕ) → Stands (taking_part s c (record m { stage = Own }) slot src dst) → length later ≡ length dst → HasOwn m.more s.seat.rank m.len src later
-      → Turns (taking_part s c (record m { stage = Own }) slot src dst) (taking_part s c (record m { stage = Between }) slot src later) turn.Moved
+      → MoreTurns (taking_part s c (record m { stage = Own }) slot src dst) (taking_part s c (record m { stage = Between }) slot src later) turn.Moved
   own_turns later fit long has = record {
     stands = λ base st. record {
       fits = record { short = st.fits.short; src_is = st.fits.src_is; dst_is = long ∙ st.fits.dst_is };
@@ -86,13 +86,13 @@ module _ (m : MoreAt) (s : Sight) (c : Private) (slot : SlotAt) (src dst : List 
   }
     where
       none : (bytes : List ℕ) → m.ended ≡ 0 → ended_calls s.seat m src bytes ≡ []
-      none bytes start = ap (λ (n : ℕ). map (data_of src bytes) (take n (table_of s.seat m))) start
+      none bytes start = ap (λ (n : ℕ). map (data_call_of src bytes) (take n (table_of s.seat m))) start
 
       less : left_from s.seat m m.ended < 1 + left_from s.seat m m.ended
       less = omega arith
 
   pub over_turns : Stands (taking_part s c (record m { stage = Between }) slot src dst) → slice_get (table_of s.seat m) m.ended ≡ None
-      → Turns (taking_part s c (record m { stage = Between }) slot src dst) (taking_part s c (record m { stage = Between }) slot src dst) turn.Done
+      → MoreTurns (taking_part s c (record m { stage = Between }) slot src dst) (taking_part s c (record m { stage = Between }) slot src dst) turn.Done
   over_turns fit none = record {
     stands = λ base st. st;
     turned = record {
@@ -130,13 +130,13 @@ module _ (m : MoreAt) (s : Sight) (c : Private) (slot : SlotAt) (src dst : List 
     begun_stands Gives is free = (
       next,
       record { way = ap is_taking is; to = refl; head = refl; plain = refl; unended = refl },
-      send_starts free call.peer (plain_head call.len) false (bytes_of call src dst) (peers_from s.seat.setup s.seat.rank call.peer low good_here.below good_here.other) (plain_valid call.len good_here.short)
+      send_starts free call.peer (plain_head call.len) false (bytes_of_piece call src dst) (peers_from s.seat.setup s.seat.rank call.peer low good_here.below good_here.other) (plain_valid call.len good_here.short)
           (λ same. absurd (cc)) (window_long call.first call.len (bytes_by call.way src dst) inside_here),
     )
     begun_stands Shares is free = (
       next,
       record { way = ap is_taking is; to = refl; head = refl; plain = refl; unended = refl },
-      send_starts free call.peer (plain_head call.len) false (bytes_of call src dst) (peers_from s.seat.setup s.seat.rank call.peer low good_here.below good_here.other) (plain_valid call.len good_here.short)
+      send_starts free call.peer (plain_head call.len) false (bytes_of_piece call src dst) (peers_from s.seat.setup s.seat.rank call.peer low good_here.below good_here.other) (plain_valid call.len good_here.short)
           (λ same. absurd (cc)) (window_long call.first call.len (bytes_by call.way src dst) inside_here),
     )
     begun_stands Takes is free = (
@@ -148,7 +148,7 @@ module _ (m : MoreAt) (s : Sight) (c : Private) (slot : SlotAt) (src dst : List 
     )
 
     -- it has at most its bound left
-    begun_left : (w : Way) → left_by s.seat m slot (begun_by w call) < call_bound s.seat.setup.layout call + left_from s.seat m (m.ended + 1)
+    begun_left : (w : Way) → left_at_stage s.seat m slot (begun_by w call) < call_bound s.seat.setup.layout call + left_from s.seat m (m.ended + 1)
     begun_left Gives = let most = new_send_left s.seat.setup.layout (chunk_of s.seat.setup) call.peer (plain_head call.len) false slot in omega (arith, most)
     begun_left Shares = let most = new_send_left s.seat.setup.layout (chunk_of s.seat.setup) call.peer (plain_head call.len) false slot in omega (arith, most)
     begun_left Takes = let most = new_receive_left (chunk_of s.seat.setup) call.peer (plain_head call.len) in omega (arith, most)
@@ -156,7 +156,7 @@ module _ (m : MoreAt) (s : Sight) (c : Private) (slot : SlotAt) (src dst : List 
     begun_copied : (base : List DataCall) → MoreStands base (taking_part s c (record m { stage = Between }) slot src dst) → MoreStands base (taking_part s c (record m { stage = begun_at call }) slot src dst)
     begun_copied base st = record { fits = st.fits; calls = st.calls; own = λ is. st.own refl; at = begun_stands call.way refl st.at }
 
-    pub begun_turns : Turns (taking_part s c (record m { stage = Between }) slot src dst) (taking_part s c (record m { stage = begun_at call }) slot src dst) turn.Moved
+    pub begun_turns : MoreTurns (taking_part s c (record m { stage = Between }) slot src dst) (taking_part s c (record m { stage = begun_at call }) slot src dst) turn.Moved
     begun_turns = record {
       stands = begun_copied;
       turned = record {

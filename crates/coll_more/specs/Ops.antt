@@ -6,7 +6,7 @@ use Rattle.scc_base.specs.Heads.{plain_head}
 use Rattle.scc_proto.specs.Ports.{Seat, Sight}
 use Rattle.put_get.specs.Cores.{Private}
 use Rattle.send_recv.specs.Ops.{SlotAt, new_receive, new_send}
-use Rattle.coll_more.specs.Tables.{calls_of, has_own}
+use Rattle.coll_more.specs.Tables.{piece_calls, has_own}
 use Rattle.coll_more.specs.declared.kinds.More.{More}
 use Rattle.coll_more.specs.declared.kinds.PieceCall.{PieceCall}
 use Rattle.coll_more.specs.declared.kinds.Way.{Way}
@@ -50,8 +50,8 @@ bytes_by Shares src dst = dst
 bytes_by Takes src dst = dst
 
 -- the bytes that a message of a collective call moves: a part of src or of dst
-abbrev pub bytes_of : PieceCall → (src dst : List ℕ) → List ℕ
-bytes_of call src dst = window call.first call.len (bytes_by call.way src dst)
+abbrev pub bytes_of_piece : PieceCall → (src dst : List ℕ) → List ℕ
+bytes_of_piece call src dst = window call.first call.len (bytes_by call.way src dst)
 
 -- a message of the table as a call, by which way it goes, the other rank, its length and its bytes
 abbrev pub data_by : Way → (peer len : ℕ) → List ℕ → DataCall
@@ -60,20 +60,20 @@ data_by Shares peer len bytes = Send peer (plain_head len) bytes
 data_by Takes peer len bytes = Recv peer (plain_head len) bytes
 
 -- a message of the table as a call with its bytes, which are a part of src or of dst
-abbrev pub data_of : (src dst : List ℕ) → PieceCall → DataCall
-data_of src dst call = data_by call.way call.peer call.len (bytes_of call src dst)
+abbrev pub data_call_of : (src dst : List ℕ) → PieceCall → DataCall
+data_call_of src dst call = data_by call.way call.peer call.len (bytes_of_piece call src dst)
 
 -- the calls of a collective call at a rank, with their bytes
 abbrev pub data_calls : More → (rank nue len : ℕ) → (src dst : List ℕ) → List DataCall
-data_calls more rank nue len src dst = map (data_of src dst) (calls_of more rank nue len)
+data_calls more rank nue len src dst = map (data_call_of src dst) (piece_calls more rank nue len)
 
 -- the table of an op at its seat
 abbrev pub table_of : Seat → MoreAt → List PieceCall
-table_of seat op = calls_of op.more seat.rank seat.setup.nue op.len
+table_of seat op = piece_calls op.more seat.rank seat.setup.nue op.len
 
 -- the calls that have ended, with their bytes
 abbrev pub ended_calls : Seat → MoreAt → (src dst : List ℕ) → List DataCall
-ended_calls seat op src dst = map (data_of src dst) (take op.ended (table_of seat op))
+ended_calls seat op src dst = map (data_call_of src dst) (take op.ended (table_of seat op))
 
 -- the own piece stands in dst
 abbrev pub HasOwn : More → (rank len : ℕ) → (src dst : List ℕ) → Type 0

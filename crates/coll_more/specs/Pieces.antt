@@ -26,12 +26,12 @@ pieces_for Alltoall nue len srcs rank = all_of nue (λ k. window (rank * len) le
 -- a rank has made one such call, and nothing else: with src and dst of their lengths, and its own piece copied. Seven
 -- parameters: the call (which one, of how many ranks, of pieces of what length), the rank, the bytes that it gave and those
 -- that it got, and its calls.
-pub record HasMade (more : More) (nue len rank : ℕ) (src dst : List ℕ) (calls : List DataCall) : Type 0 where
+pub record HasMadeCall (more : More) (nue len rank : ℕ) (src dst : List ℕ) (calls : List DataCall) : Type 0 where
   pub calls_are : calls ≡ data_calls more rank nue len src dst
   pub src_is : length src ≡ src_len_of more rank nue len
   pub dst_is : length dst ≡ dst_len_of more rank nue len
   pub own : HasOwn more rank len src dst
 
 -- each rank has made one such call, and holds what its messages brought
-abbrev pub HaveMade : More → (nue len : ℕ) → (srcs dsts : ℕ → List ℕ) → (ℕ → List DataCall) → Type 0
-HaveMade more nue len srcs dsts calls = (rank : ℕ) → rank < nue → HasMade more nue len rank (srcs rank) (dsts rank) (calls rank)
+abbrev pub HaveMadeCall : More → (nue len : ℕ) → (srcs dsts : ℕ → List ℕ) → (ℕ → List DataCall) → Type 0
+HaveMadeCall more nue len srcs dsts calls = (rank : ℕ) → rank < nue → HasMadeCall more nue len rank (srcs rank) (dsts rank) (calls rank)

@@ -9,7 +9,7 @@ use Rattle.send_recv.specs.Calling.{IsBetweenMessages}
 use Rattle.send_recv.specs.Ops.{RecvAt, SendAt, SlotAt, is_received, is_sent}
 use Rattle.send_recv.specs.Receiving.{RecvStands}
 use Rattle.send_recv.specs.Sending.{SendStands, SlotStands}
-use Rattle.coll_more.specs.Ops.{HasOwn, Participant, bytes_of, data_calls, ended_calls, is_copied, is_taking, table_of, window}
+use Rattle.coll_more.specs.Ops.{HasOwn, Participant, bytes_of_piece, data_calls, ended_calls, is_copied, is_taking, table_of, window}
 use Rattle.coll_more.specs.Tables.{dst_len_of, src_len_of}
 use Rattle.coll_more.specs.declared.kinds.More.{More}
 use Rattle.coll_more.specs.declared.kinds.PieceCall.{PieceCall}
@@ -23,7 +23,7 @@ pub record IsFit (more : More) (rank nue len : ℕ) (src dst : List ℕ) : Type 
   pub dst_is : length dst ≡ dst_len_of more rank nue len
 
 -- this is the send of that message, and it is not at its end
-pub record IsSendOf (call : PieceCall) (op : SendAt) : Type 0 where
+pub record IsSendOfPiece (call : PieceCall) (op : SendAt) : Type 0 where
   pub way : is_taking call.way ≡ false
   pub to : op.to ≡ call.peer
   pub head : op.head ≡ plain_head call.len
@@ -31,7 +31,7 @@ pub record IsSendOf (call : PieceCall) (op : SendAt) : Type 0 where
   pub unended : is_sent op.stage ≡ false
 
 -- this is the receive of that message, and it is not at its end
-pub record IsRecvOf (call : PieceCall) (op : RecvAt) : Type 0 where
+pub record IsRecvOfPiece (call : PieceCall) (op : RecvAt) : Type 0 where
   pub way : is_taking call.way ≡ true
   pub from : op.from ≡ call.peer
   pub head : op.head ≡ plain_head call.len
@@ -44,9 +44,9 @@ abbrev pub StandsAt : Sight → Private → SlotAt → List PieceCall → ℕ �
 StandsAt s c slot table ended src dst Own = (ended ≡ 0) × IsBetweenMessages s c slot
 StandsAt s c slot table ended src dst Between = IsBetweenMessages s c slot
 StandsAt s c slot table ended src dst (Sending call op) =
-    (slice_get table ended ≡ Some call) × IsSendOf call op × SendStands s c op slot (bytes_of call src dst)
+    (slice_get table ended ≡ Some call) × IsSendOfPiece call op × SendStands s c op slot (bytes_of_piece call src dst)
 StandsAt s c slot table ended src dst (Receiving call op) =
-    (slice_get table ended ≡ Some call) × IsRecvOf call op × SlotStands s.seat (record_in s) slot
+    (slice_get table ended ≡ Some call) × IsRecvOfPiece call op × SlotStands s.seat (record_in s) slot
     × RecvStands s c op (window call.first call.len dst)
 
 -- a collective call fits the record, the core, the slot and the bytes at its rank; these calls had the record before it

@@ -32,21 +32,21 @@ abbrev pub takes_piece : (len p : ℕ) → List PieceCall
 takes_piece len p = takes p (p * len) len ∷ []
 
 -- what the root does, and the one message of each other rank
-abbrev pub rooted : (rank : ℕ) → List PieceCall → PieceCall → List PieceCall
-rooted zero calls call = calls
-rooted (suc r) calls call = call ∷ []
+abbrev pub rooted_calls : (rank : ℕ) → List PieceCall → PieceCall → List PieceCall
+rooted_calls zero calls call = calls
+rooted_calls (suc r) calls call = call ∷ []
 
 -- gather: the root receives from each other rank in order, which sends its piece
 abbrev pub gather_calls : (rank nue len : ℕ) → List PieceCall
-gather_calls rank nue len = rooted rank (for_each (takes_piece len) 1 (nue - 1)) (gives 0 0 len)
+gather_calls rank nue len = rooted_calls rank (for_each (takes_piece len) 1 (nue - 1)) (gives 0 0 len)
 
 -- scatter: the root sends each other rank its piece in order
 abbrev pub scatter_calls : (rank nue len : ℕ) → List PieceCall
-scatter_calls rank nue len = rooted rank (for_each (gives_piece len) 1 (nue - 1)) (takes 0 0 len)
+scatter_calls rank nue len = rooted_calls rank (for_each (gives_piece len) 1 (nue - 1)) (takes 0 0 len)
 
 -- what comes behind the gather of an allgather: the root sends all its pieces to each other rank in order
 abbrev pub spread_calls : (rank nue len : ℕ) → List PieceCall
-spread_calls rank nue len = rooted rank (for_each (λ p. shares p 0 (nue * len) ∷ []) 1 (nue - 1)) (takes 0 0 (nue * len))
+spread_calls rank nue len = rooted_calls rank (for_each (λ p. shares p 0 (nue * len) ∷ []) 1 (nue - 1)) (takes 0 0 (nue * len))
 
 -- the two messages with rank p, of which the one from p comes first
 abbrev pub takes_then_gives : (len p : ℕ) → List PieceCall
@@ -61,11 +61,11 @@ abbrev pub alltoall_calls : (rank nue len : ℕ) → List PieceCall
 alltoall_calls rank nue len = for_each (takes_then_gives len) 0 rank ++ for_each (gives_then_takes len) (rank + 1) (nue - (rank + 1))
 
 -- the messages of a collective call at a rank, in order
-abbrev pub calls_of : More → (rank nue len : ℕ) → List PieceCall
-calls_of Gather rank nue len = gather_calls rank nue len
-calls_of Scatter rank nue len = scatter_calls rank nue len
-calls_of Allgather rank nue len = gather_calls rank nue len ++ spread_calls rank nue len
-calls_of Alltoall rank nue len = alltoall_calls rank nue len
+abbrev pub piece_calls : More → (rank nue len : ℕ) → List PieceCall
+piece_calls Gather rank nue len = gather_calls rank nue len
+piece_calls Scatter rank nue len = scatter_calls rank nue len
+piece_calls Allgather rank nue len = gather_calls rank nue len ++ spread_calls rank nue len
+piece_calls Alltoall rank nue len = alltoall_calls rank nue len
 
 -- `len` bytes at the root, which is rank 0, and none at the others
 abbrev pub at_root : (rank len : ℕ) → ℕ

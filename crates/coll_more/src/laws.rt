@@ -10,7 +10,7 @@ ghost use Rattle.send_recv.specs.Calling.{IsBetweenMessages};
 ghost use Rattle.send_recv.specs.Ops.{SlotAt};
 ghost use Rattle.sync_flags.specs.Turns.{at_port};
 ghost use Rattle.coll_more.specs.Ops.{MoreAt, new_more, table_of, taking_part};
-ghost use Rattle.coll_more.specs.Pieces.{HaveMade, pieces_for};
+ghost use Rattle.coll_more.specs.Pieces.{HaveMadeCall, pieces_for};
 ghost use Rattle.coll_more.specs.Standing.{IsFit, MoreStands};
 ghost use Rattle.coll_more.specs.Turns.{more_left, piece_bound};
 ghost use Rattle.coll_more.specs.declared.kinds.More.{More};
@@ -34,7 +34,7 @@ pub fn turns_law()
 pub fn pieces_law()
     ensures pieces { (more : More) (nue len : ℕ) (keys : ℕ → ℕ → ℕ) (calls : ℕ → List DataCall) (slots : ℕ → Option Outgoing)
         (srcs dsts : ℕ → List ℕ)
-        → IsLegal nue keys calls slots → HaveMade more nue len srcs dsts calls
+        → IsLegal nue keys calls slots → HaveMadeCall more nue len srcs dsts calls
         → (rank : ℕ) → rank < nue → dsts rank ≡ pieces_for more nue len srcs rank }
 {}
 

@@ -1,7 +1,7 @@
 //! A collective call, one turn at a time.
 
 ghost use Rattle.std.specs.Prelude.{◌≡◌, ◌+◌, ◌≤◌, length};
-ghost use Rattle.coll_more.specs.Ops.{begun_at, bytes_by, bytes_of};
+ghost use Rattle.coll_more.specs.Ops.{begun_at, bytes_by, bytes_of_piece};
 ghost use Rattle.scc_base.specs.Heads.{most_message};
 
 use crate::kinds::{More, PieceCall, Way};
@@ -65,7 +65,7 @@ fn begun(call: PieceCall) -> Stage
 // The bytes of a message that is sent.
 fn bytes_out<'a>(call: &PieceCall, src: &'a [u8], dst: &'a [u8]) -> &'a [u8]
     requires within { call.now.first + call.now.len ≤ length (bytes_by call.now.way src.now dst.now) }
-    ensures gives { result.now ≡ bytes_of call.now src.now dst.now }
+    ensures gives { result.now ≡ bytes_of_piece call.now src.now dst.now }
 {
     match call.way {
         Way::Gives => part_of(src, call.first, call.len as usize),
@@ -84,7 +84,7 @@ impl MoreOp {
     ghost use Rattle.send_recv.specs.declared.answers.RecvTurn.TheVariants as turn;
     ghost use Rattle.coll_more.specs.Ops.{new_more, taking_part};
     ghost use Rattle.coll_more.specs.Standing.{HasEnded, MoreStands, Stands};
-    ghost use Rattle.coll_more.specs.Turns.{MoreTurned, Turns, is_between, is_own, is_receiving, is_sending};
+    ghost use Rattle.coll_more.specs.Turns.{MoreTurned, MoreTurns, is_between, is_copying_own, has_receive_in_hand, has_send_in_hand};
 
     /// A collective call at its start, with pieces of this length.
     pub fn new(more: More, len: u32) -> MoreOp
@@ -100,10 +100,10 @@ impl MoreOp {
 
     // Copies the own piece, where there is one.
     fn copy_own<P: Port>(&mut self, port: &P, src: &[u8], dst: &mut [u8]) -> RecvTurn
-        requires own { IsTrue (is_own self.old.stage) }
+        requires own { IsTrue (is_copying_own self.old.stage) }
         requires stands { (c : Private) × (slot : SlotAt) × Stands (taking_part (P.sight port.now) c self.old slot src.now dst.old) }
         ensures turns { (c : Private) (slot : SlotAt) → Stands (taking_part (P.sight port.now) c self.old slot src.now dst.old)
-            → Turns (taking_part (P.sight port.now) c self.old slot src.now dst.old)
+            → MoreTurns (taking_part (P.sight port.now) c self.old slot src.now dst.old)
             (taking_part (P.sight port.now) c self.new slot src.now dst.new) result }
         ensures moves { result ≡ turn.Moved }
     {
@@ -126,7 +126,7 @@ impl MoreOp {
         requires between { IsTrue (is_between self.old.stage) }
         requires short { self.old.len ≤ 1024 }
         ensures turns { (c : Private) (slot : SlotAt) (src dst : List ℕ) → Stands (taking_part (P.sight port.now) c self.old slot src dst)
-            → Turns (taking_part (P.sight port.now) c self.old slot src dst)
+            → MoreTurns (taking_part (P.sight port.now) c self.old slot src dst)
             (taking_part (P.sight port.now) c self.new slot src dst) result }
         ensures goes { recv_waits result ≡ None }
     {
@@ -155,9 +155,9 @@ impl MoreOp {
         src: &[u8],
         dst: &[u8],
     ) -> RecvTurn
-        requires sending { IsTrue (is_sending self.old.stage) }
+        requires sending { IsTrue (has_send_in_hand self.old.stage) }
         requires stands { Stands (taking_part (P.sight port.old) core.old self.old slot.old src.now dst.now) }
-        ensures turns { Turns (taking_part (P.sight port.old) core.old self.old slot.old src.now dst.now)
+        ensures turns { MoreTurns (taking_part (P.sight port.old) core.old self.old slot.old src.now dst.now)
             (taking_part (P.sight port.new) core.new self.new slot.new src.now dst.now) result }
         ensures steps { (spot : Spot) → recv_waits result ≡ Some spot → MadeSteps P.stepped (P.sight port.old) (P.sight port.new) }
     {
@@ -185,10 +185,10 @@ impl MoreOp {
         port: &mut P,
         dst: &mut [u8],
     ) -> RecvTurn
-        requires receiving { IsTrue (is_receiving self.old.stage) }
+        requires receiving { IsTrue (has_receive_in_hand self.old.stage) }
         requires stands { (slot : SlotAt) × (src : List ℕ) × Stands (taking_part (P.sight port.old) core.old self.old slot src dst.old) }
         ensures turns { (slot : SlotAt) (src : List ℕ) → Stands (taking_part (P.sight port.old) core.old self.old slot src dst.old)
-            → Turns (taking_part (P.sight port.old) core.old self.old slot src dst.old)
+            → MoreTurns (taking_part (P.sight port.old) core.old self.old slot src dst.old)
             (taking_part (P.sight port.new) core.new self.new slot src dst.new) result }
         ensures steps { (spot : Spot) → recv_waits result ≡ Some spot → MadeSteps P.stepped (P.sight port.old) (P.sight port.new) }
     {

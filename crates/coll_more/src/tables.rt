@@ -1,7 +1,7 @@
 //! The table of the messages that a collective call is made of.
 
 ghost use Rattle.std.specs.Prelude.{◌≡◌, ◌≤◌, ◌<◌, ◌*◌, ◌%◌, ◌==◌, ℕ, if◌then◌else◌, [], ◌∷◌, length, slice_get};
-ghost use Rattle.coll_more.specs.Tables.{alltoall_calls, calls_of, dst_len_of, gather_calls, has_own, scatter_calls, spread_calls, src_len_of};
+ghost use Rattle.coll_more.specs.Tables.{alltoall_calls, piece_calls, dst_len_of, gather_calls, has_own, scatter_calls, spread_calls, src_len_of};
 
 use crate::kinds::{More, PieceCall, Way};
 use scc_base::Rank;
@@ -161,7 +161,7 @@ pub fn call_at(more: More, rank: Rank, nue: u8, len: u32, at: u8) -> Option<Piec
     requires below { rank < nue }
     requires few { nue ≤ 48 }
     requires short { len ≤ 1024 }
-    ensures gives { result ≡ slice_get (calls_of more rank nue len) at }
+    ensures gives { result ≡ slice_get (piece_calls more rank nue len) at }
 {
     match more {
         More::Gather => gather_at(rank, nue, len, at),

@@ -4,12 +4,12 @@ use Rattle.scc_base.specs.Setups.{SetupView}
 use Rattle.scc_mesh.specs.Scenes.{ChipView, IsNew, about_in}
 use Rattle.coll_more.specs.Ops.{data_calls}
 use Rattle.coll_more.specs.Pieces.{pieces_for}
-use Rattle.coll_run.specs.Teams.{AreFresh, TeamHasEnded, IsFreshTeam, MemberView, srcs_of}
+use Rattle.coll_run.specs.Teams.{AreFreshMembers, TeamHasEnded, IsFreshTeam, MemberView, srcs_of}
 use Rattle.outcomes.specs.Coming.{IsMeant}
 use Rattle.outcomes.specs.Complaints.{complaint_outcome}
 use Rattle.outcomes.specs.Outcomes.{Outcome, no_memory, run_outcome, words_refused}
 use Rattle.outcomes.specs.declared.complaint.Complaint.{Complaint}
-use Rattle.coll_program.specs.History.{CollChipTells, HasRun}
+use Rattle.coll_program.specs.History.{CollChipTells, HasRunCollective}
 use Rattle.coll_program.specs.Jobs.{got_by, coll_setup_of, src_of}
 use Rattle.coll_program.specs.Program.{coll_job_of, no_files, coll_words_plan}
 use Rattle.coll_program.specs.Pieces.{dst_at}
@@ -28,7 +28,7 @@ fresh_team job chip team new is =
       whole = new.whole;
       empty = λ r low. new.empty r;
       each = is.each ∙ sym nue;
-      fresh = subst (λ (n : ℕ). AreFresh job.more job.len n team) (sym nue) is.fresh;
+      fresh = subst (λ (n : ℕ). AreFreshMembers job.more job.len n team) (sym nue) is.fresh;
     }
 
 -- the first of a team
@@ -62,7 +62,7 @@ module _ (job : Job) (chip now : ChipView) (team later : List MemberView) (some 
   pub report_is : lines_by job.more job.nue (dst_at later) ≡ lines_by job.more job.nue (got_by job)
   report_is = lines_same job.more job.nue (dst_at later) (got_by job) some got
 
-  pub has_run : HasRun job now
+  pub has_run : HasRunCollective job now
   has_run = record {
     setup = ended.about ∙ new.about;
     whole = ended.whole;

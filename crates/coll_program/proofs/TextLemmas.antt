@@ -1,7 +1,7 @@
 -- The lines of ranks that have got the same are the same.
 use Rattle.std.proofs.Common.{◌≡◌, ℕ, zero, suc, ◌+◌, ◌*◌, ◌<◌, ◌≤◌, List, [], ◌∷◌, ◌++◌, map, flat_map, Some, slice_get, slice_index_or, length, refl, ap, arith}
 use Rattle.std.specs.List.{range_with_len}
-use Rattle.rcce_io.specs.Sending.{joined}
+use Rattle.rcce_io.specs.Sending.{joined_texts}
 use Rattle.coll_more.specs.Ops.{window}
 use Rattle.coll_more.specs.Pieces.{all_of, pieces_for, root_has}
 use Rattle.coll_more.specs.declared.kinds.More.{More}
@@ -11,7 +11,7 @@ use Rattle.coll_program.specs.Pieces.{dst_at, dst_of}
 use Rattle.coll_program.specs.Texts.{got_line, lines_by, shown_of}
 
 module _ (more : More) (f g : ℕ → List ℕ) where
-  lines_from : (a n : ℕ) → ((k : ℕ) → a ≤ k → k < a + n → f k ≡ g k) → joined (map (λ rank. got_line more rank (f rank)) (range_with_len a n)) ≡ joined (map (λ rank. got_line more rank (g rank)) (range_with_len a n))
+  lines_from : (a n : ℕ) → ((k : ℕ) → a ≤ k → k < a + n → f k ≡ g k) → joined_texts (map (λ rank. got_line more rank (f rank)) (range_with_len a n)) ≡ joined_texts (map (λ rank. got_line more rank (g rank)) (range_with_len a n))
   lines_from a zero same = refl
   lines_from a (suc n) same = λ i. got_line more a (same a (omega arith) (omega arith) i) ++ lines_from (a + 1) n (λ k low less. same k (omega (arith, low)) (omega (arith, less))) i
 

@@ -13,7 +13,7 @@ use Rattle.coll_program.specs.declared.command.Job.{Job}
 
 -- The chip history of a run: all ranks are at home on a chip of the run's setup. The finished calls of each rank are exactly
 -- those of its table, in order and with their bytes; no call is open, and no message is in draft.
-pub record HasRun (job : Job) (chip : ChipView) : Type 0 where
+pub record HasRunCollective (job : Job) (chip : ChipView) : Type 0 where
   pub setup : about_in chip ≡ coll_setup_of job.nue
   pub whole : IsWhole chip
   pub calls : (rank : ℕ) → rank < job.nue
@@ -24,4 +24,5 @@ pub record HasRun (job : Job) (chip : ChipView) : Type 0 where
 -- What is on the chip where a call came to this outcome: nothing where nothing has run, else the history of the job that the
 -- words ask for.
 abbrev pub CollChipTells : List (List ℕ) → ChipView → Outcome → Type 0
-CollChipTells words chip o = ByTest (is_quiet o.status) (chip ≡ None) ((job : Job) × (coll_job_of words ≡ Some job) × HasRun job chip)
+CollChipTells words chip o =
+    ByTest (is_quiet o.status) (chip ≡ None) ((job : Job) × (coll_job_of words ≡ Some job) × HasRunCollective job chip)

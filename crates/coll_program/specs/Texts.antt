@@ -2,7 +2,7 @@
 use Rattle.std.specs.Prelude.{ℕ, List, [], ◌∷◌, ◌++◌, codes, decimal, map}
 use Rattle.std.specs.List.{range_with_len}
 use Rattle.rcce_io.specs.Digits.{hex_text}
-use Rattle.rcce_io.specs.Sending.{joined}
+use Rattle.rcce_io.specs.Sending.{joined_texts}
 use Rattle.coll_more.specs.declared.kinds.More.{More}
 use Rattle.coll_more.specs.declared.kinds.More.TheVariants.{Gather, Scatter, Allgather, Alltoall}
 use Rattle.coll_program.specs.Jobs.{got_by}
@@ -17,7 +17,7 @@ more_word Alltoall = codes "alltoall"
 
 -- the front of a line: the rank and the call
 abbrev pub line_front : More → (rank : ℕ) → List ℕ
-line_front more rank = joined (codes "ue " ∷ decimal rank ∷ codes " " ∷ more_word more ∷ codes " " ∷ [])
+line_front more rank = joined_texts (codes "ue " ∷ decimal rank ∷ codes " " ∷ more_word more ∷ codes " " ∷ [])
 
 -- the line of a rank that has got these bytes
 abbrev pub got_line : More → (rank : ℕ) → List ℕ → List ℕ
@@ -30,7 +30,7 @@ shown_of more nue = nue
 
 -- the lines of the ranks that have one, where each has got these bytes
 abbrev pub lines_by : More → (nue : ℕ) → (ℕ → List ℕ) → List ℕ
-lines_by more nue got = joined (map (λ rank. got_line more rank (got rank)) (range_with_len 0 (shown_of more nue)))
+lines_by more nue got = joined_texts (map (λ rank. got_line more rank (got rank)) (range_with_len 0 (shown_of more nue)))
 
 -- the lines of a job
 abbrev pub job_text : Job → List ℕ

@@ -3,7 +3,7 @@
 ghost use Rattle.std.specs.Prelude.{◌≡◌, ◌≤◌, map, string_bytes, None};
 ghost use Rattle.outcomes.specs.Delivery.{sinks};
 ghost use Rattle.outcomes.specs.Promises.{EndsWith, Promises};
-ghost use Rattle.coll_program.specs.History.{CollChipTells, HasRun};
+ghost use Rattle.coll_program.specs.History.{CollChipTells, HasRunCollective};
 ghost use Rattle.coll_program.specs.Jobs.{coll_setup_of};
 ghost use Rattle.coll_program.specs.Program.{job_ran, no_files, rccecoll};
 ghost use Rattle.coll_program.specs.Reports.{coll_report_ran};
@@ -81,7 +81,7 @@ fn run_team(job: &Job, mut team: Vec<Member<Never>>, chip: &mut Chip) -> Report
     requires new { IsNew (coll_setup_of job.now.nue) chip.old }
     requires team { IsTeamOf job.now team.items }
     ensures ran { coll_report_ran result ≡ job_ran job.now }
-    ensures has_run { HasRun job.now chip.new }
+    ensures has_run { HasRunCollective job.now chip.new }
 {
     run(chip, team.as_mut_slice());
     Report { job: *job, team }

@@ -7,7 +7,7 @@ use Rattle.scc_base.specs.Runs.{Runs}
 use Rattle.scc_proto.specs.Legality.{CallStep, IsUsedUp, Makes, Meeting, Outgoing, OwnStep, Pairing, Posting, Standing, Taking, call_at, callers}
 use Rattle.scc_proto.specs.Messages.{Message, received_messages, sent_messages}
 use Rattle.scc_proto.proofs.Tests.{both_second, eqb_other, eqb_same, same_or_other}
-use Rattle.coll_more.specs.Ops.{data_by, data_of, is_taking}
+use Rattle.coll_more.specs.Ops.{data_by, data_call_of, is_taking}
 use Rattle.coll_more.specs.declared.kinds.PieceCall.{PieceCall}
 use Rattle.coll_more.specs.declared.kinds.Way.{Way}
 use Rattle.coll_more.specs.declared.kinds.Way.TheVariants.{Gives, Shares, Takes}
@@ -32,9 +32,9 @@ plain_by Gives peer len bytes = refl
 plain_by Shares peer len bytes = refl
 plain_by Takes peer len bytes = refl
 
-pub plain_made : (src dst : List ℕ) (xs : List PieceCall) → list_all is_plain (map (data_of src dst) xs) ≡ true
+pub plain_made : (src dst : List ℕ) (xs : List PieceCall) → list_all is_plain (map (data_call_of src dst) xs) ≡ true
 plain_made src dst [] = refl
-plain_made src dst (x ∷ xs) = and_true (is_plain (data_of src dst x)) (list_all is_plain (map (data_of src dst) xs)) (plain_by x.way x.peer x.len _) (plain_made src dst xs)
+plain_made src dst (x ∷ xs) = and_true (is_plain (data_call_of src dst x)) (list_all is_plain (map (data_call_of src dst) xs)) (plain_by x.way x.peer x.len _) (plain_made src dst xs)
 
 module _ (nue : ℕ) (keys : ℕ → ℕ → ℕ) where
   plain_left : (step : CallStep) (s t : Standing) → Makes nue keys step s t → (k : ℕ) → list_all is_plain (s.calls k) ≡ true → list_all is_plain (t.calls k) ≡ true
@@ -73,20 +73,20 @@ module _ (F : ℕ → List DataCall → List Message) (want : Bool) (src dst : L
   either_way false true same other = other refl
   either_way false false same other = same refl
 
-  none_behind : (p : ℕ) (x : PieceCall) (rest : List DataCall) → F p (data_of src dst x ∷ rest) ≡ [] → F p rest ≡ []
+  none_behind : (p : ℕ) (x : PieceCall) (rest : List DataCall) → F p (data_call_of src dst x ∷ rest) ≡ [] → F p rest ≡ []
   none_behind p x rest none = either_way (is_taking x.way) want
       (λ is. same_or_other (F p rest ≡ []) x.peer p
-      (λ t same. absurd (counts x.way x.peer x.len _ rest is (subst (λ (q : ℕ). F q (data_of src dst x ∷ rest) ≡ []) (sym same) none)))
+      (λ t same. absurd (counts x.way x.peer x.len _ rest is (subst (λ (q : ℕ). F q (data_call_of src dst x ∷ rest) ≡ []) (sym same) none)))
       (λ t apart. sym (others x.way p x.peer x.len _ rest apart) ∙ none))
       (λ is. sym (skips x.way p x.peer x.len _ rest is) ∙ none)
 
   -- a message of the table is one of the list
-  counted : (xs : List PieceCall) (j : ℕ) (c : PieceCall) → slice_get xs j ≡ Some c → is_taking c.way ≡ want → F c.peer (map (data_of src dst) xs) ≡ [] → ⊥
+  counted : (xs : List PieceCall) (j : ℕ) (c : PieceCall) → slice_get xs j ≡ Some c → is_taking c.way ≡ want → F c.peer (map (data_call_of src dst) xs) ≡ [] → ⊥
   counted [] j c at is none = cc
   counted (x ∷ xs) zero c at is none =
-      subst (λ (y : PieceCall). is_taking y.way ≡ want → F y.peer (data_of src dst x ∷ map (data_of src dst) xs) ≡ [] → ⊥) (some_same x c at)
-      (λ here empty. counts x.way x.peer x.len _ (map (data_of src dst) xs) here empty) is none
-  counted (x ∷ xs) (suc j) c at is none = counted xs j c at is (none_behind c.peer x (map (data_of src dst) xs) none)
+      subst (λ (y : PieceCall). is_taking y.way ≡ want → F y.peer (data_call_of src dst x ∷ map (data_call_of src dst) xs) ≡ [] → ⊥) (some_same x c at)
+      (λ here empty. counts x.way x.peer x.len _ (map (data_call_of src dst) xs) here empty) is none
+  counted (x ∷ xs) (suc j) c at is none = counted xs j c at is (none_behind c.peer x (map (data_call_of src dst) xs) none)
 
   -- a message of the list is one of the table
   abbrev Found : ℕ → List PieceCall → Type 0
@@ -95,13 +95,13 @@ module _ (F : ℕ → List DataCall → List Message) (want : Bool) (src dst : L
   next_found : (p : ℕ) (x : PieceCall) (xs : List PieceCall) → Found p xs → Found p (x ∷ xs)
   next_found p x xs (i, c, at, is, same) = (suc i, c, at, is, same)
 
-  found : (p : ℕ) (xs : List PieceCall) → (F p (map (data_of src dst) xs) ≡ [] → ⊥) → Found p xs
+  found : (p : ℕ) (xs : List PieceCall) → (F p (map (data_call_of src dst) xs) ≡ [] → ⊥) → Found p xs
   found p [] some = absurd (some (nothing p))
   found p (x ∷ xs) some = either_way (is_taking x.way) want
       (λ is. same_or_other (Found p (x ∷ xs)) x.peer p
       (λ t same. (0, x, refl, is, same))
-      (λ t apart. next_found p x xs (found p xs (λ none. some (others x.way p x.peer x.len _ (map (data_of src dst) xs) apart ∙ none)))))
-      (λ is. next_found p x xs (found p xs (λ none. some (skips x.way p x.peer x.len _ (map (data_of src dst) xs) is ∙ none))))
+      (λ t apart. next_found p x xs (found p xs (λ none. some (others x.way p x.peer x.len _ (map (data_call_of src dst) xs) apart ∙ none)))))
+      (λ is. next_found p x xs (found p xs (λ none. some (skips x.way p x.peer x.len _ (map (data_call_of src dst) xs) is ∙ none))))
 
 -- of receives
 got_skips : (w : Way) (p peer len : ℕ) (bytes : List ℕ) (rest : List DataCall) → is_taking w ≡ not true → received_messages p (data_by w peer len bytes ∷ rest) ≡ received_messages p rest
@@ -151,16 +151,16 @@ sent_counts Takes peer len bytes rest is none = absurd (cc)
 abbrev pub StandsThere : Bool → ℕ → List PieceCall → Type 0
 StandsThere want p xs = (i : ℕ) × (c : PieceCall) × (slice_get xs i ≡ Some c) × (is_taking c.way ≡ want) × (c.peer ≡ p)
 
-pub got_some : (src dst : List ℕ) (xs : List PieceCall) (j : ℕ) (c : PieceCall) → slice_get xs j ≡ Some c → is_taking c.way ≡ true → received_messages c.peer (map (data_of src dst) xs) ≡ [] → ⊥
+pub got_some : (src dst : List ℕ) (xs : List PieceCall) (j : ℕ) (c : PieceCall) → slice_get xs j ≡ Some c → is_taking c.way ≡ true → received_messages c.peer (map (data_call_of src dst) xs) ≡ [] → ⊥
 got_some src dst xs j c at is none = counted received_messages true src dst (λ p. refl) got_skips got_others got_counts xs j c at is none
 
-pub some_got : (src dst : List ℕ) (p : ℕ) (xs : List PieceCall) → (received_messages p (map (data_of src dst) xs) ≡ [] → ⊥) → StandsThere true p xs
+pub some_got : (src dst : List ℕ) (p : ℕ) (xs : List PieceCall) → (received_messages p (map (data_call_of src dst) xs) ≡ [] → ⊥) → StandsThere true p xs
 some_got src dst p xs some = found received_messages true src dst (λ q. refl) got_skips got_others got_counts p xs some
 
-pub sent_some : (src dst : List ℕ) (xs : List PieceCall) (j : ℕ) (c : PieceCall) → slice_get xs j ≡ Some c → is_taking c.way ≡ false → sent_messages c.peer (map (data_of src dst) xs) ≡ [] → ⊥
+pub sent_some : (src dst : List ℕ) (xs : List PieceCall) (j : ℕ) (c : PieceCall) → slice_get xs j ≡ Some c → is_taking c.way ≡ false → sent_messages c.peer (map (data_call_of src dst) xs) ≡ [] → ⊥
 sent_some src dst xs j c at is none = counted sent_messages false src dst (λ p. refl) sent_skips sent_others sent_counts xs j c at is none
 
-pub some_sent : (src dst : List ℕ) (p : ℕ) (xs : List PieceCall) → (sent_messages p (map (data_of src dst) xs) ≡ [] → ⊥) → StandsThere false p xs
+pub some_sent : (src dst : List ℕ) (p : ℕ) (xs : List PieceCall) → (sent_messages p (map (data_call_of src dst) xs) ≡ [] → ⊥) → StandsThere false p xs
 some_sent src dst p xs some = found sent_messages false src dst (λ q. refl) sent_skips sent_others sent_counts p xs some
 
 -- ---- places in the first elements of a list

@@ -9,7 +9,7 @@ use Rattle.scc_proto.specs.Ports.{Seat, Sight, record_in}
 use Rattle.scc_proto.specs.Stages.{FlagWords, Idle}
 use Rattle.scc_proto.proofs.PortLaws.{did_nothing}
 use Rattle.put_get.specs.Cores.{MadeSteps}
-use Rattle.send_recv.specs.Receiving.{IsAtStage, recv_waits}
+use Rattle.send_recv.specs.Receiving.{IsAtRecvStage, recv_waits}
 use Rattle.send_recv.specs.declared.answers.RecvTurn.{RecvTurn}
 use Rattle.send_recv.specs.declared.answers.RecvTurn.TheVariants as turn
 use Rattle.send_recv.specs.declared.stages.RecvStage.{RecvStage}
@@ -17,7 +17,7 @@ use Rattle.chip_run.specs.Turns.{Turned}
 use Rattle.chip_run.specs.Wants.{Want}
 use Rattle.coll_more.specs.Ops.{MoreAt, table_of, taking_part, window}
 use Rattle.coll_more.specs.Standing.{MoreStands, StandsAt}
-use Rattle.coll_more.specs.Turns.{MetOther, MoreTurned, is_over}
+use Rattle.coll_more.specs.Turns.{MetOther, MoreTurned, is_more_over}
 use Rattle.coll_more.specs.declared.kinds.PieceCall.{PieceCall}
 use Rattle.coll_more.specs.declared.ops.Stage.{Stage}
 use Rattle.coll_more.specs.declared.ops.Stage.TheVariants.{Own, Between, Sending, Receiving}
@@ -54,7 +54,7 @@ met_idle s m table ended sent Own at met = absurd met
 met_idle s m table ended sent Between at met = absurd met
 met_idle s m table ended sent (Sending call op) at met = absurd met
 met_idle s m table ended sent (Receiving call op) at met =
-    (subst (λ (x : RecvStage). IsAtStage s.seat (record_in s) m.core op (window call.first call.len m.dst) x) met.0 at.3.at).1
+    (subst (λ (x : RecvStage). IsAtRecvStage s.seat (record_in s) m.core op (window call.first call.len m.dst) x) met.0 at.3.at).1
 
 pub met_rests : (stepped : Seat → List Event → Event → Type 0) (m : MemberView) (s : Sight) → IsTied m s.seat.setup s.seat.rank s.events → m.met ≡ true → Turned member_conduct (stepped s.seat) m s m s worker_turn.Done
 unfolding record_in
@@ -68,7 +68,7 @@ met_rests stepped m s ties is_met =
         seen = refl;
         nothing = refl;
         over = record {
-          ends = λ i. if is_met i || is_over (seat_of s.seat.setup s.seat.rank) m.op then Want.Nothing else want_at m.op.stage;
+          ends = λ i. if is_met i || is_more_over (seat_of s.seat.setup s.seat.rank) m.op then Want.Nothing else want_at m.op.stage;
           idle = met_idle s m (table_of s.seat m.op) m.op.ended sent m.op.stage (at_port_of m s ties).at met;
         };
       };

@@ -4,7 +4,7 @@ use Rattle.std.proofs.lemmas.Bool.{cases_lt}
 use Rattle.scc_base.specs.Setups.{SetupView, setup_key}
 use Rattle.scc_base.specs.declared.events.Event.{Event}
 use Rattle.scc_proto.specs.Agreement.{Agrees}
-use Rattle.scc_proto.specs.Passed.{open_call, open_of, passed_calls, slot_of}
+use Rattle.scc_proto.specs.Passed.{open_call, call_in_stage, passed_calls, slot_of}
 use Rattle.scc_proto.specs.Ports.{record_in}
 use Rattle.scc_proto.specs.Records.{chunk_of, record_of}
 use Rattle.scc_proto.specs.Stages.{Idle}
@@ -21,9 +21,9 @@ use Rattle.chip_run.specs.Wants.{Want}
 use Rattle.chip_run.proofs.LaterLaws.{later_keeps}
 use Rattle.chip_run.proofs.WaitsLike.{waits_like}
 use Rattle.coll_more.specs.Ops.{HasOwn, MoreAt, data_calls, taking_part}
-use Rattle.coll_more.specs.Pieces.{HasMade, pieces_for}
+use Rattle.coll_more.specs.Pieces.{HasMadeCall, pieces_for}
 use Rattle.coll_more.specs.Standing.{HasEnded, IsFit, MoreStands}
-use Rattle.coll_more.specs.Turns.{is_over}
+use Rattle.coll_more.specs.Turns.{is_more_over}
 use Rattle.coll_more.specs.declared.kinds.More.{More}
 use Rattle.coll_more.specs.declared.ops.Stage.{Stage}
 use Rattle.coll_more.specs.declared.ops.Stage.TheVariants.{Own, Between, Sending, Receiving}
@@ -134,8 +134,8 @@ module _ (more : More) (len : ℕ) (chip now : ChipView) (team later : List Memb
   over_by : (k : ℕ) → (b : Bool) → (member k).met ≡ b → member_want s k (member k) ≡ Want.Nothing → (b ≡ true → Rests s memory (records_in now k) k (member k).op) → Rests s memory (records_in now k) k (member k).op
   over_by k true is_met ends met = met refl
   over_by k false not_met ends met =
-      AtEnd (wants_none (is_over (seat_of s k) (member k).op) (member k).op.stage
-      (subst (λ (b : Bool). (if b || is_over (seat_of s k) (member k).op then Want.Nothing else want_at (member k).op.stage) ≡ Want.Nothing) not_met ends))
+      AtEnd (wants_none (is_more_over (seat_of s k) (member k).op) (member k).op.stage
+      (subst (λ (b : Bool). (if b || is_more_over (seat_of s k) (member k).op then Want.Nothing else want_at (member k).op.stage) ≡ Want.Nothing) not_met ends))
 
   met_by : (k : ℕ) → k < s.nue → (member k).met ≡ true → Rests s memory (records_in now k) k (member k).op
   met_by k low is_met = let (sent, met) = (is.ties k d (within k low)).met is_met in Met sent met
@@ -150,7 +150,7 @@ module _ (more : More) (len : ℕ) (chip now : ChipView) (team later : List Memb
   rests_by k low true at = over_by k (member k).met refl at.over.ends (λ is_met. met_by k low is_met)
   rests_by k low false (inl at) = met_by k low at.stopped
   rests_by k low false (inr waits) =
-      Looks (waits_by k ((member k).met || is_over (seat_of s k) (member k).op)
+      Looks (waits_by k ((member k).met || is_more_over (seat_of s k) (member k).op)
       (waits_like s waits.memory memory waits.records (records_in now) waits.agrees agrees waits.alike k low (member_want s k (member k)) waits.waits))
 
   rested : HaveRested more len s memory (events_in now) member
@@ -173,7 +173,7 @@ module _ (more : More) (len : ℕ) (chip now : ChipView) (team later : List Memb
       let st = stands_at k low in
       (ended k low).calls ∙ (λ i. data_calls (st.more_is i) k s.nue (st.len_is i) (member k).src (member k).dst)
 
-  made : (k : ℕ) → k < s.nue → HasMade more s.nue len k (member k).src (member k).dst (passed_calls s (records_in now) k)
+  made : (k : ℕ) → k < s.nue → HasMadeCall more s.nue len k (member k).src (member k).dst (passed_calls s (records_in now) k)
   made k low =
       let st = stands_at k low in
       let fits : IsFit more k s.nue len (member k).src (member k).dst = subst (λ (m : More). IsFit m k s.nue len (member k).src (member k).dst) st.more_is
@@ -193,7 +193,7 @@ module _ (more : More) (len : ℕ) (chip now : ChipView) (team later : List Memb
 
   none_open : (k : ℕ) → k < s.nue → open_call s (records_in now k) ≡ None
   unfolding record_in
-  none_open k low = ap (open_of (chunk_of s)) (ended k low).no_call.between.stage
+  none_open k low = ap (call_in_stage (chunk_of s)) (ended k low).no_call.between.stage
 
   idle : (k : ℕ) → k < s.nue → (records_in now k).stage ≡ Idle
   unfolding record_in

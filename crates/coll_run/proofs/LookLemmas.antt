@@ -14,9 +14,9 @@ use Rattle.chip_run.specs.Wants.{Want}
 use Rattle.waiting_laws.specs.Looks.{LookedInVain, SeatWaits}
 use Rattle.waiting_laws.proofs.Messages.{receives_here, sends_here}
 use Rattle.waiting_laws.proofs.Waited.{turn_waited}
-use Rattle.coll_more.specs.Ops.{MoreAt, bytes_of, table_of, window, taking_part}
+use Rattle.coll_more.specs.Ops.{MoreAt, bytes_of_piece, table_of, window, taking_part}
 use Rattle.coll_more.specs.Standing.{MoreStands, StandsAt}
-use Rattle.coll_more.specs.Turns.{IsStill, MoreTurned, aim_by, is_over_by, left_by, more_left}
+use Rattle.coll_more.specs.Turns.{IsParticipantStill, MoreTurned, stage_aim, is_over_by, left_at_stage, more_left}
 use Rattle.coll_more.specs.declared.kinds.PieceCall.{PieceCall}
 use Rattle.coll_more.specs.declared.ops.Stage.{Stage}
 use Rattle.coll_more.specs.declared.ops.Stage.TheVariants.{Own, Between, Sending, Receiving}
@@ -32,7 +32,7 @@ none_more xs (e ∷ es) is = absurd (let long : length xs ≡ length (xs ++ e �
 -- ---- what a turn keeps
 
 -- the numbers of a seat are those of its setup and rank
-left_same : (x : Seat) (op : MoreAt) (slot : SlotAt) (st : Stage) → left_by x op slot st ≡ left_by (seat_of x.setup x.rank) op slot st
+left_same : (x : Seat) (op : MoreAt) (slot : SlotAt) (st : Stage) → left_at_stage x op slot st ≡ left_at_stage (seat_of x.setup x.rank) op slot st
 left_same x op slot Own = refl
 left_same x op slot Between = refl
 left_same x op slot (Sending call send) = refl
@@ -40,7 +40,7 @@ left_same x op slot (Receiving call receive) = refl
 
 module _ (s t : Sight) (old new : MemberView) where
   abbrev Still : Type 0
-  Still = IsStill (taking_part s old.core old.op old.slot old.src old.dst) (taking_part t new.core new.op new.slot old.src new.dst)
+  Still = IsParticipantStill (taking_part s old.core old.op old.slot old.src old.dst) (taking_part t new.core new.op new.slot old.src new.dst)
 
   stays_still : Still → new.src ≡ old.src → Stays old new
   stays_still still src = record { op = still.same_op; slot = still.same_slot; src = src }
@@ -57,17 +57,17 @@ module _ (stepped : List Event → Event → Type 0) (s t : Sight) (old new : Me
   module _ (spot : Spot) (stands : MoreStands [] (taking_part s old.core old.op old.slot old.src old.dst))
       (turned : MoreTurned (taking_part s old.core old.op old.slot old.src old.dst) (taking_part t new.core new.op new.slot old.src new.dst) (turn.Waiting spot)) (steps : WereSteps stepped s.events turned.events) where
     module _ (memory : Memory) (records : ℕ → Record) (aim : Aim) (look : LookedInVain s.seat memory records (record_in s) aim) where
-      waits_by : (st : Stage) → StandsAt s old.core old.slot (table_of s.seat old.op) old.op.ended old.src old.dst st → aim_by s.seat old.slot st ≡ Some aim → SeatWaits s.seat memory records (want_at st)
+      waits_by : (st : Stage) → StandsAt s old.core old.slot (table_of s.seat old.op) old.op.ended old.src old.dst st → stage_aim s.seat old.slot st ≡ Some aim → SeatWaits s.seat memory records (want_at st)
       waits_by Own st is = absurd (cc (is))
       waits_by Between st is = absurd (cc (is))
-      waits_by (Sending call op) st is = sends_here s.seat memory records (record_in s) aim look old.core op old.slot (bytes_of call old.src old.dst) st.2 is
+      waits_by (Sending call op) st is = sends_here s.seat memory records (record_in s) aim look old.core op old.slot (bytes_of_piece call old.src old.dst) st.2 is
       waits_by (Receiving call op) st is = receives_here s.seat memory records (record_in s) aim look old.core op (window call.first call.len old.dst) st.3 is
 
     -- so it waits for what it wants
     pub has_waited : old.met ≡ false → new.met ≡ old.met → new.src ≡ old.src → HasWaited member_conduct stepped s.seat.setup s.seat.rank s.events turned.events old new
     has_waited running met src =
         let still = turned.means in
-        turn_waited stepped (aim_by s.seat old.slot old.op.stage) s t turned.events spot turned.did steps turned.tried (turned.rests spot refl) still.0.rest member_conduct old new (want_at old.op.stage)
+        turn_waited stepped (stage_aim s.seat old.slot old.op.stage) s t turned.events spot turned.did steps turned.tried (turned.rests spot refl) still.0.rest member_conduct old new (want_at old.op.stage)
         (λ i. if sym running i || sym still.1 i then Want.Nothing else want_at old.op.stage) (stays_still s t old new still.0 src) (seen_still s t old new still.0 met)
         (λ memory records aim look is. waits_by memory records aim look old.op.stage stands.at is)
 

@@ -3,7 +3,7 @@ use Rattle.std.proofs.Common.{◌≡◌, ◌⊎◌, inl, inr, ⊎_elim, ℕ, zer
 use Rattle.std.proofs.lemmas.Bool.{cases_lt}
 use Rattle.std.proofs.lemmas.Bool.Decides.{nat_tests}
 use Rattle.coll_more.specs.Ops.{is_taking}
-use Rattle.coll_more.specs.Tables.{alltoall_calls, calls_of, for_each, gather_calls, gives, gives_piece, gives_then_takes, rooted, scatter_calls, shares, spread_calls, takes, takes_piece, takes_then_gives}
+use Rattle.coll_more.specs.Tables.{alltoall_calls, piece_calls, for_each, gather_calls, gives, gives_piece, gives_then_takes, rooted_calls, scatter_calls, shares, spread_calls, takes, takes_piece, takes_then_gives}
 use Rattle.coll_more.specs.declared.kinds.More.{More}
 use Rattle.coll_more.specs.declared.kinds.More.TheVariants.{Gather, Scatter, Allgather, Alltoall}
 use Rattle.coll_more.specs.declared.kinds.PieceCall.{PieceCall}
@@ -119,7 +119,7 @@ module _ (nue len : ℕ) where
       (omega (arith, one), (omega (arith, one, two), omega (arith, two)))))))
 
 -- at each rank the numbers of its messages rise
-pub rises : (more : More) (nue len rank i j : ℕ) (one other : PieceCall) → rank < nue → i < j → slice_get (calls_of more rank nue len) i ≡ Some one → slice_get (calls_of more rank nue len) j ≡ Some other
+pub rises : (more : More) (nue len rank i j : ℕ) (one other : PieceCall) → rank < nue → i < j → slice_get (piece_calls more rank nue len) i ≡ Some one → slice_get (piece_calls more rank nue len) j ≡ Some other
     → number_at more nue rank one < number_at more nue rank other
 rises Gather nue len rank i j one other low less first second = apart (number_at Gather nue rank) 0 (2 * nue + 1) i j (gather_calls rank nue len) one other (gather_rises nue len Gather rank low) less first second
 rises Scatter nue len rank i j one other low less first second = apart (number_at Scatter nue rank) 0 (2 * nue) i j (scatter_calls rank nue len) one other (scatter_rises nue len rank low) less first second
@@ -153,7 +153,7 @@ module _ (nue len : ℕ) where
   module _ (root : ℕ → PieceCall) (up_call : PieceCall) (far : (p : ℕ) → (root p).peer ≡ p) (near : up_call.peer ≡ 0) (other_way : (p : ℕ) → is_taking up_call.way ≡ not (is_taking (root p).way))
       (back : (p : ℕ) → is_taking (root p).way ≡ not (is_taking up_call.way)) (long : (p : ℕ) → up_call.len ≡ (root p).len) where
     abbrev table : ℕ → List PieceCall
-    table rank = rooted rank (for_each (λ p. root p ∷ []) 1 (nue - 1)) up_call
+    table rank = rooted_calls rank (for_each (λ p. root p ∷ []) 1 (nue - 1)) up_call
 
     -- of the root's messages with each other rank, and that rank's one with the root
     root_mirrored : (rank i : ℕ) (one : PieceCall) → rank < nue → slice_get (table rank) i ≡ Some one → Mirrored table rank one
@@ -187,7 +187,7 @@ module _ (nue len : ℕ) where
   spread_mirrored : (rank i : ℕ) (one : PieceCall) → rank < nue → slice_get (spread_calls rank nue len) i ≡ Some one → Mirrored (λ r. spread_calls r nue len) rank one
   spread_mirrored rank i one low at = root_mirrored (λ p. shares p 0 (nue * len)) (takes 0 0 (nue * len)) (λ p. refl) refl (λ p. refl) (λ p. refl) (λ p. refl) rank i one low at
 
-  allgather_mirrored : (rank i : ℕ) (one : PieceCall) → rank < nue → slice_get (calls_of Allgather rank nue len) i ≡ Some one → Mirrored (λ r. calls_of Allgather r nue len) rank one
+  allgather_mirrored : (rank i : ℕ) (one : PieceCall) → rank < nue → slice_get (piece_calls Allgather rank nue len) i ≡ Some one → Mirrored (λ r. piece_calls Allgather r nue len) rank one
   allgather_mirrored rank i one low at =
       ⊎_elim
       (λ (front : slice_get (gather_calls rank nue len) i ≡ Some one).
@@ -241,8 +241,8 @@ module _ (nue len : ℕ) where
       (cases_lt (i / 2 + 1) nue))
       (cases_lt (i / 2) rank)
 
-pub mirrored : (more : More) (nue len rank i : ℕ) (one : PieceCall) → rank < nue → slice_get (calls_of more rank nue len) i ≡ Some one
-    → (j : ℕ) × (other : PieceCall) × (slice_get (calls_of more one.peer nue len) j ≡ Some other) × IsOtherSide rank one other
+pub mirrored : (more : More) (nue len rank i : ℕ) (one : PieceCall) → rank < nue → slice_get (piece_calls more rank nue len) i ≡ Some one
+    → (j : ℕ) × (other : PieceCall) × (slice_get (piece_calls more one.peer nue len) j ≡ Some other) × IsOtherSide rank one other
 mirrored Gather nue len rank i one low at = gather_mirrored nue len rank i one low at
 mirrored Scatter nue len rank i one low at = scatter_mirrored nue len rank i one low at
 mirrored Allgather nue len rank i one low at = allgather_mirrored nue len rank i one low at

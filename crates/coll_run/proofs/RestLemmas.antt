@@ -10,7 +10,7 @@ use Rattle.scc_base.specs.declared.events.Event.{Event}
 use Rattle.scc_proto.specs.Legality.{no_slots, slot_message}
 use Rattle.scc_proto.specs.Messages.{Notes, Progress, StandsIn, head_of, has_all, received_messages, sent_messages, with_chunk}
 use Rattle.scc_proto.specs.Pairs.{NotesStand, Offering, pair_of, sending_side}
-use Rattle.scc_proto.specs.Passed.{is_received, passed_calls, passed_open, slot_of}
+use Rattle.scc_proto.specs.Passed.{is_received_ahead, passed_calls, passed_open, slot_of}
 use Rattle.scc_proto.specs.Ports.{record_in}
 use Rattle.scc_proto.specs.Records.{chunk_of}
 use Rattle.scc_proto.specs.Stages as stage
@@ -33,10 +33,10 @@ use Rattle.send_recv.specs.declared.stages.RecvStage.{RecvStage}
 use Rattle.send_recv.specs.declared.stages.RecvStage.TheVariants as receive
 use Rattle.chip_run.specs.Waiting.{RaiseWaits, SlotWaits, TakeWaits, Waits}
 use Rattle.chip_run.proofs.Offers.{as_many, no_take, post_in_slot, raise_out}
-use Rattle.coll_more.specs.Ops.{data_of, is_taking, table_of}
+use Rattle.coll_more.specs.Ops.{data_call_of, is_taking, table_of}
 use Rattle.coll_more.specs.Standing.{StandsAt}
-use Rattle.coll_more.specs.Tables.{calls_of}
-use Rattle.coll_more.specs.Turns.{MetOther, is_over, is_over_by}
+use Rattle.coll_more.specs.Tables.{piece_calls}
+use Rattle.coll_more.specs.Turns.{MetOther, is_more_over, is_over_by}
 use Rattle.coll_more.specs.declared.kinds.More.{More}
 use Rattle.coll_more.specs.declared.kinds.PieceCall.{PieceCall}
 use Rattle.coll_more.specs.declared.kinds.Way.{Way}
@@ -99,17 +99,17 @@ module _ (more : More) (len : ℕ) (s : SetupView) (memory : Memory) (lists : �
   view = view_of s memory
 
   abbrev table : ℕ → List PieceCall
-  table k = calls_of more k s.nue len
+  table k = piece_calls more k s.nue len
 
   abbrev done : ℕ → ℕ
   done k = (members k).op.ended
 
   table_is : (k : ℕ) → k < s.nue → table_of (seat_of s k) (members k).op ≡ table k
-  table_is k low = let st = h.stands k low in λ i. calls_of (st.more_is i) k s.nue (st.len_is i)
+  table_is k low = let st = h.stands k low in λ i. piece_calls (st.more_is i) k s.nue (st.len_is i)
 
-  calls_are : (k : ℕ) → k < s.nue → (recs k).calls ≡ map (data_of (members k).src (members k).dst) (take (done k) (table k))
+  calls_are : (k : ℕ) → k < s.nue → (recs k).calls ≡ map (data_call_of (members k).src (members k).dst) (take (done k) (table k))
   unfolding record_in
-  calls_are k low = (h.stands k low).stands.calls ∙ ap (λ (xs : List PieceCall). map (data_of (members k).src (members k).dst) (take (done k) xs)) (table_is k low)
+  calls_are k low = (h.stands k low).stands.calls ∙ ap (λ (xs : List PieceCall). map (data_call_of (members k).src (members k).dst) (take (done k) xs)) (table_is k low)
 
   -- where a rank stands, with the record as the chip has it
   abbrev At : ℕ → Stage → Type 0
@@ -128,7 +128,7 @@ module _ (more : More) (len : ℕ) (s : SetupView) (memory : Memory) (lists : �
   between_open k true from m = refl
   between_open k false from m = refl
 
-  receiving_open : (k : ℕ) (rec : Record) (c : Private) (op : RecvAt) (bytes : List ℕ) (st : RecvStage) → recv.IsAtStage (seat_of s k) rec c op bytes st → passed_open s k rec.stage recs ≡ []
+  receiving_open : (k : ℕ) (rec : Record) (c : Private) (op : RecvAt) (bytes : List ℕ) (st : RecvStage) → recv.IsAtRecvStage (seat_of s k) rec c op bytes st → passed_open s k rec.stage recs ≡ []
   receiving_open k rec c op bytes receive.Look is = ap (λ (x : stage.Stage). passed_open s k x recs) is ∙ between_open k (op.chunk == 0) op.from (progress_at (chunk_of s) op.head op.chunk bytes)
   receiving_open k rec c op bytes receive.Header is = idle_open k rec is.1
   receiving_open k rec c op bytes receive.Lower is = ap (λ (x : stage.Stage). passed_open s k x recs) is.0 ∙ between_open k (op.chunk == 0) op.from (progress_at (chunk_of s) op.head op.chunk bytes)
@@ -139,7 +139,7 @@ module _ (more : More) (len : ℕ) (s : SetupView) (memory : Memory) (lists : �
   raised_open : (k to : ℕ) (head : MessageHead) → RaiseWaits s view k to head (recs k) → passed_open s k (recs k).stage recs ≡ []
   raised_open k to head raise =
       let even = as_many (chunk_of s) (pair_of k to view (recs k) (recs to)) raise.message raise.chunk (raise_out s memory recs h.agrees k to head raise) in
-      let not_yet : is_received k to recs ≡ false =
+      let not_yet : is_received_ahead k to recs ≡ false =
       eqb_other (length (received_messages k (recs to).calls)) (suc (length (sent_messages to (recs k).calls))) (λ is. absurd (omega (arith, even, is))) in
       ap (λ (st : stage.Stage). passed_open s k st recs) raise.stage
       ∙ ap (λ (b : Bool). if b then DataCall.Send to raise.message.head (with_chunk (chunk_of s) raise.message raise.chunk).bytes ∷ [] else []) not_yet
@@ -148,7 +148,7 @@ module _ (more : More) (len : ℕ) (s : SetupView) (memory : Memory) (lists : �
   sending_waits : (k : ℕ) (call : PieceCall) (op : SendAt) → (members k).op.stage ≡ Sending call op → Rests s memory (recs k) k (members k).op
       → SlotWaits view k (recs k) ⊎ RaiseWaits s view k op.to op.head (recs k)
   sending_waits k call op is (AtEnd over) =
-      absurd (let goes : is_over (seat_of s k) (members k).op ≡ false = ap (is_over_by (table_of (seat_of s k) (members k).op) (done k)) is in cc (goes, over))
+      absurd (let goes : is_more_over (seat_of s k) (members k).op ≡ false = ap (is_over_by (table_of (seat_of s k) (members k).op) (done k)) is in cc (goes, over))
   sending_waits k call op is (Looks vain) = subst (λ (st : Stage). Waits s view k (recs k) (want_at st)) is vain
   sending_waits k call op is (Met sent met) = absurd (subst (λ (st : Stage). MetOther (recs k) sent st) is met)
 
@@ -156,7 +156,7 @@ module _ (more : More) (len : ℕ) (s : SetupView) (memory : Memory) (lists : �
   receiving_waits : (k : ℕ) (call : PieceCall) (op : RecvAt) → (members k).op.stage ≡ Receiving call op → Rests s memory (recs k) k (members k).op
       → TakeWaits s view k op.from (recs k) ⊎ HasMet (recs k) call.peer call.len
   receiving_waits k call op is (AtEnd over) =
-      absurd (let goes : is_over (seat_of s k) (members k).op ≡ false = ap (is_over_by (table_of (seat_of s k) (members k).op) (done k)) is in cc (goes, over))
+      absurd (let goes : is_more_over (seat_of s k) (members k).op ≡ false = ap (is_over_by (table_of (seat_of s k) (members k).op) (done k)) is in cc (goes, over))
   receiving_waits k call op is (Looks vain) = inl (subst (λ (st : Stage). Waits s view k (recs k) (want_at st)) is vain)
   receiving_waits k call op is (Met sent met) =
       let (at_head, other, header, noted, says) = subst (λ (st : Stage). MetOther (recs k) sent st) is met in
@@ -232,7 +232,7 @@ module _ (more : More) (len : ℕ) (s : SetupView) (memory : Memory) (lists : �
       here = ap (λ (xs : List PieceCall). slice_get xs (done k)) (table_is k low) ∙ next
 
       own_rests : (members k).op.stage ≡ Own → Rests s memory (recs k) k (members k).op → ⊥
-      own_rests is (AtEnd over) = let goes : is_over (seat_of s k) (members k).op ≡ false = ap (is_over_by (table_of (seat_of s k) (members k).op) (done k)) is in cc (goes, over)
+      own_rests is (AtEnd over) = let goes : is_more_over (seat_of s k) (members k).op ≡ false = ap (is_over_by (table_of (seat_of s k) (members k).op) (done k)) is in cc (goes, over)
       own_rests is (Looks vain) = subst (λ (st : Stage). Waits s view k (recs k) (want_at st)) is vain
       own_rests is (Met sent met) = subst (λ (st : Stage). MetOther (recs k) sent st) is met
 
@@ -315,14 +315,14 @@ module _ (more : More) (len : ℕ) (s : SetupView) (memory : Memory) (lists : �
       let gives : is_taking other.way ≡ false = side.way ∙ ap not takes in
       let (i, d, at, way, peer) = some_got (members k).src (members k).dst c.peer (take (done k) (table k))
       (λ none. sent_some (members c.peer).src (members c.peer).dst (take (done c.peer) (table c.peer)) j other (at_taken (done c.peer) (table c.peer) j other less there) gives
-      (ap (λ (r : ℕ). sent_messages r (map (data_of (members c.peer).src (members c.peer).dst) (take (done c.peer) (table c.peer)))) side.peer
+      (ap (λ (r : ℕ). sent_messages r (map (data_call_of (members c.peer).src (members c.peer).dst) (take (done c.peer) (table c.peer)))) side.peer
       ∙ ap (sent_messages k) (sym (calls_are c.peer below)) ∙ level c.peer k below low ∙ ap (received_messages c.peer) (calls_are k low) ∙ none)) in
       not_done k i c d low next at (way ∙ sym takes) peer)
       (λ gives.
       let takes : is_taking other.way ≡ true = side.way ∙ ap not gives in
       let (i, d, at, way, peer) = some_sent (members k).src (members k).dst c.peer (take (done k) (table k))
       (λ none. got_some (members c.peer).src (members c.peer).dst (take (done c.peer) (table c.peer)) j other (at_taken (done c.peer) (table c.peer) j other less there) takes
-      (ap (λ (r : ℕ). received_messages r (map (data_of (members c.peer).src (members c.peer).dst) (take (done c.peer) (table c.peer)))) side.peer
+      (ap (λ (r : ℕ). received_messages r (map (data_call_of (members c.peer).src (members c.peer).dst) (take (done c.peer) (table c.peer)))) side.peer
       ∙ ap (received_messages k) (sym (calls_are c.peer below)) ∙ sym (level k c.peer low below) ∙ ap (sent_messages c.peer) (calls_are k low) ∙ none)) in
       not_done k i c d low next at (way ∙ sym gives) peer)
 
@@ -358,7 +358,7 @@ module _ (more : More) (len : ℕ) (s : SetupView) (memory : Memory) (lists : �
   none_left_at : (k : ℕ) (c : PieceCall) → k < s.nue → slice_get (table k) (done k) ≡ Some c → ⊥
   none_left_at k c low next = none_below (suc (number_at more s.nue k c)) (number_at more s.nue k c) (omega arith) k c low next refl
 
-  pub all_over : (k : ℕ) → k < s.nue → is_over (seat_of s k) (members k).op ≡ true
+  pub all_over : (k : ℕ) → k < s.nue → is_more_over (seat_of s k) (members k).op ≡ true
   all_over k low = by (h.rests k low)
     where
       next : (call : PieceCall) → slice_get (table_of (seat_of s k) (members k).op) (done k) ≡ Some call → ⊥
@@ -376,7 +376,7 @@ module _ (more : More) (len : ℕ) (s : SetupView) (memory : Memory) (lists : �
       by_met (Sending call op) sent at met = met
       by_met (Receiving call op) sent at met = next call at.0
 
-      by : Rests s memory (recs k) k (members k).op → is_over (seat_of s k) (members k).op ≡ true
+      by : Rests s memory (recs k) k (members k).op → is_more_over (seat_of s k) (members k).op ≡ true
       by (AtEnd over) = over
       by (Looks vain) = absurd (by_stage (members k).op.stage refl (h.stands k low).stands.at vain)
       by (Met sent met) = absurd (by_met (members k).op.stage sent (h.stands k low).stands.at met)

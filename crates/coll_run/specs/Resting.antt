@@ -11,7 +11,7 @@ use Rattle.scc_mesh.specs.Keeping.{records_by}
 use Rattle.chip_run.specs.Waiting.{Waits}
 use Rattle.chip_run.specs.Wants.{Want}
 use Rattle.coll_more.specs.Ops.{MoreAt}
-use Rattle.coll_more.specs.Turns.{MetOther, is_over}
+use Rattle.coll_more.specs.Turns.{MetOther, is_more_over}
 use Rattle.coll_more.specs.declared.kinds.More.{More}
 use Rattle.coll_more.specs.declared.ops.Stage.{Stage}
 use Rattle.coll_more.specs.declared.ops.Stage.TheVariants.{Own, Between, Sending, Receiving}
@@ -26,7 +26,7 @@ want_at (Receiving call op) = Want.Recv op.from
 
 -- a rank rests: its call is at its end; or the look that it waits at is vain; or it has met another head
 pub data Rests (s : SetupView) (memory : Memory) (rec : Record) (rank : ℕ) (op : MoreAt) : Type 0 where
-  AtEnd : is_over (seat_of s rank) op ≡ true → Rests s memory rec rank op
+  AtEnd : is_more_over (seat_of s rank) op ≡ true → Rests s memory rec rank op
   Looks : Waits s (view_of s memory) rank rec (want_at op.stage) → Rests s memory rec rank op
   Met : (sent : MessageHead) → MetOther rec sent op.stage → Rests s memory rec rank op
 

@@ -48,13 +48,13 @@ pub record MemberStands (more : More) (len : ℕ) (m : MemberView) (s : SetupVie
   pub hands : (core : ℕ) → (record_of s rank events).held core ≡ None
 
 -- ranks before their first turn, from rank 0 on, with src and dst of their lengths
-pub record AreFresh (more : More) (len nue : ℕ) (team : List MemberView) : Type 0 where
+pub record AreFreshMembers (more : More) (len nue : ℕ) (team : List MemberView) : Type 0 where
   pub fresh : (k : ℕ) (d : MemberView) → k < length team → IsFreshMember more len (slice_index_or team k d)
   pub fits : (k : ℕ) (d : MemberView) → k < length team → IsFit more k nue len (slice_index_or team k d).src (slice_index_or team k d).dst
 
 -- one rank more, which hands in these bytes
 pub record HasJoined (more : More) (len nue : ℕ) (team : List MemberView) (src : List ℕ) (later : List MemberView) : Type 0 where
-  pub fresh : AreFresh more len nue later
+  pub fresh : AreFreshMembers more len nue later
   pub joined : MemberView
   pub is : later ≡ team ++ joined ∷ []
   pub src_is : joined.src ≡ src
@@ -68,7 +68,7 @@ pub record IsFreshTeam (more : More) (len : ℕ) (chip : ChipView) (team : List 
   pub whole : IsWhole chip
   pub empty : (r : ℕ) → r < (about_in chip).nue → events_in chip r ≡ []
   pub each : length team ≡ (about_in chip).nue
-  pub fresh : AreFresh more len (about_in chip).nue team
+  pub fresh : AreFreshMembers more len (about_in chip).nue team
 
 -- A run is over: it is the same chip, all its ranks are at home, and each has got its pieces of what the ranks handed in. Its
 -- finished calls are exactly those of its table, in order and with their bytes; no call is open, and no message is in draft.

@@ -13,13 +13,13 @@ use Rattle.chip_run.specs.Conducts.{Conduct, WorkerView}
 use Rattle.chip_run.specs.Wants.{Want}
 use Rattle.coll_more.specs.Ops.{taking_part}
 use Rattle.coll_more.specs.Standing.{MoreStands}
-use Rattle.coll_more.specs.Turns.{MetOther, MoreTurned, is_over, more_left}
+use Rattle.coll_more.specs.Turns.{MetOther, MoreTurned, is_more_over, more_left}
 use Rattle.coll_run.specs.Resting.{want_at}
 use Rattle.coll_run.specs.Teams.{MemberStands, MemberView, seat_of}
 
 -- what a rank wants: nothing where its call is at its end, or where it has met another head
 abbrev pub member_want : SetupView → ℕ → MemberView → Want
-member_want s rank m = if m.met || is_over (seat_of s rank) m.op then Want.Nothing else want_at m.op.stage
+member_want s rank m = if m.met || is_more_over (seat_of s rank) m.op then Want.Nothing else want_at m.op.stage
 
 -- how many turns that do not wait a rank has left at most; meeting another head is the last
 abbrev pub member_left : SetupView → ℕ → MemberView → ℕ
@@ -35,7 +35,7 @@ pub record IsTied (m : MemberView) (s : SetupView) (rank : ℕ) (events : List E
   pub met : m.met ≡ true → (sent : MessageHead) × MetOther (record_of s rank events) sent m.op.stage
 
 -- a turn that moved: it is the same call, with the same bytes to hand in
-pub record Moves (old new : MemberView) : Type 0 where
+pub record KeepsCall (old new : MemberView) : Type 0 where
   pub more : new.op.more ≡ old.op.more
   pub len : new.op.len ≡ old.op.len
   pub src : new.src ≡ old.src
@@ -58,4 +58,4 @@ pub record HasGoneOn (stepped : Seat → List Event → Event → Type 0) (old :
 
 -- how the ranks of a collective call conduct themselves in a run
 abbrev pub member_conduct : Conduct MemberView
-member_conduct = record { seen = member_seen; tied = IsTied; moves = Moves; stays = Stays }
+member_conduct = record { seen = member_seen; tied = IsTied; moves = KeepsCall; stays = Stays }

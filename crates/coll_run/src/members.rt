@@ -2,7 +2,7 @@
 
 ghost use Rattle.std.specs.Prelude.{◌≡◌, ◌≤◌, ◌<◌, IfOk, length};
 ghost use Rattle.coll_more.specs.Tables.{src_len_of};
-ghost use Rattle.coll_run.specs.Teams.{AreFresh, HasJoined};
+ghost use Rattle.coll_run.specs.Teams.{AreFreshMembers, HasJoined};
 
 use coll_more::{More, MoreOp, dst_len};
 use line_cache::Evict;
@@ -80,7 +80,7 @@ pub fn join<V: Evict + Drop>(
     requires few { nue ≤ 48 }
     requires short { len ≤ 1024 }
     requires room { length team.old.items < nue }
-    requires fresh { AreFresh more len nue team.old.items }
+    requires fresh { AreFreshMembers more len nue team.old.items }
     requires src { length src.items ≡ src_len_of more (length team.old.items) nue len }
     ensures joined { IfOk result (λ done. HasJoined more len nue team.old.items src.items team.new.items) }
 {

@@ -3,7 +3,7 @@ use Rattle.std.proofs.Common.{◌≡◌, refl, sym, ◌∙◌, ap, ℕ, zero, su
 use Rattle.std.specs.List.{flat_map, range_with_len}
 use Rattle.std.proofs.lemmas.List.{take_at, drop_at, append-nil, at_drop_all, drop-drop}
 use Rattle.std.proofs.Math.Nat.{div-mul-le_self, mod-eq-sub-div-mul}
-use Rattle.groups.specs.Folds.{bytes_in, bytes_of, combine, Fits, fold_first, fold_of, fold_values, typed_value_at, value_of}
+use Rattle.groups.specs.Folds.{bytes_in, bytes_of_value, combine, CanFold, fold_first, fold_of, fold_values, typed_value_at, value_of}
 use Rattle.groups.specs.declared.operations.Op.{Op}
 use Rattle.groups.specs.declared.operations.Ty.{Ty}
 use Rattle.groups.specs.declared.operations.Ty.TheVariants.{Int, Long}
@@ -16,13 +16,13 @@ flat_more f a (suc n) j e =
     ap (λ (l : List ℕ). f a ++ l) rest ∙ sym (append_assoc (f a) (flat_map f (range_with_len (a + 1) n)) (f j))
 
 -- a value has its type's bytes
-pub bytes_length : (ty : Ty) (v : ℤ) → length (bytes_of ty v) ≡ bytes_in ty
+pub bytes_length : (ty : Ty) (v : ℤ) → length (bytes_of_value ty v) ≡ bytes_in ty
 bytes_length Int v = refl
 bytes_length Long v = refl
 
 -- the bytes of the first values, and of one more
 abbrev one : Op → Ty → List ℕ → List ℕ → ℕ → List ℕ
-one op ty acc more i = bytes_of ty (combine op ty (typed_value_at ty acc i) (typed_value_at ty more i))
+one op ty acc more i = bytes_of_value ty (combine op ty (typed_value_at ty acc i) (typed_value_at ty more i))
 
 pub first_more : (op : Op) (ty : Ty) (n : ℕ) (acc more : List ℕ) → fold_first op ty (suc n) acc more ≡ fold_first op ty n acc more ++ one op ty acc more n
 first_more op ty n acc more = flat_more (one op ty acc more) 0 n n (sym (zero-add n))
@@ -38,7 +38,7 @@ first_length op ty (suc n) acc more =
 -- one more value is put in its place, and what stands behind it stays
 pub put_value : (op : Op) (ty : Ty) (acc more cur part : List ℕ) (n m a k : ℕ) → m ≡ suc n → a ≡ n * bytes_in ty → k ≡ bytes_in ty
     → cur ≡ fold_first op ty n acc more ++ drop (n * bytes_in ty) acc
-    → part ≡ bytes_of ty (combine op ty (value_of ty (take k (drop a cur))) (value_of ty (take k (drop a more))))
+    → part ≡ bytes_of_value ty (combine op ty (value_of ty (take k (drop a cur))) (value_of ty (take k (drop a more))))
     → take a cur ++ (part ++ drop k (drop a cur)) ≡ fold_first op ty m acc more ++ drop (m * bytes_in ty) acc
 put_value op ty acc more cur part n m a k next at long same value =
     let first = fold_first op ty n acc more in
@@ -61,7 +61,7 @@ all_values op ty acc more cur n w wide count whole same =
     ∙ ap (λ (k : ℕ). fold_first op ty k acc more) (count ∙ ap (λ (v : ℕ). length acc / v) wide)
 
 -- a fold is as long as what it is folded into
-pub fold_length : (op : Op) (ty : Ty) (acc more : List ℕ) → Fits ty acc more → length (fold_values op ty acc more) ≡ length acc
+pub fold_length : (op : Op) (ty : Ty) (acc more : List ℕ) → CanFold ty acc more → length (fold_values op ty acc more) ≡ length acc
 fold_length op ty acc more fits =
     let low = div-mul-le_self (length acc) (bytes_in ty) in
     let left = mod-eq-sub-div-mul (length acc) (bytes_in ty) in

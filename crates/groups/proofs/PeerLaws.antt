@@ -8,7 +8,7 @@ use Rattle.scc_base.specs.Heads.{IsHead, MessageHead}
 use Rattle.scc_base.specs.Setups.{SetupView, members_of, place_of, setup_key, size_of}
 use Rattle.scc_base.specs.declared.kinds.Kind.TheVariants as kind
 use Rattle.scc_base.proofs.GroupFacts.{member_at_place, members_length, place_below, place_found}
-use Rattle.groups.specs.Collectives.{HasRoot, IsCallable, comm_of, fold_each, head_of, len_of, other_steps, others_of, root_place, root_steps, send_each, steps_of}
+use Rattle.groups.specs.Collectives.{HasRoot, IsCallable, comm_of, fold_each, head_of_kind, len_of, other_steps, others_of, root_place, root_steps, send_each, steps_of}
 use Rattle.groups.specs.Peers.{IsPeer, IsWithPeer}
 use Rattle.groups.specs.declared.collectives.Coll.{Coll}
 use Rattle.groups.specs.declared.collectives.Coll.TheVariants.{Bcast, Reduce, Allreduce}
@@ -84,14 +84,14 @@ module _ (s : SetupView) (r : ℕ) where
   head_by k comm len low apart below short = record { kind_below = low; comm_below = below; len_within = short; plain_in_world = λ none. absurd (apart none) }
 
   root_with : (c : Coll) (xs : List ℕ) → comm_of c < 16 → len_of c ≤ 65536 → ArePeers xs → AreWithPeers (root_steps c xs)
-  root_with (Bcast comm root len) xs below short all = with_sends (head_of kind.Bcast comm len) xs (head_by 1 comm len (omega arith) (λ e. omega (arith, e)) below short) all
+  root_with (Bcast comm root len) xs below short all = with_sends (head_of_kind kind.Bcast comm len) xs (head_by 1 comm len (omega arith) (λ e. omega (arith, e)) below short) all
   root_with (Reduce comm root len) xs below short all =
-      (tt, with_both (fold_each (head_of kind.Reduce comm len) xs) (Finish ∷ []) (with_folds (head_of kind.Reduce comm len) xs (head_by 2 comm len (omega arith) (λ e. omega (arith, e)) below short) all) (tt, tt))
+      (tt, with_both (fold_each (head_of_kind kind.Reduce comm len) xs) (Finish ∷ []) (with_folds (head_of_kind kind.Reduce comm len) xs (head_by 2 comm len (omega arith) (λ e. omega (arith, e)) below short) all) (tt, tt))
   root_with (Allreduce comm len) xs below short all =
-      with_both (Begin ∷ fold_each (head_of kind.AllUp comm len) xs ++ send_each (head_of kind.AllDown comm len) xs) (Finish ∷ [])
-      (with_both (Begin ∷ fold_each (head_of kind.AllUp comm len) xs) (send_each (head_of kind.AllDown comm len) xs)
-      (tt, with_folds (head_of kind.AllUp comm len) xs (head_by 3 comm len (omega arith) (λ e. omega (arith, e)) below short) all)
-      (with_sends (head_of kind.AllDown comm len) xs (head_by 4 comm len (omega arith) (λ e. omega (arith, e)) below short) all))
+      with_both (Begin ∷ fold_each (head_of_kind kind.AllUp comm len) xs ++ send_each (head_of_kind kind.AllDown comm len) xs) (Finish ∷ [])
+      (with_both (Begin ∷ fold_each (head_of_kind kind.AllUp comm len) xs) (send_each (head_of_kind kind.AllDown comm len) xs)
+      (tt, with_folds (head_of_kind kind.AllUp comm len) xs (head_by 3 comm len (omega arith) (λ e. omega (arith, e)) below short) all)
+      (with_sends (head_of_kind kind.AllDown comm len) xs (head_by 4 comm len (omega arith) (λ e. omega (arith, e)) below short) all))
       (tt, tt)
 
   other_with : (c : Coll) (root : ℕ) → comm_of c < 16 → len_of c ≤ 65536 → IsPeer s.nue r root → AreWithPeers (other_steps c root)

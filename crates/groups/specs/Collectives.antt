@@ -46,8 +46,8 @@ pub record IsCallable (s : SetupView) (r : ℕ) (c : Coll) : Type 0 where
   pub root_below : HasRoot s r c
 
 -- the head of a message of the call
-abbrev pub head_of : Kind → ℕ → ℕ → MessageHead
-head_of kind comm len = record { kind = kind_number kind; comm = comm; len = len }
+abbrev pub head_of_kind : Kind → ℕ → ℕ → MessageHead
+head_of_kind kind comm len = record { kind = kind_number kind; comm = comm; len = len }
 
 -- the others: the members of the group of rank r in rank order, without the one at a place
 abbrev pub others_of : SetupView → ℕ → ℕ → ℕ → List ℕ
@@ -64,17 +64,17 @@ fold_each head (from ∷ others) = Recv from head ∷ Fold ∷ fold_each head ot
 
 -- the steps of the root, by the others in order
 abbrev pub root_steps : Coll → List ℕ → List Step
-root_steps (Bcast comm root len) others = send_each (head_of kind.Bcast comm len) others
-root_steps (Reduce comm root len) others = Begin ∷ fold_each (head_of kind.Reduce comm len) others ++ Finish ∷ []
+root_steps (Bcast comm root len) others = send_each (head_of_kind kind.Bcast comm len) others
+root_steps (Reduce comm root len) others = Begin ∷ fold_each (head_of_kind kind.Reduce comm len) others ++ Finish ∷ []
 root_steps (Allreduce comm len) others =
-    Begin ∷ fold_each (head_of kind.AllUp comm len) others ++ send_each (head_of kind.AllDown comm len) others ++ Finish ∷ []
+    Begin ∷ fold_each (head_of_kind kind.AllUp comm len) others ++ send_each (head_of_kind kind.AllDown comm len) others ++ Finish ∷ []
 
 -- the steps of each of the others, by the root's rank
 abbrev pub other_steps : Coll → ℕ → List Step
-other_steps (Bcast comm place len) root = Recv root (head_of kind.Bcast comm len) ∷ Accept ∷ []
-other_steps (Reduce comm place len) root = Send root (head_of kind.Reduce comm len) ∷ []
+other_steps (Bcast comm place len) root = Recv root (head_of_kind kind.Bcast comm len) ∷ Accept ∷ []
+other_steps (Reduce comm place len) root = Send root (head_of_kind kind.Reduce comm len) ∷ []
 other_steps (Allreduce comm len) root =
-    Send root (head_of kind.AllUp comm len) ∷ Recv root (head_of kind.AllDown comm len) ∷ Accept ∷ []
+    Send root (head_of_kind kind.AllUp comm len) ∷ Recv root (head_of_kind kind.AllDown comm len) ∷ Accept ∷ []
 
 -- the steps of rank r
 abbrev pub steps_of : SetupView → ℕ → Coll → List Step

@@ -23,8 +23,8 @@ abbrev pub value_of : Ty → List ℕ → ℤ
 value_of ty bytes = cast_signed (width_of ty) (from_le_bytes (width_of ty) bytes)
 
 -- a value of a type as its bytes, the lowest first
-abbrev pub bytes_of : Ty → ℤ → List ℕ
-bytes_of ty value = to_le_bytes (width_of ty) (cast_unsigned (width_of ty) value)
+abbrev pub bytes_of_value : Ty → ℤ → List ℕ
+bytes_of_value ty value = to_le_bytes (width_of ty) (cast_unsigned (width_of ty) value)
 
 -- a op b: sum and product modulo the type's range, least and greatest of the signed values
 abbrev pub combine : Op → Ty → ℤ → ℤ → ℤ
@@ -40,7 +40,7 @@ typed_value_at ty bytes i = value_of ty (take (bytes_in ty) (drop (i * bytes_in 
 -- the bytes of the first n values of two lists, combined one by one
 abbrev pub fold_first : Op → Ty → ℕ → List ℕ → List ℕ → List ℕ
 fold_first op ty n acc more =
-    flat_map (λ i. bytes_of ty (combine op ty (typed_value_at ty acc i) (typed_value_at ty more i))) (range_with_len 0 n)
+    flat_map (λ i. bytes_of_value ty (combine op ty (typed_value_at ty acc i) (typed_value_at ty more i))) (range_with_len 0 n)
 
 -- acc op more, value by value
 abbrev pub fold_values : Op → Ty → List ℕ → List ℕ → List ℕ
@@ -52,6 +52,6 @@ fold_of op ty first [] = first
 fold_of op ty first (more ∷ rest) = fold_of op ty (fold_values op ty first more) rest
 
 -- two lists of bytes can be folded: they are equally long, and whole values
-pub record Fits (ty : Ty) (acc more : List ℕ) : Type 0 where
+pub record CanFold (ty : Ty) (acc more : List ℕ) : Type 0 where
   pub same : length acc ≡ length more
   pub whole : length acc % bytes_in ty ≡ 0

@@ -6,7 +6,7 @@ ghost use Rattle.scc_base.specs.Communicators.{rule_of};
 ghost use Rattle.scc_base.specs.declared.communicators.CommRule.TheVariants.{Absent};
 ghost use Rattle.scc_base.specs.declared.kinds.Kind.TheVariants.{Plain};
 ghost use Rattle.groups.specs.declared.collectives.Coll.TheVariants.{Bcast, Reduce, Allreduce};
-ghost use Rattle.groups.specs.Collectives.{IsCallable, comm_of, fold_each, head_of, len_of, other_steps, others_of, root_place, root_steps, steps_of};
+ghost use Rattle.groups.specs.Collectives.{IsCallable, comm_of, fold_each, head_of_kind, len_of, other_steps, others_of, root_place, root_steps, steps_of};
 ghost use Rattle.scc_base.specs.Heads.{most_message};
 
 use crate::collectives::{Coll, Step};
@@ -17,7 +17,7 @@ fn coll_head(kind: Kind, comm: u8, len: u32) -> Head
     requires collective { kind ≢ Plain }
     requires comm_below { comm < 16 }
     requires len_within { len ≤ most_message }
-    ensures gives { result ≡ head_of kind comm len }
+    ensures gives { result ≡ head_of_kind kind comm len }
 {
     Head::new(kind, comm, len).unwrap()
 }

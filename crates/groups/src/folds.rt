@@ -1,7 +1,7 @@
 //! Folding one list of values into another.
 
 ghost use Rattle.std.specs.Prelude.{◌≡◌, ◌↔◌, length, IsOk, IfErr, OnOk, OnErr};
-ghost use Rattle.groups.specs.Folds.{Fits, bytes_in, bytes_of, combine, fold_values, value_of};
+ghost use Rattle.groups.specs.Folds.{CanFold, bytes_in, bytes_of_value, combine, fold_values, value_of};
 ghost use Rattle.groups.specs.declared.operations.Ty.TheVariants.{Int, Long};
 
 use crate::operations::{Op, Ty};
@@ -57,7 +57,7 @@ fn long_of(bytes: &[u8]) -> i64
 fn fold_value(op: Op, ty: Ty, acc: &mut [u8], more: &[u8])
     requires acc_width { length acc.old ≡ bytes_in ty }
     requires more_width { length more.now ≡ bytes_in ty }
-    ensures folds { acc.new ≡ bytes_of ty (combine op ty (value_of ty acc.old) (value_of ty more.now)) }
+    ensures folds { acc.new ≡ bytes_of_value ty (combine op ty (value_of ty acc.old) (value_of ty more.now)) }
 {
     match ty {
         Ty::Int => {
@@ -73,7 +73,7 @@ fn fold_value(op: Op, ty: Ty, acc: &mut [u8], more: &[u8])
 
 /// Puts `acc op more` into `acc`, value by value.
 pub fn fold_into(op: Op, ty: Ty, acc: &mut [u8], more: &[u8]) -> Result<(), Shape>
-    ensures fits { IsOk result ↔ Fits ty acc.old more.now }
+    ensures fits { IsOk result ↔ CanFold ty acc.old more.now }
     ensures shape { IfErr result (λ e. e ≡ record { acc = length acc.old; more = length more.now }) }
     ensures folds { OnOk result (acc.new ≡ fold_values op ty acc.old more.now) }
     ensures unchanged { OnErr result (acc.new ≡ acc.old) }

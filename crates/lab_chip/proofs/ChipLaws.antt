@@ -9,7 +9,7 @@ use Rattle.scc_base.specs.declared.events.Event.{Event}
 use Rattle.scc_proto.specs.Stages.{Record, blank}
 use Rattle.scc_proto.specs.Words.{Memory, zeros, IsStep, IsRun, RankEvent, memory_after, SameWords}
 use Rattle.scc_proto.specs.Records.{IsPermitted, IsHonest, record_after, record_of}
-use Rattle.scc_proto.specs.Tables.{put}
+use Rattle.scc_proto.specs.Tables.{table_with}
 use Rattle.scc_proto.specs.Histories.{IsPermittedRun, events_of, memory_from, records_from, records_of}
 use Rattle.scc_proto.specs.Memories.{word_number, register_number, memory_of}
 use Rattle.scc_proto.specs.Ports.{Sight, Did, MayMake, IsSoundPort, record_in}
@@ -69,7 +69,7 @@ run_left memory (e ∷ a) b run = run_left (memory_after memory e.event) a b run
 permitted_both : (s : SetupView) (records : ℕ → Record) (a b : List RankEvent) → IsPermittedRun s records a → IsPermittedRun s (records_from s records a) b → IsPermittedRun s records (a ++ b)
 permitted_both s records [] b first second = second
 permitted_both s records (e ∷ a) b first second =
-    (first.0, first.1, first.2, permitted_both s (put records e.rank (record_after s e.rank (records e.rank) e.event)) a b first.3 second)
+    (first.0, first.1, first.2, permitted_both s (table_with records e.rank (record_after s e.rank (records e.rank) e.event)) a b first.3 second)
 
 -- one event more, which the record of its rank permits
 permitted_more : (s : SetupView) (run : List RankEvent) (r : ℕ) (e : Event) → IsPermittedRun s (λ k. blank) run → r < s.nue → IsEvent e → IsPermitted s r (records_of s run r) e

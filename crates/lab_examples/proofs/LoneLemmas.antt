@@ -5,12 +5,12 @@ use Rattle.scc_base.specs.Events.{store_of}
 use Rattle.scc_proto.specs.Words.{Memory, memory_after, word_at}
 use Rattle.scc_proto.proofs.Tests.{eqb_same}
 use Rattle.line_cache.specs.declared.cache.Entry.{Entry}
-use Rattle.line_cache.specs.Lines.{filled, held, line_noted, most_lines, noted, written}
+use Rattle.line_cache.specs.Lines.{with_filled_line, cached_words, line_noted, most_lines, lines_with_word, entry_with_word}
 use Rattle.line_cache.proofs.LineLemmas.{same_line-is}
 use Rattle.write_combine.specs.declared.combiner.Out.{Out}
 use Rattle.write_combine.specs.Combining.{handed_out, held_after, one_word, whole_line}
 use Rattle.put_get.specs.Accesses.{stores_of, stores_of_line}
-use Rattle.lab_plain.specs.Scenes.{CoreScene, after_all, after_flushing, answer, left_by, line_in, waiting_word, without_line, word_fetched, word_read, word_read_by}
+use Rattle.lab_plain.specs.Scenes.{CoreScene, after_all, after_flushing, answer, lines_after_evictor, line_in, waiting_word, without_line, word_fetched, word_read, word_read_by}
 use Rattle.lab_examples.specs.Alone.{LoneCall, FlushedWrite, LinePut, WordRead, LineGet, Invalidation, AreCallsOfWords, IsCallOfWord, call_answer, call_answers, scene_after_call, scene_after_calls, words_after_call, words_after_calls, words_answer, words_answers}
 
 -- ---- copies
@@ -20,11 +20,11 @@ abbrev pub AreCopies : Memory → List Entry → Type 0
 AreCopies m [] = Unit {0}
 AreCopies m (e ∷ es) = (e.words ≡ line_in m e.line) × AreCopies m es
 
-held_copy : (m : Memory) (es : List Entry) (line : LineAt) (words : List ℕ) → AreCopies m es → held es line ≡ Some words → words ≡ line_in m line
+held_copy : (m : Memory) (es : List Entry) (line : LineAt) (words : List ℕ) → AreCopies m es → cached_words es line ≡ Some words → words ≡ line_in m line
 held_copy m [] line words copies found = absurd (cc (found))
 held_copy m (e ∷ es) line words copies found = by (same_line e.line line) refl found (held_copy m es line words copies.1)
   where
-    by : (b : Bool) → same_line e.line line ≡ b → (if b then Some e.words else held es line) ≡ Some words → (held es line ≡ Some words → words ≡ line_in m line) → words ≡ line_in m line
+    by : (b : Bool) → same_line e.line line ≡ b → (if b then Some e.words else cached_words es line) ≡ Some words → (cached_words es line ≡ Some words → words ≡ line_in m line) → words ≡ line_in m line
     by true same is rest = sym (ap (λ (o : Option (List ℕ)). unwrap_or o words) is) ∙ copies.0 ∙ ap (line_in m) (same_line-is e.line line same)
     by false other is rest = rest is
 
@@ -37,7 +37,7 @@ copies_front m es false copies = copies
 copies_front m [] true copies = tt
 copies_front m (e ∷ es) true copies = copies.1
 
-copies_filled : (m : Memory) (es : List Entry) (line : LineAt) → AreCopies m es → AreCopies m (filled es line (line_in m line))
+copies_filled : (m : Memory) (es : List Entry) (line : LineAt) → AreCopies m es → AreCopies m (with_filled_line es line (line_in m line))
 copies_filled m es line copies =
     copies_push m (if length es == most_lines then drop 1 es else es) (record { line = line; words = line_in m line }) (copies_front m es (length es == most_lines) copies) refl
 
@@ -49,7 +49,7 @@ copies_without m line (e ∷ es) copies = by (not (same_line e.line line)) (copi
     by true rest = (copies.0, rest)
     by false rest = rest
 
-copies_left : (m : Memory) (evict : Option LineAt) (es : List Entry) → AreCopies m es → AreCopies m (left_by evict es)
+copies_left : (m : Memory) (evict : Option LineAt) (es : List Entry) → AreCopies m es → AreCopies m (lines_after_evictor evict es)
 copies_left m None es copies = copies
 copies_left m (Some line) es copies = copies_without m line es copies
 
@@ -89,7 +89,7 @@ line_here m p v below =
     ∙ set_by (m.word p.core p.line 0) (m.word p.core p.line 1) (m.word p.core p.line 2) (m.word p.core p.line 3) v p.word below
 
 entry_written : (m : Memory) (p : WordAt) (v : ℕ) (e : Entry) → p.word < 4 → e.words ≡ line_in m e.line
-    → (written e p v).words ≡ line_in (memory_after m (store_of p v)) (written e p v).line
+    → (entry_with_word e p v).words ≡ line_in (memory_after m (store_of p v)) (entry_with_word e p v).line
 entry_written m p v e below copy = by (same_line e.line (line_of_word p)) refl
   where
     after : Entry
@@ -101,7 +101,7 @@ entry_written m p v e below copy = by (same_line e.line (line_of_word p)) refl
         (λ i. slice_set (copy i) p.word v) ∙ (λ i. slice_set (line_in m (at i)) p.word v) ∙ sym (line_here m p v below) ∙ ap (line_in (memory_after m (store_of p v))) (sym at)
     by false other = copy ∙ sym (line_other m p v e.line other)
 
-copies_noted : (m : Memory) (p : WordAt) (v : ℕ) (es : List Entry) → p.word < 4 → AreCopies m es → AreCopies (memory_after m (store_of p v)) (noted es p v)
+copies_noted : (m : Memory) (p : WordAt) (v : ℕ) (es : List Entry) → p.word < 4 → AreCopies m es → AreCopies (memory_after m (store_of p v)) (lines_with_word es p v)
 copies_noted m p v [] below copies = tt
 copies_noted m p v (e ∷ es) below copies = (entry_written m p v e below copies.0, copies_noted m p v es below copies.1)
 
@@ -173,9 +173,9 @@ module _ (line : LineAt) (words : List ℕ) where
       let m1 = memory_after m (store_of p0 v0) in
       let m2 = memory_after m1 (store_of p1 v1) in
       let m3 = memory_after m2 (store_of p2 v2) in
-      let es1 = noted es p0 v0 in
-      let es2 = noted es1 p1 v1 in
-      let es3 = noted es2 p2 v2 in
+      let es1 = lines_with_word es p0 v0 in
+      let es2 = lines_with_word es1 p1 v1 in
+      let es3 = lines_with_word es2 p2 v2 in
       let first : AreCopies m1 es1 = copies_noted m p0 v0 es (omega arith) copies in
       let second : AreCopies m2 es2 = copies_noted m1 p1 v1 es1 (omega arith) first in
       let third : AreCopies m3 es3 = copies_noted m2 p2 v2 es2 (omega arith) second in
@@ -203,13 +203,13 @@ record ReadDone (s t : CoreScene) : Type 0 where
 fetch_done : (me : ℕ) (p : WordAt) (evict : Option LineAt) (s : CoreScene) (o : Option (List ℕ)) → IsUpToDate s → ReadDone s (word_fetched me p evict s o)
 fetch_done me p evict s (Some words) up = record { up = record { out = up.out; copies = up.copies }; memory = refl }
 fetch_done me p evict s None up = record {
-  up = record { out = up.out; copies = copies_left s.memory evict (filled s.lines (line_of_word p) (line_in s.memory (line_of_word p))) (copies_filled s.memory s.lines (line_of_word p) up.copies) };
+  up = record { out = up.out; copies = copies_left s.memory evict (with_filled_line s.lines (line_of_word p) (line_in s.memory (line_of_word p))) (copies_filled s.memory s.lines (line_of_word p) up.copies) };
   memory = refl;
 }
 
 read_done : (me : ℕ) (p : WordAt) (evict : Option LineAt) (s : CoreScene) → IsUpToDate s → ReadDone s (word_read me p evict s)
 read_done me p evict s up =
-    subst (λ (o : Option ℕ). ReadDone s (word_read_by me p evict s o)) (sym (ap (λ (o : Option Out). waiting_word o p) up.out)) (fetch_done me p evict s (held s.lines (line_of_word p)) up)
+    subst (λ (o : Option ℕ). ReadDone s (word_read_by me p evict s o)) (sym (ap (λ (o : Option Out). waiting_word o p) up.out)) (fetch_done me p evict s (cached_words s.lines (line_of_word p)) up)
 
 word_in_line : (w : ℕ) (f : ℕ → ℕ) → w < 4 → slice_index (f 0 ∷ f 1 ∷ f 2 ∷ f 3 ∷ []) w ≡ f w
 word_in_line zero f below = refl
@@ -218,14 +218,14 @@ word_in_line (suc (suc zero)) f below = refl
 word_in_line (suc (suc (suc zero))) f below = refl
 word_in_line (suc (suc (suc (suc w)))) f below = absurd (omega (arith, below))
 
-copy_or_words : (s : CoreScene) (line : LineAt) (o : Option (List ℕ)) → held s.lines line ≡ o → IsUpToDate s → unwrap_or o (line_in s.memory line) ≡ line_in s.memory line
+copy_or_words : (s : CoreScene) (line : LineAt) (o : Option (List ℕ)) → cached_words s.lines line ≡ o → IsUpToDate s → unwrap_or o (line_in s.memory line) ≡ line_in s.memory line
 copy_or_words s line None is up = refl
 copy_or_words s line (Some words) is up = held_copy s.memory s.lines line words up.copies is
 
 answer_is : (p : WordAt) (s : CoreScene) → IsUpToDate s → p.word < 4 → answer p s ≡ word_at s.memory p
 answer_is p s up below =
-    (λ i. unwrap_or (waiting_word (up.out i) p) (slice_index (unwrap_or (held s.lines (line_of_word p)) (line_in s.memory (line_of_word p))) p.word))
-    ∙ ap (λ (l : List ℕ). slice_index l p.word) (copy_or_words s (line_of_word p) (held s.lines (line_of_word p)) refl up)
+    (λ i. unwrap_or (waiting_word (up.out i) p) (slice_index (unwrap_or (cached_words s.lines (line_of_word p)) (line_in s.memory (line_of_word p))) p.word))
+    ∙ ap (λ (l : List ℕ). slice_index l p.word) (copy_or_words s (line_of_word p) (cached_words s.lines (line_of_word p)) refl up)
     ∙ word_in_line p.word (s.memory.word p.core p.line) below
 
 -- a flush where nothing waits
@@ -237,7 +237,7 @@ call_done me (FlushedWrite p v) s up below =
     let memory : (scene_after_call me (FlushedWrite p v) s).memory ≡ memory_after s.memory (store_of p v)
     = (λ i. after_all (after_all s.memory (stores_of (handed_out (up.out i) (line_of_word p)))) (stores_of (Some (held_after (up.out i) p v)))) ∙ one_by s.memory p.core p.line v p.word below in
     record {
-      up = record { out = refl; copies = subst (λ (m : Memory). AreCopies m (noted s.lines p v)) (sym memory) (copies_noted s.memory p v s.lines below up.copies) };
+      up = record { out = refl; copies = subst (λ (m : Memory). AreCopies m (lines_with_word s.lines p v)) (sym memory) (copies_noted s.memory p v s.lines below up.copies) };
       memory = memory;
       answer = refl;
     }

@@ -15,14 +15,14 @@ use Rattle.lab_plain.specs.declared.said.Stopped.TheVariants as stopped
 use Rattle.lab_plain.specs.Scenes.{CoreScene, after_flushing, word_written, line_written, line_put, word_read, line_read, line_got, after_invalidate, after_print, answer, line_answer, line_in}
 
 -- what a core holds: its cached lines, and the line in its write-combining buffer
-pub record Holds : Type 0 where
+pub record CoreHolds : Type 0 where
   pub lines : List Entry
   pub out : Option Out
 
 -- the shared words, what each core holds, which core has each register, and what was printed
 pub record Stand : Type 0 where
   pub memory : Memory
-  pub cores : List Holds
+  pub cores : List CoreHolds
   pub holders : List (Option ℕ)
   pub said : List Said
 
@@ -32,11 +32,11 @@ pub record Done : Type 0 where
   pub stop : Option Stopped
 
 -- nothing is held
-abbrev pub holds_nothing : Holds
+abbrev pub holds_nothing : CoreHolds
 holds_nothing = record { lines = []; out = None }
 
 -- what a core holds
-abbrev pub core_at : List Holds → ℕ → Holds
+abbrev pub core_at : List CoreHolds → ℕ → CoreHolds
 core_at cores me = slice_index_or cores me holds_nothing
 
 -- a core at work, as a stand has it
@@ -164,12 +164,12 @@ action_done line me (action.Get at expect) t = core_done line me (action.Get at 
 action_done line me action.Print t = core_done line me action.Print t
 
 -- a step begins: its line is printed
-abbrev pub begun : Step → Stand → Stand
-begun step t = record t { said = t.said ++ said.Begins step.line step.text ∷ [] }
+abbrev pub with_line_begun : Step → Stand → Stand
+with_line_begun step t = record t { said = t.said ++ said.Begins step.line step.text ∷ [] }
 
 -- a step
 abbrev pub step_done : Step → Stand → Done
-step_done step t = action_done step.line step.core step.action (begun step t)
+step_done step t = action_done step.line step.core step.action (with_line_begun step t)
 
 -- what follows a step, unless it stops the lab
 abbrev pub unless_stopped : Stand → Option Stopped → (Stand → Done) → Done

@@ -6,7 +6,7 @@ use Rattle.scc_base.specs.Places.{LineAt, WordAt, line_of_word, word_of_line, sa
 use Rattle.scc_base.specs.declared.events.Event.{Event}
 use Rattle.scc_proto.specs.Words.{Memory, memory_after, word_at}
 use Rattle.line_cache.specs.declared.cache.Entry.{Entry}
-use Rattle.line_cache.specs.Lines.{held, filled, noted, line_noted}
+use Rattle.line_cache.specs.Lines.{cached_words, with_filled_line, lines_with_word, line_noted}
 use Rattle.write_combine.specs.declared.combiner.Out.{Out}
 use Rattle.write_combine.specs.Combining.{handed_out, held_after}
 use Rattle.put_get.specs.Accesses.{stores_of, stores_of_line, whole_line}
@@ -52,7 +52,7 @@ after_flushing me s = record {
 abbrev pub word_written : ℕ → WordAt → ℕ → CoreScene → CoreScene
 word_written me p v s = record {
   memory = after_all s.memory (stores_of (handed_out s.out (line_of_word p)));
-  lines = noted s.lines p v;
+  lines = lines_with_word s.lines p v;
   out = Some (held_after s.out p v);
   said = s.said ++ say_stores me (handed_out s.out (line_of_word p));
 }
@@ -93,14 +93,14 @@ abbrev pub without_line : LineAt → List Entry → List Entry
 without_line line es = filter (λ (e : Entry). not (same_line e.line line)) es
 
 -- the cached lines without the one that an evictor names, if it names one
-abbrev pub left_by : Option LineAt → List Entry → List Entry
-left_by None es = es
-left_by (Some line) es = without_line line es
+abbrev pub lines_after_evictor : Option LineAt → List Entry → List Entry
+lines_after_evictor None es = es
+lines_after_evictor (Some line) es = without_line line es
 
 -- whether it is cached, so that it leaves
 abbrev pub is_evicted : Option LineAt → List Entry → Bool
 is_evicted None es = false
-is_evicted (Some line) es = is_some (held es line)
+is_evicted (Some line) es = is_some (cached_words es line)
 
 -- what is printed of the line that was to leave, if it left
 abbrev pub say_left : Option LineAt → Bool → List Said
@@ -116,10 +116,10 @@ abbrev pub word_loaded : ℕ → WordAt → Option LineAt → CoreScene → Core
 word_loaded me p evict s =
     let line = line_of_word p in
     let words = line_in s.memory line in
-    let came = filled s.lines line words in
+    let came = with_filled_line s.lines line words in
     record {
       memory = s.memory;
-      lines = left_by evict came;
+      lines = lines_after_evictor evict came;
       out = s.out;
       said = s.said ++ said.Loads me line words ∷ said.Answers p (slice_index words p.word) source.Words ∷ say_evicted evict came;
     }
@@ -132,7 +132,7 @@ word_fetched me p evict s None = word_loaded me p evict s
 -- a read of a word, by what waits of it in the buffer
 abbrev pub word_read_by : ℕ → WordAt → Option LineAt → CoreScene → Option ℕ → CoreScene
 word_read_by me p evict s (Some v) = after_answer p v source.BufferLine s
-word_read_by me p evict s None = word_fetched me p evict s (held s.lines (line_of_word p))
+word_read_by me p evict s None = word_fetched me p evict s (cached_words s.lines (line_of_word p))
 
 -- a read of a word
 abbrev pub word_read : ℕ → WordAt → Option LineAt → CoreScene → CoreScene
@@ -141,7 +141,8 @@ word_read me p evict s = word_read_by me p evict s (waiting_word s.out p)
 -- what it answers: the word in the buffer, or else in the cache, or else the shared word
 abbrev pub answer : WordAt → CoreScene → ℕ
 answer p s =
-    unwrap_or (waiting_word s.out p) (slice_index (unwrap_or (held s.lines (line_of_word p)) (line_in s.memory (line_of_word p))) p.word)
+    unwrap_or (waiting_word s.out p)
+    (slice_index (unwrap_or (cached_words s.lines (line_of_word p)) (line_in s.memory (line_of_word p))) p.word)
 
 -- a read of a line is one of its words, one after the other: the scene before the read of word n
 abbrev pub before_word : ℕ → LineAt → Option LineAt → CoreScene → ℕ → CoreScene
@@ -170,7 +171,7 @@ say_got me line words =
 abbrev pub line_loaded : ℕ → LineAt → CoreScene → CoreScene
 line_loaded me line s = record {
   memory = s.memory;
-  lines = filled [] line (line_in s.memory line);
+  lines = with_filled_line [] line (line_in s.memory line);
   out = s.out;
   said = s.said ++ say_got me line (line_in s.memory line);
 }

@@ -2,7 +2,7 @@
 use Rattle.std.specs.Prelude.{ℕ, ◌-◌, Bool, true, false, not, if◌then◌else◌, List, [], ◌∷◌, codes, decimal, slice_index, slice_index_or}
 use Rattle.std.specs.Int.{w64, to_be_bytes}
 use Rattle.rcce_io.specs.Digits.{hex_text}
-use Rattle.rcce_io.specs.Sending.{joined}
+use Rattle.rcce_io.specs.Sending.{joined_texts}
 use Rattle.scc_base.specs.Places.{LineAt, WordAt, line_of_word, word_of_line, first_heap}
 use Rattle.lab_plain.specs.declared.parts.Part.{Part}
 use Rattle.lab_plain.specs.declared.parts.Part.TheVariants as part
@@ -19,7 +19,7 @@ hex_value_text value = hex_text (to_be_bytes w64 value)
 
 -- a line as a lab names it: its core, and its number among the heap lines, of which line 225 is the first
 abbrev pub line_name : LineAt → List ℕ
-line_name line = joined (decimal line.core ∷ codes ":" ∷ decimal (line.line - first_heap) ∷ [])
+line_name line = joined_texts (decimal line.core ∷ codes ":" ∷ decimal (line.line - first_heap) ∷ [])
 
 -- a word of a held line: its value, and `-` where it was not written
 abbrev pub held_word_text : ℕ → Bool → List ℕ
@@ -37,7 +37,7 @@ part_text (part.Line line) = line_name line
 -- the line of a load or a store of a word
 abbrev pub access_text : ℕ → List ℕ → WordAt → ℕ → List ℕ
 access_text core access at value =
-    joined (decimal core ∷ access ∷ decimal at.core ∷ codes "." ∷ decimal at.line ∷ codes "." ∷ decimal at.word ∷ codes " "
+    joined_texts (decimal core ∷ access ∷ decimal at.core ∷ codes "." ∷ decimal at.line ∷ codes "." ∷ decimal at.word ∷ codes " "
     ∷ hex_value_text value ∷ codes " # heap\n" ∷ [])
 
 -- the line of the access to one word of a line, where it is made
@@ -52,13 +52,14 @@ all_words = true ∷ true ∷ true ∷ true ∷ []
 -- the lines of the loads of a line, word 0 first
 abbrev pub loads_text : ℕ → LineAt → List ℕ → List ℕ
 loads_text core line words =
-    joined (word_access_text core (codes " load ") line words all_words 0 ∷ word_access_text core (codes " load ") line words all_words 1
+    joined_texts (word_access_text core (codes " load ") line words all_words 0
+    ∷ word_access_text core (codes " load ") line words all_words 1
     ∷ word_access_text core (codes " load ") line words all_words 2 ∷ word_access_text core (codes " load ") line words all_words 3 ∷ [])
 
 -- the lines of the stores of a line, word 3 first, of the words that were written
 abbrev pub stores_text : ℕ → LineAt → List ℕ → List Bool → List ℕ
 stores_text core line words mask =
-    joined (word_access_text core (codes " store ") line words mask 3 ∷ word_access_text core (codes " store ") line words mask 2
+    joined_texts (word_access_text core (codes " store ") line words mask 3 ∷ word_access_text core (codes " store ") line words mask 2
     ∷ word_access_text core (codes " store ") line words mask 1 ∷ word_access_text core (codes " store ") line words mask 0 ∷ [])
 
 -- what a take answers
@@ -68,18 +69,18 @@ take_answer_name took = if took then codes "took" else codes "taken"
 -- the line of a take, with 1 where it took the register, and the line of what it answers
 abbrev pub takes_text : ℕ → ℕ → Bool → List ℕ
 takes_text core register took =
-    joined (decimal core ∷ codes " take " ∷ decimal register ∷ codes ".register " ∷ hex_value_text (if took then 1 else 0)
+    joined_texts (decimal core ∷ codes " take " ∷ decimal register ∷ codes ".register " ∷ hex_value_text (if took then 1 else 0)
     ∷ codes " # register\nanswer " ∷ take_answer_name took ∷ codes "\n" ∷ [])
 
 -- the line of a free
 abbrev pub frees_text : ℕ → ℕ → List ℕ
 frees_text core register =
-    joined (decimal core ∷ codes " free " ∷ decimal register ∷ codes ".register " ∷ hex_value_text 0 ∷ codes " # register\n" ∷ [])
+    joined_texts (decimal core ∷ codes " free " ∷ decimal register ∷ codes ".register " ∷ hex_value_text 0 ∷ codes " # register\n" ∷ [])
 
 -- the line of what a core holds
 abbrev pub core_holds_text : ℕ → List ℕ → LineAt → List ℕ → List Bool → List ℕ
 core_holds_text core holds line words mask =
-    joined (codes "core " ∷ decimal core ∷ holds ∷ line_name line ∷ codes " "
+    joined_texts (codes "core " ∷ decimal core ∷ holds ∷ line_name line ∷ codes " "
     ∷ held_word_text (slice_index words 0) (slice_index_or mask 0 false)
     ∷ codes " " ∷ held_word_text (slice_index words 1) (slice_index_or mask 1 false) ∷ codes " "
     ∷ held_word_text (slice_index words 2) (slice_index_or mask 2 false)
@@ -87,7 +88,7 @@ core_holds_text core holds line words mask =
 
 -- the line of a core that holds nothing
 abbrev pub nothing_text : ℕ → List ℕ → List ℕ
-nothing_text core holds = joined (codes "core " ∷ decimal core ∷ holds ∷ codes "nothing\n" ∷ [])
+nothing_text core holds = joined_texts (codes "core " ∷ decimal core ∷ holds ∷ codes "nothing\n" ∷ [])
 
 -- where an answer came from
 abbrev pub source_name : Source → List ℕ
@@ -98,16 +99,16 @@ source_name source.Words = codes "words"
 -- the line of an answer
 abbrev pub answer_text : WordAt → ℕ → Source → List ℕ
 answer_text at value from =
-    joined (codes "answer " ∷ line_name (line_of_word at) ∷ codes "." ∷ decimal at.word ∷ codes " " ∷ hex_value_text value
+    joined_texts (codes "answer " ∷ line_name (line_of_word at) ∷ codes "." ∷ decimal at.word ∷ codes " " ∷ hex_value_text value
     ∷ codes " from " ∷ source_name from ∷ codes "\n" ∷ [])
 
 -- what is printed
 abbrev pub said_text : Said → List ℕ
-said_text (said.Begins line text) = joined (codes "line " ∷ decimal line ∷ codes ": " ∷ text ∷ codes "\n" ∷ [])
+said_text (said.Begins line text) = joined_texts (codes "line " ∷ decimal line ∷ codes ": " ∷ text ∷ codes "\n" ∷ [])
 said_text (said.Loads core line words) = loads_text core line words
 said_text (said.Stores core line words mask) = stores_text core line words mask
 said_text (said.Answers at value from) = answer_text at value from
-said_text (said.Evicted line) = joined (codes "evicted " ∷ line_name line ∷ codes "\n" ∷ [])
+said_text (said.Evicted line) = joined_texts (codes "evicted " ∷ line_name line ∷ codes "\n" ∷ [])
 said_text (said.Takes core register took) = takes_text core register took
 said_text (said.Frees core register) = frees_text core register
 said_text (said.Caches core line words) = core_holds_text core (codes " caches ") line words all_words
@@ -118,12 +119,12 @@ said_text (said.BuffersNothing core) = nothing_text core (codes " buffers ")
 -- the line of a register's stop
 abbrev pub register_stop_text : ℕ → ℕ → List ℕ → ℕ → List ℕ
 register_stop_text line core holds register =
-    joined (codes "line " ∷ decimal line ∷ codes ": core " ∷ decimal core ∷ holds ∷ decimal register ∷ codes "\n" ∷ [])
+    joined_texts (codes "line " ∷ decimal line ∷ codes ": core " ∷ decimal core ∷ holds ∷ decimal register ∷ codes "\n" ∷ [])
 
 -- the line of another value than was expected
 abbrev pub value_stop_text : ℕ → WordAt → ℕ → ℕ → List ℕ
 value_stop_text line at came expected =
-    joined (codes "line " ∷ decimal line ∷ codes ": " ∷ line_name (line_of_word at) ∷ codes "." ∷ decimal at.word ∷ codes " is "
+    joined_texts (codes "line " ∷ decimal line ∷ codes ": " ∷ line_name (line_of_word at) ∷ codes "." ∷ decimal at.word ∷ codes " is "
     ∷ hex_value_text came
     ∷ codes ", expected " ∷ hex_value_text expected ∷ codes "\n" ∷ [])
 
@@ -131,7 +132,8 @@ value_stop_text line at came expected =
 abbrev pub stopped_text : Stopped → List ℕ
 stopped_text (stopped.Value line at came expected) = value_stop_text line at came expected
 stopped_text (stopped.Take line took) =
-    joined (codes "line " ∷ decimal line ∷ codes ": answer " ∷ take_answer_name took ∷ codes ", expected " ∷ take_answer_name (not took)
+    joined_texts (codes "line " ∷ decimal line ∷ codes ": answer " ∷ take_answer_name took ∷ codes ", expected "
+    ∷ take_answer_name (not took)
     ∷ codes "\n" ∷ [])
 stopped_text (stopped.Holds line core register) = register_stop_text line core (codes " holds register ") register
 stopped_text (stopped.HoldsNot line core register) = register_stop_text line core (codes " does not hold register ") register

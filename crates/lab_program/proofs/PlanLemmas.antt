@@ -1,7 +1,7 @@
 -- What a lab's file comes to.
 use Rattle.std.proofs.Common.{◌≡◌, ◌≤◌, ℕ, Bool, List, length, refl, sym, subst, ap, inl, Option, Some, None, Result, Ok, Err}
 use Rattle.rcce_io.specs.Files.{FilesView, NamedFile}
-use Rattle.outcomes.specs.Coming.{ByTest, Comes, Holds}
+use Rattle.outcomes.specs.Coming.{ByTest, Comes, FileHolds}
 use Rattle.outcomes.specs.Complaints.{complaint_outcome}
 use Rattle.outcomes.specs.Outcomes.{Outcome, file_refused, run_outcome}
 use Rattle.outcomes.specs.declared.complaint.Complaint.{Complaint}
@@ -34,7 +34,7 @@ comes_done program file read steps run files same done =
 -- ---- what is left
 
 -- by a lab that was run
-pub tells_done : (told : Option (List NamedFile)) (file bytes : List ℕ) (steps : List Step) (run : LabRun) (left : Option LabLeft) → lab_of bytes ≡ Ok steps → length bytes ≤ most_lab_bytes → Holds told file bytes
+pub tells_done : (told : Option (List NamedFile)) (file bytes : List ℕ) (steps : List Step) (run : LabRun) (left : Option LabLeft) → lab_of bytes ≡ Ok steps → length bytes ≤ most_lab_bytes → FileHolds told file bytes
     → HasDoneLab (lab_done steps) run → left ≡ Some run.left → LabTells told (Some file) left (run_outcome (lab_ran_of run.said.items run.stopped))
 tells_done told file bytes steps run left same few holds done is =
     let o : Outcome = run_outcome (lab_ran_of run.said.items run.stopped) in

@@ -1,7 +1,7 @@
 -- What a call of `rccelab` leaves (this project's profile).
 use Rattle.std.specs.Prelude.{◌≡◌, ◌≤◌, ℕ, List, length, Option, Some, None, Ok}
 use Rattle.rcce_io.specs.Files.{NamedFile}
-use Rattle.outcomes.specs.Coming.{ByTest, Holds}
+use Rattle.outcomes.specs.Coming.{ByTest, FileHolds}
 use Rattle.outcomes.specs.Outcomes.{Outcome, run_outcome}
 use Rattle.outcomes.specs.Statuses.{is_quiet}
 use Rattle.lab_reader.specs.declared.steps.Step.{Step}
@@ -13,7 +13,7 @@ use Rattle.lab_program.specs.Program.{steps_ran}
 
 -- these are the steps of the lab that stands in a file, where files are told
 abbrev pub StepsIn : List ℕ → Option (List NamedFile) → List Step → Type 0
-StepsIn file told steps = (bytes : List ℕ) × (length bytes ≤ most_lab_bytes) × Holds told file bytes × (lab_of bytes ≡ Ok steps)
+StepsIn file told steps = (bytes : List ℕ) × (length bytes ≤ most_lab_bytes) × FileHolds told file bytes × (lab_of bytes ≡ Ok steps)
 
 -- The outcome is that of the steps of the lab in a file, and a chip and its cores are left that have made them.
 pub record WasMadeBy (told : Option (List NamedFile)) (file : List ℕ) (left : Option LabLeft) (o : Outcome) : Type 0 where

@@ -1,6 +1,6 @@
 -- What `rccelab` does on its words (this project's profile).
 use Rattle.std.specs.Prelude.{ℕ, if◌then◌else◌, List, [], ◌∷◌, codes, map, Option, Some, None, is_none, Result, Ok, Err}
-use Rattle.rcce_io.specs.Sending.{joined}
+use Rattle.rcce_io.specs.Sending.{joined_texts}
 use Rattle.outcomes.specs.Numbers.{is_option}
 use Rattle.outcomes.specs.Outcomes.{Ran}
 use Rattle.outcomes.specs.Plans.{Plan, Program}
@@ -23,7 +23,7 @@ stop_text (Some stopped) = stopped_text stopped
 
 -- whether a lab was done to its end, and what it printed
 abbrev pub lab_ran_of : List Said → Option Stopped → Ran
-lab_ran_of said stopped = record { finished = is_none stopped; out = joined (map said_text said); err = stop_text stopped }
+lab_ran_of said stopped = record { finished = is_none stopped; out = joined_texts (map said_text said); err = stop_text stopped }
 
 -- what a run came to
 abbrev pub lab_ran : Lab → Ran

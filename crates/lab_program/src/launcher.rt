@@ -5,7 +5,7 @@
 ghost use Rattle.std.specs.Prelude.{◌≡◌, ◌≤◌, codes, length, List, map, string_bytes, Option, Some, None};
 ghost use Rattle.std.specs.Option.{option_copied};
 ghost use Rattle.rcce_io.specs.Files.{FilesView, NamedFile};
-ghost use Rattle.outcomes.specs.Coming.{Comes, Holds, IsMeant};
+ghost use Rattle.outcomes.specs.Coming.{Comes, FileHolds, IsMeant};
 ghost use Rattle.outcomes.specs.Complaints.{outcome_of};
 ghost use Rattle.outcomes.specs.Delivery.{sinks};
 ghost use Rattle.outcomes.specs.Promises.{EndsWith, Promises};
@@ -106,7 +106,7 @@ fn run_bytes<'a>(
     requires few { length bytes.now ≤ most_lab_bytes }
     ensures comes { (files : FilesView) → Comes (codes "rccelab") (lab_bytes_plan file.now bytes.now) files files
         (outcome_of (codes "rccelab") lab_ran result) }
-    ensures tells { (told : Option (List NamedFile)) → Holds told file.now bytes.now
+    ensures tells { (told : Option (List NamedFile)) → FileHolds told file.now bytes.now
         → LabTells told (Some file.now) left.new (outcome_of (codes "rccelab") lab_ran result) }
 {
     match read_lab(alloc, bytes) {

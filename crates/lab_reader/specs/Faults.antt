@@ -14,7 +14,7 @@ lab_kind_name kind.BadCore = codes "BadCore"
 lab_kind_name kind.BadStep = codes "BadStep"
 
 -- a reading gives what the grammar says, seen through a view: its value or its fault. It may end for want of memory
-abbrev pub Gives : {A X : Type 0} → (X → A) → Result X LabStop → Result A LabFault → Type 0
-Gives view (Ok x) said = said ≡ Ok (view x)
-Gives view (Err (stop.Fault fault)) said = said ≡ Err fault
-Gives view (Err stop.Memory) said = Unit {0}
+abbrev pub LabGives : {A X : Type 0} → (X → A) → Result X LabStop → Result A LabFault → Type 0
+LabGives view (Ok x) said = said ≡ Ok (view x)
+LabGives view (Err (stop.Fault fault)) said = said ≡ Err fault
+LabGives view (Err stop.Memory) said = Unit {0}

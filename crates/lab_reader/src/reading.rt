@@ -1,7 +1,7 @@
 //! What the lines of a file say, one after another.
 
 ghost use Rattle.std.specs.Prelude.{◌≡◌, ◌<◌, ◌^◌, length, map};
-ghost use Rattle.lab_reader.specs.Faults.{Gives};
+ghost use Rattle.lab_reader.specs.Faults.{LabGives};
 ghost use Rattle.lab_reader.specs.Reading.{lab_of, lab_lines_said, says_version};
 ghost use Rattle.lab_reader.specs.declared.faults.LabStop.TheVariants.{Fault};
 
@@ -53,7 +53,7 @@ impl Model for Reader {
 
 impl Reader {
     ghost use Rattle.std.specs.Prelude.{◌≡◌, map};
-    ghost use Rattle.lab_reader.specs.Faults.{Gives};
+    ghost use Rattle.lab_reader.specs.Faults.{LabGives};
     ghost use Rattle.lab_reader.specs.Reading.{core_by, lab_line_said, nothing_read, step_said, words_said};
 
     fn new(alloc: Global) -> Reader
@@ -74,7 +74,7 @@ impl Reader {
         core: CoreId,
         words: &[&[u8]],
     ) -> Result<(), LabStop>
-        ensures { Gives (λ _. self.new) result (core_by number line.now self.old (map (λ word. word.now) words.now) (Some core)) }
+        ensures { LabGives (λ _. self.new) result (core_by number line.now self.old (map (λ word. word.now) words.now) (Some core)) }
     {
         let Some(action) = action_said(core, words) else {
             return Err(fault(number, LabKind::BadStep));
@@ -98,7 +98,7 @@ impl Reader {
         line: &[u8],
         words: &[&[u8]],
     ) -> Result<(), LabStop>
-        ensures { Gives (λ _. self.new) result (step_said number line.now self.old (map (λ word. word.now) words.now)) }
+        ensures { LabGives (λ _. self.new) result (step_said number line.now self.old (map (λ word. word.now) words.now)) }
     {
         match words {
             [word, core, rest @ ..] if *word == b"core".as_slice() => match core_said(core) {
@@ -116,7 +116,7 @@ impl Reader {
         line: &[u8],
         words: &[&[u8]],
     ) -> Result<(), LabStop>
-        ensures { Gives (λ _. self.new) result (words_said number line.now self.old (map (λ word. word.now) words.now)) }
+        ensures { LabGives (λ _. self.new) result (words_said number line.now self.old (map (λ word. word.now) words.now)) }
     {
         if words.is_empty() {
             return Ok(());
@@ -129,7 +129,7 @@ impl Reader {
     }
 
     fn read_line(&mut self, alloc: Global, number: u32, line: &[u8]) -> Result<(), LabStop>
-        ensures { Gives (λ _. self.new) result (lab_line_said number self.old line.now) }
+        ensures { LabGives (λ _. self.new) result (lab_line_said number self.old line.now) }
     {
         if !is_text(line) {
             return Err(fault(number, LabKind::NotText));
@@ -141,7 +141,7 @@ impl Reader {
 
 fn read_lines(alloc: Global, reader: &mut Reader, lines: &[&[u8]]) -> Result<(), LabStop>
     requires few { length lines.now < 2 ^ 32 }
-    ensures { Gives (λ _. reader.new) result (lab_lines_said 0 reader.old (map (λ line. line.now) lines.now)) }
+    ensures { LabGives (λ _. reader.new) result (lab_lines_said 0 reader.old (map (λ line. line.now) lines.now)) }
 {
     let mut number: u32 = 0;
     for line in lines {
@@ -153,7 +153,7 @@ fn read_lines(alloc: Global, reader: &mut Reader, lines: &[&[u8]]) -> Result<(),
 
 /// Reads a lab, or tells its first fault with its line and kind.
 pub fn read_lab(alloc: Global, bytes: &[u8]) -> Result<Vec<Step>, LabStop>
-    ensures { Gives (λ steps. steps.items) result (lab_of bytes.now) }
+    ensures { LabGives (λ steps. steps.items) result (lab_of bytes.now) }
 {
     if bytes.len() > MOST_LAB_BYTES {
         return Err(fault(0, LabKind::TooLong));

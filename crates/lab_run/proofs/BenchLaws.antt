@@ -23,8 +23,8 @@ use Rattle.lab_plain.specs.declared.said.Said.{Said}
 use Rattle.lab_plain.specs.Scenes.{CoreScene}
 use Rattle.lab_plain.specs.declared.said.Said.TheVariants.{Begins}
 use Rattle.lab_plain.specs.declared.said.Stopped.{Stopped}
-use Rattle.lab_plain.specs.Meaning.{Done, Holds, Stand, step_done, steps_done, unless_stopped, act_stop, action_done, after_action, begun, core_at, core_done, holder_of, holds_nothing, is_holder, scene_at, with_scene}
-use Rattle.lab_run.specs.Turns.{IsKept, IsLabSetup, IsReady, CoreTurned, memory_in, scene_of}
+use Rattle.lab_plain.specs.Meaning.{Done, CoreHolds, Stand, step_done, steps_done, unless_stopped, act_stop, action_done, after_action, with_line_begun, core_at, core_done, holder_of, holds_nothing, is_holder, scene_at, with_scene}
+use Rattle.lab_run.specs.Turns.{MadeHeapAccesses, IsLabSetup, MayGoOn, CoreTurned, memory_in, scene_of}
 use Rattle.lab_run.specs.Stands.{IsBench, holds_of, record_at, stand_of}
 use Rattle.lab_run.proofs.TurnLaws.{rank_kept, setup_kept}
 
@@ -57,7 +57,7 @@ record_turned chip k r = ap (λ (l : List RankEvent). records_of chip.setup l r)
 
 -- ---- another turn
 
-pub bench_turned : (chip : LabChipView) (k : ℕ) (cores : List Holds) (holders : List (Option ℕ)) → IsBench chip cores holders → IsBench (with_turn chip k) cores holders
+pub bench_turned : (chip : LabChipView) (k : ℕ) (cores : List CoreHolds) (holders : List (Option ℕ)) → IsBench chip cores holders → IsBench (with_turn chip k) cores holders
 bench_turned chip k cores holders bench = record {
   setup = bench.setup;
   ranks = bench.ranks;
@@ -73,22 +73,22 @@ bench_turned chip k cores holders bench = record {
 pub core_there : (cores : List Private) (me : ℕ) (d : Private) → me < length cores → core_at (map holds_of cores) me ≡ holds_of (slice_index_or cores me d)
 core_there cores me d below = get_or-map holds_of cores me d holds_nothing below
 
-pub ready_there : (chip : LabChipView) (cores : List Holds) (holders : List (Option ℕ)) (core : Private) → IsBench chip cores holders → chip.rank < 48 → core_at cores chip.rank ≡ holds_of core
-    → IsReady core chip
+pub ready_there : (chip : LabChipView) (cores : List CoreHolds) (holders : List (Option ℕ)) (core : Private) → IsBench chip cores holders → chip.rank < 48 → core_at cores chip.rank ≡ holds_of core
+    → MayGoOn core chip
 ready_there chip cores holders core bench below is = record {
   setup = bench.setup;
   below = below;
   idle = sym (ap (λ (x : Record). x.stage) (record_own chip)) ∙ bench.idle chip.rank below;
-  awaits = subst (λ (h : Holds). AwaitsHeap chip.setup h.out) is (bench.awaits chip.rank below);
+  awaits = subst (λ (h : CoreHolds). AwaitsHeap chip.setup h.out) is (bench.awaits chip.rank below);
 }
 
-core_here : (cores : List Holds) (me : ℕ) (h : Holds) → me < length cores → core_at (slice_set cores me h) me ≡ h
+core_here : (cores : List CoreHolds) (me : ℕ) (h : CoreHolds) → me < length cores → core_at (slice_set cores me h) me ≡ h
 core_here cores me h below = get_or-set_same cores me h holds_nothing below
 
-core_elsewhere : (cores : List Holds) (me k : ℕ) (h : Holds) → k ≢ me → core_at (slice_set cores me h) k ≡ core_at cores k
+core_elsewhere : (cores : List CoreHolds) (me k : ℕ) (h : CoreHolds) → k ≢ me → core_at (slice_set cores me h) k ≡ core_at cores k
 core_elsewhere cores me k h other = get_or-set_other cores me k h holds_nothing other
 
-pub bench_kept : (old new : LabChipView) (cores : List Holds) (holders : List (Option ℕ)) (d : Private) → IsBench old cores holders → old.rank < 48 → IsKept old new → IsReady d new
+pub bench_kept : (old new : LabChipView) (cores : List CoreHolds) (holders : List (Option ℕ)) (d : Private) → IsBench old cores holders → old.rank < 48 → MadeHeapAccesses old new → MayGoOn d new
     → IsBench new (slice_set cores old.rank (holds_of d)) holders
 bench_kept old new cores holders d bench below kept ready =
     let setup = setup_kept old new kept in
@@ -102,9 +102,9 @@ bench_kept old new cores holders d bench below kept ready =
           (λ t is. ap (λ (k : ℕ). (record_at new k).stage) is ∙ ap (λ (x : Record). x.stage) here ∙ ready.idle)
           (λ t ne. ap (λ (x : Record). x.stage) (record_other old new r kept.turn ne) ∙ bench.idle r low);
       awaits = λ r low. same_or_other (AwaitsHeap new.setup (core_at (slice_set cores old.rank (holds_of d)) r).out) r old.rank
-          (λ t is. subst (λ (h : Holds). AwaitsHeap new.setup h.out) (sym (ap (core_at (slice_set cores old.rank (holds_of d))) is ∙ core_here cores old.rank (holds_of d) (omega (arith, bench.ranks, below)))) ready.awaits)
+          (λ t is. subst (λ (h : CoreHolds). AwaitsHeap new.setup h.out) (sym (ap (core_at (slice_set cores old.rank (holds_of d))) is ∙ core_here cores old.rank (holds_of d) (omega (arith, bench.ranks, below)))) ready.awaits)
           (λ t ne. subst (λ (s : SetupView). AwaitsHeap s (core_at (slice_set cores old.rank (holds_of d)) r).out) (sym setup)
-          (subst (λ (h : Holds). AwaitsHeap old.setup h.out) (sym (core_elsewhere cores old.rank r (holds_of d) ne)) (bench.awaits r low)));
+          (subst (λ (h : CoreHolds). AwaitsHeap old.setup h.out) (sym (core_elsewhere cores old.rank r (holds_of d) ne)) (bench.awaits r low)));
       held = λ r k low there. same_or_other (is_some ((record_at new r).held k) ≡ is_holder r (holder_of holders k)) r old.rank
           (λ t is. subst (λ (j : ℕ). is_some ((record_at new j).held k) ≡ is_holder j (holder_of holders k)) (sym is)
           (ap (λ (x : Record). is_some (x.held k)) here ∙ (λ i. is_some (kept.held i k)) ∙ sym (ap (λ (x : Record). is_some (x.held k)) (record_own old)) ∙ bench.held old.rank k below there))
@@ -137,7 +137,7 @@ act_by line act old new cores c d holders said told stop bench below value turne
     record {
       stand = stand_after (after_action old.rank act) old new cores c d holders said told old.rank here turned;
       stopped = stops ∙ sym (ap (act_stop line old.rank act) scene);
-      stands = subst (λ (l : List Holds). IsBench new l holders) (sym (map-set holds_of cores old.rank d)) (bench_kept old new (map holds_of cores) holders d bench below turned.kept turned.ready);
+      stands = subst (λ (l : List CoreHolds). IsBench new l holders) (sym (map-set holds_of cores old.rank d)) (bench_kept old new (map holds_of cores) holders d bench below turned.kept turned.ready);
     }
 
 pub act_done : (line me : ℕ) (act : Action) (old new : LabChipView) (cores : List Private) (c d : Private) (holders : List (Option ℕ)) (said told : List Said) (stop : Option Stopped)
@@ -149,7 +149,7 @@ act_done line me act old new cores c d holders said told stop bench turn below v
 
 -- the core that is to act may go on
 pub act_ready : (chip : LabChipView) (cores : List Private) (holders : List (Option ℕ)) (core : Private) (me : ℕ) → IsBench chip (map holds_of cores) holders → chip.rank ≡ me → me < 48
-    → core ≡ slice_index_or cores me core → IsReady core chip
+    → core ≡ slice_index_or cores me core → MayGoOn core chip
 act_ready chip cores holders core me bench turn below value =
     ready_there chip (map holds_of cores) holders core bench (subst (λ (r : ℕ). r < 48) (sym turn) below)
     (ap (core_at (map holds_of cores)) turn ∙ core_there cores me core (omega (arith, length-map cores holds_of, bench.ranks, below)) ∙ ap holds_of (sym value))
@@ -157,10 +157,10 @@ act_ready chip cores holders core me bench turn below value =
 -- ---- a step begins
 
 pub begun_stand : (chip new : LabChipView) (k : ℕ) (cores : List Private) (holders : List (Option ℕ)) (said told : List Said) (step : Step) → new ≡ with_turn chip k
-    → told ≡ said ++ Begins step.line step.text ∷ [] → stand_of new cores holders told ≡ begun step (stand_of chip cores holders said)
+    → told ≡ said ++ Begins step.line step.text ∷ [] → stand_of new cores holders told ≡ with_line_begun step (stand_of chip cores holders said)
 begun_stand chip new k cores holders said told step is prints = λ i. record { memory = (ap memory_in is ∙ memory_turned chip k) i; cores = map holds_of cores; holders = holders; said = prints i }
 
-pub begun_bench : (chip new : LabChipView) (k : ℕ) (cores : List Holds) (holders : List (Option ℕ)) → new ≡ with_turn chip k → IsBench chip cores holders → IsBench new cores holders
+pub begun_bench : (chip new : LabChipView) (k : ℕ) (cores : List CoreHolds) (holders : List (Option ℕ)) → new ≡ with_turn chip k → IsBench chip cores holders → IsBench new cores holders
 begun_bench chip new k cores holders is bench = subst (λ (c : LabChipView). IsBench c cores holders) (sym is) (bench_turned chip k cores holders bench)
 
 -- an action that is none on a register

@@ -7,7 +7,7 @@ use Rattle.scc_proto.specs.Words.{Memory}
 use Rattle.scc_proto.specs.Ports.{Sight, Did}
 use Rattle.scc_proto.proofs.PortLaws.{did_nothing}
 use Rattle.line_cache.specs.declared.cache.Entry.{Entry}
-use Rattle.line_cache.specs.Lines.{IsCache, IsPlaceOf, filled, held, line_noted}
+use Rattle.line_cache.specs.Lines.{IsCache, IsPlaceOf, with_filled_line, cached_words, line_noted}
 use Rattle.write_combine.specs.declared.combiner.Out.{Out}
 use Rattle.write_combine.specs.Combining.{handed_out}
 use Rattle.put_get.specs.Accesses.{loads_of, stores_of, stores_of_line, whole_line}
@@ -18,7 +18,7 @@ use Rattle.lab_chip.specs.Chips.{of_rank_all}
 use Rattle.lab_plain.specs.declared.said.Said.{Said}
 use Rattle.lab_plain.specs.declared.said.Said.TheVariants.{Answers, Loads, Stores}
 use Rattle.lab_plain.specs.declared.said.Source.TheVariants.{Cache, Words}
-use Rattle.lab_plain.specs.Scenes.{after_all, after_flushing, after_invalidate, answer, is_evicted, left_by, line_in, line_loaded, line_put, line_stored, say_evicted, say_got, say_stores, waiting_word, word_fetched, word_read, word_read_by, word_written}
+use Rattle.lab_plain.specs.Scenes.{after_all, after_flushing, after_invalidate, answer, is_evicted, lines_after_evictor, line_in, line_loaded, line_put, line_stored, say_evicted, say_got, say_stores, waiting_word, word_fetched, word_read, word_read_by, word_written}
 use Rattle.lab_run.specs.CoreCalls.{AreSteps, CoreAt, IsCall, IsLineGot, IsWordRead, WereStepsOf, scene_over}
 use Rattle.lab_run.proofs.EvictLaws.{cache_filled, leaves_some, line_self}
 use Rattle.lab_run.proofs.HeapEvents.{four_words}
@@ -84,12 +84,12 @@ loaded_words : (memory : Memory) (line : LineAt) (words : List ℕ) → AreSteps
 loaded_words memory line words steps long = four_words words long ∙ (λ i. sym steps.0 i ∷ sym steps.1.0 i ∷ sym steps.1.1.0 i ∷ sym steps.1.1.1.0 i ∷ [])
 
 -- a line came in, and the line that is named left, or none
-loaded_call : (me : ℕ) (memory : Memory) (old new : CoreAt) (p : WordAt) (words : List ℕ) (evict : Option LineAt) → old.core.out ≡ None → held old.core.lines (line_of_word p) ≡ None
+loaded_call : (me : ℕ) (memory : Memory) (old new : CoreAt) (p : WordAt) (words : List ℕ) (evict : Option LineAt) → old.core.out ≡ None → cached_words old.core.lines (line_of_word p) ≡ None
     → Did old.port (loads_of (line_of_word p) words) new.port → words ≡ line_in memory (line_of_word p)
-    → new.core.lines ≡ left_by evict (filled old.core.lines (line_of_word p) (line_in memory (line_of_word p))) → new.core.out ≡ old.core.out → IsCall (word_read me p evict) me memory old new
+    → new.core.lines ≡ lines_after_evictor evict (with_filled_line old.core.lines (line_of_word p) (line_in memory (line_of_word p))) → new.core.out ≡ old.core.out → IsCall (word_read me p evict) me memory old new
 loaded_call me memory old new p words evict empty none did same lines out =
     let line = line_of_word p in
-    let came = filled old.core.lines line (line_in memory line) in
+    let came = with_filled_line old.core.lines line (line_in memory line) in
     let scene = scene_over memory old [] in
     let said : List Said = Loads me line (line_in memory line) ∷ Answers p (slice_index (line_in memory line) p.word) Words ∷ say_evicted evict came in
     record {
@@ -107,7 +107,7 @@ line_there [] at below = absurd (omega (arith, below))
 line_there (e ∷ es) zero below = (e.line, (refl, below))
 line_there (e ∷ es) (suc at) below = let rest = line_there es at (omega (arith, below)) in (rest.0, (rest.1.0, below))
 
-loaded_answer : (memory : Memory) (old : CoreAt) (p : WordAt) (words : List ℕ) → old.core.out ≡ None → held old.core.lines (line_of_word p) ≡ None → words ≡ line_in memory (line_of_word p)
+loaded_answer : (memory : Memory) (old : CoreAt) (p : WordAt) (words : List ℕ) → old.core.out ≡ None → cached_words old.core.lines (line_of_word p) ≡ None → words ≡ line_in memory (line_of_word p)
     → slice_index words p.word ≡ answer p (scene_over memory old [])
 loaded_answer memory old p words empty none same =
     ap (λ (l : List ℕ). slice_index l p.word) same
@@ -134,18 +134,18 @@ fetch_read me memory old new p words steps cache empty (Loaded none long did (Ke
     let same = loaded_words memory (line_of_word p) words (steps (loads_of (line_of_word p) words) did) long in
     record {
       evict = None;
-      call = loaded_call me memory old new p words None empty none did same (ap (λ (x : Private). x.lines) is ∙ ap (filled old.core.lines (line_of_word p)) same) (ap (λ (x : Private). x.out) is);
+      call = loaded_call me memory old new p words None empty none did same (ap (λ (x : Private). x.lines) is ∙ ap (with_filled_line old.core.lines (line_of_word p)) same) (ap (λ (x : Private). x.out) is);
       same = loaded_answer memory old p words empty none same;
     }
 fetch_read me memory old new p words steps cache empty (Loaded none long did (Dropped at below given is)) =
     let line = line_of_word p in
     let same = loaded_words memory line words (steps (loads_of line words) did) long in
-    let there = line_there (filled old.core.lines line words) at below in
-    let gone = leaves_some (Some there.0) (filled old.core.lines line words) at (cache_filled old.core.lines line words cache none).distinct there.1 in
+    let there = line_there (with_filled_line old.core.lines line words) at below in
+    let gone = leaves_some (Some there.0) (with_filled_line old.core.lines line words) at (cache_filled old.core.lines line words cache none).distinct there.1 in
     record {
       evict = Some there.0;
       call = loaded_call me memory old new p words (Some there.0) empty none did same
-          (ap (λ (x : Private). x.lines) is ∙ gone.lines ∙ ap (λ (l : List ℕ). left_by (Some there.0) (filled old.core.lines line l)) same) (ap (λ (x : Private). x.out) is);
+          (ap (λ (x : Private). x.lines) is ∙ gone.lines ∙ ap (λ (l : List ℕ). lines_after_evictor (Some there.0) (with_filled_line old.core.lines line l)) same) (ap (λ (x : Private). x.out) is);
       same = loaded_answer memory old p words empty none same;
     }
 
@@ -166,15 +166,15 @@ fetch_evictions s t c d line words (Loaded none long did fills) = fills_eviction
 record FreshLine (s : Sight) (c : Private) (line : LineAt) (words : List ℕ) (t : Sight) (d : Private) : Type 0 where
   long : length words ≡ 4
   did : Did s (loads_of line words) t
-  lines : d.lines ≡ filled [] line words
+  lines : d.lines ≡ with_filled_line [] line words
   out : d.out ≡ c.out
 
 fresh_line : (s t : Sight) (c d : Private) (line : LineAt) (words : List ℕ) → c.lines ≡ [] → d.evictions ≡ c.evictions → Fetch s c line words t d → FreshLine s c line words t d
-fresh_line s t c d line words none same (Held found port is) = no_words (held c.lines line) words (ap (λ (l : List Entry). held l line) none) found
+fresh_line s t c d line words none same (Held found port is) = no_words (cached_words c.lines line) words (ap (λ (l : List Entry). cached_words l line) none) found
 fresh_line s t c d line words none same (Loaded new long did (Kept given is)) = record {
   long = long;
   did = did;
-  lines = ap (λ (x : Private). x.lines) is ∙ ap (λ (l : List Entry). filled l line words) none;
+  lines = ap (λ (x : Private). x.lines) is ∙ ap (λ (l : List Entry). with_filled_line l line words) none;
   out = ap (λ (x : Private). x.out) is;
 }
 fresh_line s t c d line words none same (Loaded new long did (Dropped at below given is)) =
@@ -186,15 +186,15 @@ record SameLine (s : Sight) (c : Private) (line : LineAt) (words kept : List ℕ
   port : t ≡ s
   core : d ≡ c
 
-same_line_read : (s t : Sight) (c d : Private) (line : LineAt) (words kept : List ℕ) → c.lines ≡ filled [] line kept → Fetch s c line words t d → SameLine s c line words kept t d
+same_line_read : (s t : Sight) (c d : Private) (line : LineAt) (words kept : List ℕ) → c.lines ≡ with_filled_line [] line kept → Fetch s c line words t d → SameLine s c line words kept t d
 same_line_read s t c d line words kept lines fetch = by fetch
   where
-    there : held c.lines line ≡ Some kept
-    there = ap (λ (l : List Entry). held l line) lines ∙ ap (λ (b : Bool). if b then Some kept else None) (line_self line)
+    there : cached_words c.lines line ≡ Some kept
+    there = ap (λ (l : List Entry). cached_words l line) lines ∙ ap (λ (b : Bool). if b then Some kept else None) (line_self line)
 
     by : Fetch s c line words t d → SameLine s c line words kept t d
     by (Held found port is) = record { words_are = ap (λ (o : Option (List ℕ)). unwrap_or o words) (sym found ∙ there); port = port; core = is }
-    by (Loaded none long did fills) = no_words (held c.lines line) kept none there
+    by (Loaded none long did fills) = no_words (cached_words c.lines line) kept none there
 
 -- the words of a line that was read so
 module _ (s : Sight) (c : Private) (line : LineAt) (words : List ℕ) (t : Sight) (d : Private) (empty : c.lines ≡ []) (long : length words ≡ 4) (same : d.evictions ≡ c.evictions) (reads : ReadsLine s c line words t d) where
@@ -235,7 +235,7 @@ module _ (s : Sight) (c : Private) (line : LineAt) (words : List ℕ) (t : Sight
   line_read_once = record {
     long = long;
     did = subst (λ (l : List ℕ). Did s (loads_of line l) t) (sym words_same) (subst (λ (x : Sight). Did s (loads_of line reads.word0.words) x) (sym (fourth.port ∙ third.port ∙ second.port)) first.did);
-    lines = ap (λ (x : Private). x.lines) (fourth.core ∙ third.core ∙ second.core) ∙ first.lines ∙ ap (filled [] line) (sym words_same);
+    lines = ap (λ (x : Private). x.lines) (fourth.core ∙ third.core ∙ second.core) ∙ first.lines ∙ ap (with_filled_line [] line) (sym words_same);
     out = ap (λ (x : Private). x.out) (fourth.core ∙ third.core ∙ second.core) ∙ first.out;
   }
 
@@ -248,7 +248,7 @@ get_call me memory old new line words steps empty long same gets =
     let did : Did old.port (loads_of line words) new.port = subst (λ (x : Sight). Did old.port (loads_of line words) x) (sym reads.3.0) once.did in
     let are = loaded_words memory line words (steps (loads_of line words) did) long in
     let said : List Said = say_got me line (line_in memory line) in
-    let lines : new.core.lines ≡ filled [] line (line_in memory line) = ap (λ (x : Private). x.lines) core ∙ once.lines ∙ ap (filled [] line) are in
+    let lines : new.core.lines ≡ with_filled_line [] line (line_in memory line) = ap (λ (x : Private). x.lines) core ∙ once.lines ∙ ap (with_filled_line [] line) are in
     let out : new.core.out ≡ None = ap (λ (x : Private). x.out) core ∙ once.out ∙ empty in
     record {
       call = record {

@@ -5,11 +5,11 @@ use Rattle.scc_base.specs.Places.{LineAt, same_line}
 use Rattle.std.proofs.lemmas.Bool.Decides.{nat_tests}
 use Rattle.scc_proto.proofs.Tests.{eqb_same, true_not_false}
 use Rattle.line_cache.specs.declared.cache.Entry.{Entry}
-use Rattle.line_cache.specs.Lines.{AreDistinct, IsCache, IsPlaceOf, filled, held, most_lines}
+use Rattle.line_cache.specs.Lines.{AreDistinct, IsCache, IsPlaceOf, with_filled_line, cached_words, most_lines}
 use Rattle.line_cache.specs.Eviction.{MayAnswer, answers_of}
 use Rattle.line_cache.proofs.LineLemmas.{cache-push, cache-remove, held-push, held-remove, not_held, same_line-is}
 use Rattle.put_get.specs.Cores.{Private, Fills, Kept, Dropped}
-use Rattle.lab_plain.specs.Scenes.{is_evicted, left_by, without_line}
+use Rattle.lab_plain.specs.Scenes.{is_evicted, lines_after_evictor, without_line}
 use Rattle.lab_run.specs.Evicting.{IsPlaceIn, named_answer}
 
 at_place : (answer : ℕ → Option ℕ) (from n k : ℕ) → k < n → slice_get (map answer (range_with_len from n)) k ≡ Some (answer (from + k))
@@ -49,14 +49,14 @@ less : (a b : ℕ) → a ≢ b → a ≤ b → a < b
 less a b other few = omega (arith, other, few)
 
 -- entries that are kept in a new place
-cache_front : (es : List Entry) (line : LineAt) (full : Bool) → (length es == most_lines) ≡ full → IsCache es → held es line ≡ None
-    → (length (if full then drop 1 es else es) < most_lines) × IsCache (if full then drop 1 es else es) × (held (if full then drop 1 es else es) line ≡ None)
+cache_front : (es : List Entry) (line : LineAt) (full : Bool) → (length es == most_lines) ≡ full → IsCache es → cached_words es line ≡ None
+    → (length (if full then drop 1 es else es) < most_lines) × IsCache (if full then drop 1 es else es) × (cached_words (if full then drop 1 es else es) line ≡ None)
 cache_front es line false not_full cache new =
     (omega (arith, less (length es) most_lines (λ same. true_not_false (sym (ap (λ (n : ℕ). n == most_lines) same ∙ eqb_same most_lines) ∙ not_full)) cache.few), cache, new)
 cache_front [] line true is_full cache new = (omega arith, cache, new)
 cache_front (x ∷ es) line true is_full cache new = (omega (arith, cache.few), cache-remove (x ∷ es) 0 cache, held-remove (x ∷ es) 0 line new)
 
-pub cache_filled : (es : List Entry) (line : LineAt) (words : List ℕ) → IsCache es → held es line ≡ None → IsCache (filled es line words)
+pub cache_filled : (es : List Entry) (line : LineAt) (words : List ℕ) → IsCache es → cached_words es line ≡ None → IsCache (with_filled_line es line words)
 cache_filled es line words cache new =
     let front = cache_front es line (length es == most_lines) refl cache new in
     cache-push (if length es == most_lines then drop 1 es else es) (record { line = line; words = words }) front.0 front.1 front.2
@@ -67,28 +67,28 @@ kept_first line e es other = ap (λ (b : Bool). if not b then e ∷ without_line
 left_first : (line : LineAt) (e : Entry) (es : List Entry) → same_line e.line line ≡ true → without_line line (e ∷ es) ≡ without_line line es
 left_first line e es same = ap (λ (b : Bool). if not b then e ∷ without_line line es else without_line line es) same
 
-without_none : (line : LineAt) (es : List Entry) → held es line ≡ None → without_line line es ≡ es
+without_none : (line : LineAt) (es : List Entry) → cached_words es line ≡ None → without_line line es ≡ es
 without_none line [] none = refl
 without_none line (e ∷ es) none = let n = not_held e es line none in kept_first line e es n.0 ∙ ap (λ (l : List Entry). e ∷ l) (without_none line es n.1)
 
 pub line_self : (line : LineAt) → same_line line line ≡ true
 line_self line = grind (arith, nat_tests)
 
-some_held : (es : List Entry) (line : LineAt) (at : ℕ) → IsPlaceOf es line (Some at) → is_some (held es line) ≡ true
+some_held : (es : List Entry) (line : LineAt) (at : ℕ) → IsPlaceOf es line (Some at) → is_some (cached_words es line) ≡ true
 some_held [] line at place = absurd (omega (arith, place.1))
-some_held (e ∷ es) line zero place = ap (λ (b : Bool). is_some (if b then Some e.words else held es line)) (ap (λ (l : LineAt). same_line l line) place.0 ∙ line_self line)
+some_held (e ∷ es) line zero place = ap (λ (b : Bool). is_some (if b then Some e.words else cached_words es line)) (ap (λ (l : LineAt). same_line l line) place.0 ∙ line_self line)
 some_held (e ∷ es) line (suc at) place = by (same_line e.line line) (some_held es line at (place.0, omega (arith, place.1)))
   where
-    by : (b : Bool) → is_some (held es line) ≡ true → is_some (if b then Some e.words else held es line) ≡ true
+    by : (b : Bool) → is_some (cached_words es line) ≡ true → is_some (if b then Some e.words else cached_words es line) ≡ true
     by true some = refl
     by false some = some
 
 -- where a line has a place its words are held
-pub words_held : (es : List Entry) (line : LineAt) (at : Option ℕ) → is_some at ≡ true → IsPlaceOf es line at → (words : List ℕ) × (held es line ≡ Some words)
+pub words_held : (es : List Entry) (line : LineAt) (at : Option ℕ) → is_some at ≡ true → IsPlaceOf es line at → (words : List ℕ) × (cached_words es line ≡ Some words)
 words_held es line None some place = absurd (true_not_false (sym some))
-words_held es line (Some at) some place = by (held es line) refl (some_held es line at place)
+words_held es line (Some at) some place = by (cached_words es line) refl (some_held es line at place)
   where
-    by : (o : Option (List ℕ)) → held es line ≡ o → is_some (held es line) ≡ true → (words : List ℕ) × (held es line ≡ Some words)
+    by : (o : Option (List ℕ)) → cached_words es line ≡ o → is_some (cached_words es line) ≡ true → (words : List ℕ) × (cached_words es line ≡ Some words)
     by None is there = absurd (true_not_false (sym there ∙ ap (λ (x : Option (List ℕ)). is_some x) is))
     by (Some words) is there = (words, is)
 
@@ -98,18 +98,18 @@ none_some o none some = true_not_false (sym some ∙ ap (λ (x : Option (List �
 removed_is : (es : List Entry) (line : LineAt) (at : ℕ) → AreDistinct es → IsPlaceOf es line (Some at) → remove es at ≡ without_line line es
 removed_is [] line at distinct place = absurd (omega (arith, place.1))
 removed_is (e ∷ es) line zero distinct place =
-    sym (left_first line e es (ap (λ (l : LineAt). same_line l line) place.0 ∙ line_self line) ∙ without_none line es (subst (λ (l : LineAt). held es l ≡ None) place.0 distinct.0))
+    sym (left_first line e es (ap (λ (l : LineAt). same_line l line) place.0 ∙ line_self line) ∙ without_none line es (subst (λ (l : LineAt). cached_words es l ≡ None) place.0 distinct.0))
 removed_is (e ∷ es) line (suc at) distinct place = by (same_line e.line line) refl
     (removed_is es line at distinct.1 (place.0, omega (arith, place.1))) (some_held es line at (place.0, omega (arith, place.1)))
   where
-    by : (b : Bool) → same_line e.line line ≡ b → remove es at ≡ without_line line es → is_some (held es line) ≡ true → e ∷ remove es at ≡ without_line line (e ∷ es)
-    by true same rest some = absurd (none_some (held es line) (subst (λ (l : LineAt). held es l ≡ None) (same_line-is e.line line same) distinct.0) some)
+    by : (b : Bool) → same_line e.line line ≡ b → remove es at ≡ without_line line es → is_some (cached_words es line) ≡ true → e ∷ remove es at ≡ without_line line (e ∷ es)
+    by true same rest some = absurd (none_some (cached_words es line) (subst (λ (l : LineAt). cached_words es l ≡ None) (same_line-is e.line line same) distinct.0) some)
     by false other rest some = ap (λ (l : List Entry). e ∷ l) rest ∙ sym (kept_first line e es other)
 
 -- ---- a fill
 
 pub record Leaves (evict : Option LineAt) (es : List Entry) (at : Option ℕ) (now : List Entry) : Type 0 where
-  pub lines : now ≡ left_by evict es
+  pub lines : now ≡ lines_after_evictor evict es
   pub left : is_some at ≡ is_evicted evict es
 
 leaves_none : (evict : Option LineAt) (es : List Entry) → IsPlaceIn evict es None → Leaves evict es None es
@@ -132,24 +132,24 @@ named_within (Some line) es (Some at) place = ap (λ (b : Bool). if b then Some 
     within below = grind (arith, nat_tests)
 
 -- a line came in, and the line that the evictor names left, if it was cached then
-pub filled_left : (evict : Option LineAt) (at : Option ℕ) (c : Private) (line : LineAt) (words : List ℕ) (d : Private) → IsCache c.lines → held c.lines line ≡ None
-    → IsPlaceIn evict (filled c.lines line words) at → c.answers ≡ answers_of (named_answer (record { at = at; count = 0 })) → Fills c line words d
-    → Leaves evict (filled c.lines line words) at d.lines × (d.out ≡ c.out)
+pub filled_left : (evict : Option LineAt) (at : Option ℕ) (c : Private) (line : LineAt) (words : List ℕ) (d : Private) → IsCache c.lines → cached_words c.lines line ≡ None
+    → IsPlaceIn evict (with_filled_line c.lines line words) at → c.answers ≡ answers_of (named_answer (record { at = at; count = 0 })) → Fills c line words d
+    → Leaves evict (with_filled_line c.lines line words) at d.lines × (d.out ≡ c.out)
 filled_left evict at c line words d cache new place answers (Kept given is) =
     let came = cache_filled c.lines line words cache new in
-    let none : None ≡ at = answered_so _ (length (filled c.lines line words)) None came.few (subst (λ (table : List (Option ℕ)). MayAnswer table (length (filled c.lines line words)) None) answers given)
-    ∙ named_within evict (filled c.lines line words) at place in (
-      subst (λ (now : List Entry). Leaves evict (filled c.lines line words) at now) (sym (ap (λ (x : Private). x.lines) is))
-          (subst (λ (a : Option ℕ). Leaves evict (filled c.lines line words) a (filled c.lines line words)) none
-          (leaves_none evict (filled c.lines line words) (subst (λ (a : Option ℕ). IsPlaceIn evict (filled c.lines line words) a) (sym none) place))),
+    let none : None ≡ at = answered_so _ (length (with_filled_line c.lines line words)) None came.few (subst (λ (table : List (Option ℕ)). MayAnswer table (length (with_filled_line c.lines line words)) None) answers given)
+    ∙ named_within evict (with_filled_line c.lines line words) at place in (
+      subst (λ (now : List Entry). Leaves evict (with_filled_line c.lines line words) at now) (sym (ap (λ (x : Private). x.lines) is))
+          (subst (λ (a : Option ℕ). Leaves evict (with_filled_line c.lines line words) a (with_filled_line c.lines line words)) none
+          (leaves_none evict (with_filled_line c.lines line words) (subst (λ (a : Option ℕ). IsPlaceIn evict (with_filled_line c.lines line words) a) (sym none) place))),
       ap (λ (x : Private). x.out) is,
     )
 filled_left evict at c line words d cache new place answers (Dropped k below given is) =
     let came = cache_filled c.lines line words cache new in
-    let some : Some k ≡ at = answered_so _ (length (filled c.lines line words)) (Some k) came.few (subst (λ (table : List (Option ℕ)). MayAnswer table (length (filled c.lines line words)) (Some k)) answers given)
-    ∙ named_within evict (filled c.lines line words) at place in (
-      subst (λ (now : List Entry). Leaves evict (filled c.lines line words) at now) (sym (ap (λ (x : Private). x.lines) is))
-          (subst (λ (a : Option ℕ). Leaves evict (filled c.lines line words) a (remove (filled c.lines line words) k)) some
-          (leaves_some evict (filled c.lines line words) k came.distinct (subst (λ (a : Option ℕ). IsPlaceIn evict (filled c.lines line words) a) (sym some) place))),
+    let some : Some k ≡ at = answered_so _ (length (with_filled_line c.lines line words)) (Some k) came.few (subst (λ (table : List (Option ℕ)). MayAnswer table (length (with_filled_line c.lines line words)) (Some k)) answers given)
+    ∙ named_within evict (with_filled_line c.lines line words) at place in (
+      subst (λ (now : List Entry). Leaves evict (with_filled_line c.lines line words) at now) (sym (ap (λ (x : Private). x.lines) is))
+          (subst (λ (a : Option ℕ). Leaves evict (with_filled_line c.lines line words) a (remove (with_filled_line c.lines line words) k)) some
+          (leaves_some evict (with_filled_line c.lines line words) k came.distinct (subst (λ (a : Option ℕ). IsPlaceIn evict (with_filled_line c.lines line words) a) (sym some) place))),
       ap (λ (x : Private). x.out) is,
     )

@@ -20,7 +20,7 @@ use Rattle.put_get.specs.HeapStores.{IsHeapLine, AwaitsHeap}
 use Rattle.lab_chip.specs.Chips.{LabChipView, all_events, of_rank_all, of_rank, lab_sight}
 use Rattle.lab_chip.proofs.ChipLaws.{chip_did, memory_from-append, run_left}
 use Rattle.lab_plain.specs.Scenes.{after_all, line_in}
-use Rattle.lab_run.specs.Turns.{memory_in, IsKept}
+use Rattle.lab_run.specs.Turns.{memory_in, MadeHeapAccesses}
 
 abbrev IsHeapAccess : SetupView → Access → WordAt → Type 0
 IsHeapAccess s Load place = IsHeapLine s (line_of_word place)
@@ -100,7 +100,7 @@ memory_did old new events did =
     ap (memory_from zeros) (all_did old new events did) ∙ memory_from-append zeros (all_events old) (of_rank_all old.rank events) ∙ after_run old.rank events (memory_from zeros (all_events old))
 
 pub record Went (old new : LabChipView) (events : List Event) : Type 0 where
-  pub kept : IsKept old new
+  pub kept : MadeHeapAccesses old new
   pub memory : memory_in new ≡ after_all (memory_in old) events
 
 -- heap accesses of the rank that has its turn, and is in no call

@@ -3,7 +3,7 @@ use Rattle.std.proofs.Common.{◌≡◌, ◌≢◌, ℕ, ◌<◌, ◌⊎◌, inl
 use Rattle.std.proofs.lemmas.List.{get_or-set_other, get_or-set_same, length-set, set-get_or}
 use Rattle.scc_base.specs.Events.{take_of, free_of}
 use Rattle.scc_base.specs.Setups.{SetupView}
-use Rattle.scc_proto.specs.Tables.{put}
+use Rattle.scc_proto.specs.Tables.{table_with}
 use Rattle.scc_proto.specs.Stages.{Idle, FlagWords, Record}
 use Rattle.scc_proto.specs.Words.{Memory, IsRun, IsStep, RankEvent, zeros}
 use Rattle.scc_proto.specs.Ports.{Did, Sight, record_in}
@@ -31,12 +31,12 @@ none_of None none = refl
 none_of (Some x) some = sym some
 
 -- a register that its core does not have may be read, and one that it has may be freed
-pub may_take : (chip : LabChipView) (cores : List meaning.Holds) (holders : List (Option ℕ)) (k : ℕ) → IsBench chip cores holders → chip.rank < 48 → k < 48 → is_holder chip.rank (holder_of holders k) ≡ false
+pub may_take : (chip : LabChipView) (cores : List meaning.CoreHolds) (holders : List (Option ℕ)) (k : ℕ) → IsBench chip cores holders → chip.rank < 48 → k < 48 → is_holder chip.rank (holder_of holders k) ≡ false
     → IsNotHolding (record_in (lab_sight chip)) k
 may_take chip cores holders k bench low below not_own =
     none_of ((record_in (lab_sight chip)).held k) (sym (ap (λ (x : Record). is_some (x.held k)) (record_own chip)) ∙ bench.held chip.rank k low below ∙ not_own)
 
-pub may_free : (chip : LabChipView) (cores : List meaning.Holds) (holders : List (Option ℕ)) (k : ℕ) → IsBench chip cores holders → chip.rank < 48 → k < 48 → is_holder chip.rank (holder_of holders k) ≡ true
+pub may_free : (chip : LabChipView) (cores : List meaning.CoreHolds) (holders : List (Option ℕ)) (k : ℕ) → IsBench chip cores holders → chip.rank < 48 → k < 48 → is_holder chip.rank (holder_of holders k) ≡ true
     → IsHolding (record_in (lab_sight chip)) k
 may_free chip cores holders k bench low below own =
     sym (ap (λ (x : Record). is_some (x.held k)) (record_own chip)) ∙ bench.held chip.rank k low below ∙ own
@@ -53,13 +53,13 @@ holder_there holders k j h other = get_or-set_other holders k j h None other
 -- changed, and nothing else.
 pub record Changed (old new : LabChipView) (k : ℕ) (held : Option FlagWords) (holder : Option ℕ) : Type 0 where
   pub turn : new ≡ record old { own = new.own }
-  pub record_is : record_in (lab_sight new) ≡ record (record_in (lab_sight old)) { held = put (record_in (lab_sight old)).held k held }
-  pub registers : (memory_in new).register ≡ put (memory_in old).register k (held_word holder)
+  pub record_is : record_in (lab_sight new) ≡ record (record_in (lab_sight old)) { held = table_with (record_in (lab_sight old)).held k held }
+  pub registers : (memory_in new).register ≡ table_with (memory_in old).register k (held_word holder)
   pub own : is_some held ≡ is_holder old.rank holder
   pub others : (r : ℕ) → r ≢ old.rank → is_holder r holder ≡ false
 
 -- before it, no other rank has the register
-pub bench_changed : (old new : LabChipView) (cores : List meaning.Holds) (holders : List (Option ℕ)) (k : ℕ) (held : Option FlagWords) (holder : Option ℕ) → IsBench old cores holders → old.rank < 48 → k < 48
+pub bench_changed : (old new : LabChipView) (cores : List meaning.CoreHolds) (holders : List (Option ℕ)) (k : ℕ) (held : Option FlagWords) (holder : Option ℕ) → IsBench old cores holders → old.rank < 48 → k < 48
     → ((r : ℕ) → r ≢ old.rank → is_holder r (holder_of holders k) ≡ false) → Changed old new k held holder → IsBench new cores (slice_set holders k holder)
 bench_changed old new cores holders k held holder bench low below alone changed =
     let setup = ap (λ (c : LabChipView). c.setup) changed.turn in
@@ -77,8 +77,8 @@ bench_changed old new cores holders k held holder bench low below alone changed 
       held = λ r j within there. same_or_other (is_some ((record_at new r).held j) ≡ is_holder r (holder_of (slice_set holders k holder) j)) r old.rank
           (λ t is. subst (λ (q : ℕ). is_some ((record_at new q).held j) ≡ is_holder q (holder_of (slice_set holders k holder) j)) (sym is)
           (ap (λ (x : Record). is_some (x.held j)) (here ∙ changed.record_is)
-          ∙ same_or_other (is_some (put (record_in (lab_sight old)).held k held j) ≡ is_holder old.rank (holder_of (slice_set holders k holder) j)) j k
-          (λ u same. ap (λ (q : ℕ). is_some (put (record_in (lab_sight old)).held k held q)) same ∙ ap (λ (o : Option FlagWords). is_some o) (put_here (record_in (lab_sight old)).held k held)
+          ∙ same_or_other (is_some (table_with (record_in (lab_sight old)).held k held j) ≡ is_holder old.rank (holder_of (slice_set holders k holder) j)) j k
+          (λ u same. ap (λ (q : ℕ). is_some (table_with (record_in (lab_sight old)).held k held q)) same ∙ ap (λ (o : Option FlagWords). is_some o) (put_here (record_in (lab_sight old)).held k held)
           ∙ changed.own ∙ sym (ap (λ (o : Option ℕ). is_holder old.rank o) (ap (holder_of (slice_set holders k holder)) same ∙ holder_here holders k holder place)))
           (λ u other. ap (λ (o : Option FlagWords). is_some o) (put_there (record_in (lab_sight old)).held k held j other)
           ∙ sym (ap (λ (x : Record). is_some (x.held j)) (record_own old)) ∙ bench.held old.rank j low there ∙ sym (ap (λ (o : Option ℕ). is_holder old.rank o) (holder_there holders k j holder other)))))
@@ -88,8 +88,8 @@ bench_changed old new cores holders k held holder bench low below alone changed 
           (λ u same. ap (λ (q : ℕ). is_holder r (holder_of holders q)) same ∙ alone r ne ∙ sym (changed.others r ne) ∙ sym (ap (λ (o : Option ℕ). is_holder r o) (ap (holder_of (slice_set holders k holder)) same ∙ holder_here holders k holder place)))
           (λ u other. sym (ap (λ (o : Option ℕ). is_holder r o) (holder_there holders k j holder other))));
       registers = λ j there. (λ i. changed.registers i j)
-          ∙ same_or_other (put (memory_in old).register k (held_word holder) j ≡ held_word (holder_of (slice_set holders k holder) j)) j k
-          (λ u same. ap (put (memory_in old).register k (held_word holder)) same ∙ put_here (memory_in old).register k (held_word holder)
+          ∙ same_or_other (table_with (memory_in old).register k (held_word holder) j ≡ held_word (holder_of (slice_set holders k holder) j)) j k
+          (λ u same. ap (table_with (memory_in old).register k (held_word holder)) same ∙ put_here (memory_in old).register k (held_word holder)
           ∙ sym (ap held_word (ap (holder_of (slice_set holders k holder)) same ∙ holder_here holders k holder place)))
           (λ u other. put_there (memory_in old).register k (held_word holder) j other ∙ bench.registers j there ∙ sym (ap held_word (holder_there holders k j holder other)));
     }
@@ -131,7 +131,7 @@ taken_here old new k free did = record {
 }
 
 -- a register that another core has stays as it is
-pub found_taken : (old new : LabChipView) (cores : List meaning.Holds) (holders : List (Option ℕ)) (k : ℕ) → IsBench old cores holders → old.rank < 48 → IsNotHolding (record_in (lab_sight old)) k
+pub found_taken : (old new : LabChipView) (cores : List meaning.CoreHolds) (holders : List (Option ℕ)) (k : ℕ) → IsBench old cores holders → old.rank < 48 → IsNotHolding (record_in (lab_sight old)) k
     → Did (lab_sight old) (take_of k false ∷ []) (lab_sight new) → IsBench new cores holders
 found_taken old new cores holders k bench low free did =
     let turn = turn_did old new (take_of k false ∷ []) did in

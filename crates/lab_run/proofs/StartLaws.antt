@@ -26,7 +26,7 @@ new_stands s lab = record {
   ranks = length-replicate 48 holds_nothing;
   places = length-replicate 48 nobody;
   idle = λ r below. ap (λ (x : Record). x.stage) (record_of-nil s r);
-  awaits = λ r below. subst (λ (h : meaning.Holds). AwaitsHeap s h.out) (sym (get_or-replicate 48 r holds_nothing holds_nothing below)) tt;
+  awaits = λ r below. subst (λ (h : meaning.CoreHolds). AwaitsHeap s h.out) (sym (get_or-replicate 48 r holds_nothing holds_nothing below)) tt;
   held = λ r k low below. ap (λ (x : Record). is_some (x.held k)) (record_of-nil s r) ∙ sym (ap (is_holder r) (get_or-replicate 48 k nobody nobody below));
   registers = λ k below. ap (λ (m : Memory). m.register k) (memory_new s) ∙ sym (ap held_word (get_or-replicate 48 k nobody nobody below));
 }
@@ -35,7 +35,7 @@ pub new_bench : (s : SetupView) (chip : LabChipView) (cores : List Private) (hol
     → holders ≡ replicate 48 None → IsBench chip (map holds_of cores) holders
 new_bench s chip cores holders lab is nothing none =
     subst (λ (c : LabChipView). IsBench c (map holds_of cores) holders) (sym is)
-    (subst (λ (l : List meaning.Holds). IsBench (new_chip s 0) l holders) (sym nothing)
+    (subst (λ (l : List meaning.CoreHolds). IsBench (new_chip s 0) l holders) (sym nothing)
     (subst (λ (h : List (Option ℕ)). IsBench (new_chip s 0) (replicate 48 holds_nothing) h) (sym none) (new_stands s lab)))
 
 pub new_stand : (s : SetupView) (chip : LabChipView) (cores : List Private) (holders : List (Option ℕ)) → chip ≡ new_chip s 0 → map holds_of cores ≡ replicate 48 holds_nothing

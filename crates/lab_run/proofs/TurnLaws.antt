@@ -9,13 +9,13 @@ use Rattle.lab_chip.specs.Chips.{LabChipView}
 use Rattle.lab_reader.specs.Places.{IsInHeap}
 use Rattle.lab_plain.specs.declared.said.Said.{Said}
 use Rattle.lab_plain.specs.Scenes.{CoreScene}
-use Rattle.lab_run.specs.Turns.{IsKept, IsLabSetup, IsReady, CoreTurned}
+use Rattle.lab_run.specs.Turns.{MadeHeapAccesses, IsLabSetup, MayGoOn, CoreTurned}
 use Rattle.lab_run.proofs.ToldLaws.{told_both}
 
-pub kept_none : (chip : LabChipView) → IsKept chip chip
+pub kept_none : (chip : LabChipView) → MadeHeapAccesses chip chip
 kept_none chip = record { turn = refl; stage = refl; held = refl; registers = refl }
 
-pub kept_both : (a b c : LabChipView) → IsKept a b → IsKept b c → IsKept a c
+pub kept_both : (a b c : LabChipView) → MadeHeapAccesses a b → MadeHeapAccesses b c → MadeHeapAccesses a c
 kept_both a b c first second = record {
   turn = second.turn ∙ (λ i. record (first.turn i) { own = c.own });
   stage = second.stage ∙ first.stage;
@@ -23,14 +23,14 @@ kept_both a b c first second = record {
   registers = second.registers ∙ first.registers;
 }
 
-pub rank_kept : (a b : LabChipView) → IsKept a b → b.rank ≡ a.rank
+pub rank_kept : (a b : LabChipView) → MadeHeapAccesses a b → b.rank ≡ a.rank
 rank_kept a b kept = ap (λ (c : LabChipView). c.rank) kept.turn
 
-pub setup_kept : (a b : LabChipView) → IsKept a b → b.setup ≡ a.setup
+pub setup_kept : (a b : LabChipView) → MadeHeapAccesses a b → b.setup ≡ a.setup
 setup_kept a b kept = ap (λ (c : LabChipView). c.setup) kept.turn
 
 -- a core is ready after heap accesses, where its buffer holds a heap line or none
-pub ready_after : (c d : Private) (s t : LabChipView) → IsReady c s → IsKept s t → AwaitsHeap s.setup d.out → IsReady d t
+pub ready_after : (c d : Private) (s t : LabChipView) → MayGoOn c s → MadeHeapAccesses s t → AwaitsHeap s.setup d.out → MayGoOn d t
 ready_after c d s t ready kept awaits = record {
   setup = subst (λ (x : SetupView). IsLabSetup x) (sym (setup_kept s t kept)) ready.setup;
   below = subst (λ (r : ℕ). r < 48) (sym (rank_kept s t kept)) ready.below;

@@ -22,7 +22,7 @@ pub record IsNewBench (b : Bench) : Type 0 where
   pub stands : BenchStands b
 
 -- what a step of a lab came to stands on the bench: what it left, and whether the lab stopped there
-pub record HasMade (done : Done) (stopped : Option Stopped) (b : Bench) : Type 0 where
+pub record StandsOnBench (done : Done) (stopped : Option Stopped) (b : Bench) : Type 0 where
   pub stand : bench_stand b ≡ done.stand
   pub stop : stopped ≡ done.stop
   pub stands : BenchStands b

@@ -1,13 +1,13 @@
 -- What the load of a line that is not cached does.
 use Rattle.std.specs.Prelude.{◌≡◌, ◌++◌, Option}
 use Rattle.scc_base.specs.Places.{LineAt}
-use Rattle.line_cache.specs.Lines.{filled}
+use Rattle.line_cache.specs.Lines.{with_filled_line}
 use Rattle.put_get.specs.Accesses.{loads_of}
 use Rattle.put_get.specs.Cores.{Private}
 use Rattle.lab_chip.specs.Chips.{LabChipView, all_events, of_rank_all}
-use Rattle.lab_plain.specs.Scenes.{is_evicted, left_by, line_in}
+use Rattle.lab_plain.specs.Scenes.{is_evicted, lines_after_evictor, line_in}
 use Rattle.lab_run.specs.declared.reads.Loaded.{Loaded}
-use Rattle.lab_run.specs.Turns.{IsKept, IsReady, memory_in}
+use Rattle.lab_run.specs.Turns.{MadeHeapAccesses, MayGoOn, memory_in}
 
 -- A line was loaded: its words are the shared ones, by four loads; it came in, and the named line left, if it was cached then;
 -- the shared words stayed. Seven parameters: what was asked (the line to load, the one to leave), what the load gave, and
@@ -15,10 +15,10 @@ use Rattle.lab_run.specs.Turns.{IsKept, IsReady, memory_in}
 pub record LoadsLine (evict : Option LineAt) (c : Private) (s : LabChipView) (line : LineAt) (loaded : Loaded) (d : Private)
     (t : LabChipView) : Type 0 where
   pub words : loaded.words ≡ line_in (memory_in s) line
-  pub left : loaded.left ≡ is_evicted evict (filled c.lines line (line_in (memory_in s) line))
-  pub lines : d.lines ≡ left_by evict (filled c.lines line (line_in (memory_in s) line))
+  pub left : loaded.left ≡ is_evicted evict (with_filled_line c.lines line (line_in (memory_in s) line))
+  pub lines : d.lines ≡ lines_after_evictor evict (with_filled_line c.lines line (line_in (memory_in s) line))
   pub memory : memory_in t ≡ memory_in s
   pub makes : all_events t ≡ all_events s ++ of_rank_all s.rank (loads_of line loaded.words)
   pub out : d.out ≡ c.out
-  pub ready : IsReady d t
-  pub kept : IsKept s t
+  pub ready : MayGoOn d t
+  pub kept : MadeHeapAccesses s t

@@ -7,14 +7,14 @@ use Rattle.put_get.specs.Cores.{Private}
 use Rattle.put_get.specs.HeapStores.{AwaitsHeap}
 use Rattle.lab_chip.specs.Chips.{LabChipView, all_events}
 use Rattle.lab_plain.specs.declared.said.Said.{Said}
-use Rattle.lab_plain.specs.Meaning.{Done, Holds, Stand, core_at, holder_of, holds_nothing, is_holder}
+use Rattle.lab_plain.specs.Meaning.{Done, CoreHolds, Stand, core_at, holder_of, holds_nothing, is_holder}
 use Rattle.lab_run.specs.Accesses.{accesses_of}
 use Rattle.lab_run.specs.Turns.{IsLabSetup, memory_in}
 use Rattle.lab_run.specs.declared.run.LabLeft.{LabLeft}
 use Rattle.lab_run.specs.declared.run.LabRun.{LabRun}
 
 -- what a core holds
-abbrev pub holds_of : Private → Holds
+abbrev pub holds_of : Private → CoreHolds
 holds_of core = record { lines = core.lines; out = core.out }
 
 -- the cores over the chip, which core has each register, and what was printed
@@ -35,7 +35,7 @@ held_word holder = if is_some holder then 1 else 0
 
 -- A lab's chip between two steps: no call of any rank is open, in each write-combining buffer stands a heap line or none, a rank
 -- holds exactly the registers that its core has, and a register is 1 exactly where some core has it.
-pub record IsBench (chip : LabChipView) (cores : List Holds) (holders : List (Option ℕ)) : Type 0 where
+pub record IsBench (chip : LabChipView) (cores : List CoreHolds) (holders : List (Option ℕ)) : Type 0 where
   pub setup : IsLabSetup chip.setup
   pub ranks : length cores ≡ 48
   pub places : length holders ≡ 48

@@ -31,7 +31,7 @@ pub record IsLabSetup (s : SetupView) : Type 0 where
   pub comms : s.comms ≡ world_alone
 
 -- a core may go on: no call of its rank is open, and in its write-combining buffer stands a heap line or none
-pub record IsReady (core : Private) (chip : LabChipView) : Type 0 where
+pub record MayGoOn (core : Private) (chip : LabChipView) : Type 0 where
   pub setup : IsLabSetup chip.setup
   pub below : chip.rank < 48
   pub idle : (record_in (lab_sight chip)).stage ≡ Idle
@@ -39,7 +39,7 @@ pub record IsReady (core : Private) (chip : LabChipView) : Type 0 where
 
 -- The rank that has its turn made heap accesses alone: it is the same turn of the same chip, the rank's record has the same stage
 -- and holds the same registers, and the registers are as they were.
-pub record IsKept (old new : LabChipView) : Type 0 where
+pub record MadeHeapAccesses (old new : LabChipView) : Type 0 where
   pub turn : new ≡ record old { own = new.own }
   pub stage : (record_in (lab_sight new)).stage ≡ (record_in (lab_sight old)).stage
   pub held : (record_in (lab_sight new)).held ≡ (record_in (lab_sight old)).held
@@ -57,6 +57,6 @@ pub record IsTold (s : LabChipView) (said : List Said) (t : LabChipView) (told :
 pub record CoreTurned (op : CoreScene → CoreScene) (c : Private) (s : LabChipView) (said : List Said) (d : Private) (t : LabChipView)
     (told : List Said) : Type 0 where
   pub scene : scene_of d t told ≡ op (scene_of c s said)
-  pub ready : IsReady d t
-  pub kept : IsKept s t
+  pub ready : MayGoOn d t
+  pub kept : MadeHeapAccesses s t
   pub tells : IsTold s said t told

@@ -2,7 +2,7 @@
 
 ghost use Rattle.std.specs.Prelude.{◌≡◌, IfOk, OnOk, Some};
 ghost use Rattle.lab_plain.specs.Meaning.{act_stop, after_action, unmet_line, unmet_word};
-ghost use Rattle.lab_run.specs.Turns.{IsReady, CoreTurned, scene_of};
+ghost use Rattle.lab_run.specs.Turns.{MayGoOn, CoreTurned, scene_of};
 
 use crate::evictor::Named;
 use crate::moves::{flush, get, own, put, write_line, write_word};
@@ -73,7 +73,7 @@ pub(crate) fn act(
     line: u32,
     action: &Action,
 ) -> Result<Option<Stopped>, AllocError>
-    requires ready { IsReady core.old chip.old }
+    requires ready { MayGoOn core.old chip.old }
     ensures turned { OnOk result (CoreTurned (after_action chip.old.rank action.now)
         core.old chip.old said.old.items core.new chip.new said.new.items) }
     ensures stop { IfOk result (λ stop. stop ≡ act_stop line chip.old.rank action.now (scene_of core.old chip.old said.old.items)) }

@@ -2,7 +2,7 @@
 
 ghost use Rattle.std.specs.Prelude.{◌≡◌, ◌<◌, IfOk};
 ghost use Rattle.lab_plain.specs.Meaning.{core_done, step_done};
-ghost use Rattle.lab_run.specs.Benches.{HasMade, IsNewBench, BenchStands, bench_stand};
+ghost use Rattle.lab_run.specs.Benches.{StandsOnBench, IsNewBench, BenchStands, bench_stand};
 ghost use Rattle.lab_run.specs.Stands.{AreNew};
 
 use crate::acting::act;
@@ -46,7 +46,7 @@ impl Bench {
     /// Makes a step. Why the lab stops at it, if it does.
     pub(crate) fn make(&mut self, alloc: Global, step: &Step) -> Result<Option<Stopped>, AllocError>
         requires stands { BenchStands self.old }
-        ensures { IfOk result (λ stopped. HasMade (step_done step.now (bench_stand self.old)) stopped self.new) }
+        ensures { IfOk result (λ stopped. StandsOnBench (step_done step.now (bench_stand self.old)) stopped self.new) }
     {
         let text = Bytes::from_slice(alloc, step.text.as_slice())?;
         self.said.push(Said::Begins {
@@ -81,7 +81,7 @@ impl Bench {
         requires stands { BenchStands self.old }
         requires turn { self.old.chip.rank ≡ own }
         requires below { own < 48 }
-        ensures { IfOk result (λ stopped. HasMade (core_done line own action.now (bench_stand self.old)) stopped self.new) }
+        ensures { IfOk result (λ stopped. StandsOnBench (core_done line own action.now (bench_stand self.old)) stopped self.new) }
     {
         let core = &mut self.cores[own.number() as usize];
         act(core, &mut self.chip, &mut self.said, line, action)

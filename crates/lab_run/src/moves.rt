@@ -1,13 +1,13 @@
 //! What the core that has its turn does to the shared words, and to what it holds for itself.
 
 ghost use Rattle.std.specs.Prelude.{◌≡◌, ◌++◌, [], ◌∷◌, true, OnOk, IfOk, Some, None};
-ghost use Rattle.line_cache.specs.Lines.{filled};
+ghost use Rattle.line_cache.specs.Lines.{with_filled_line};
 ghost use Rattle.write_combine.specs.Combining.{handed_out};
 ghost use Rattle.put_get.specs.Accesses.{loads_of};
 ghost use Rattle.lab_chip.specs.Chips.{all_events, of_rank_all};
 ghost use Rattle.lab_plain.specs.declared.said.Said.TheVariants.{Answers, Stores};
 ghost use Rattle.lab_plain.specs.Scenes.{after_flushing, line_got, line_in, line_put, line_stored, line_written, say_got, say_stores, word_written};
-ghost use Rattle.lab_run.specs.Turns.{IsKept, IsReady, CoreTurned, memory_in, scene_of};
+ghost use Rattle.lab_run.specs.Turns.{MadeHeapAccesses, MayGoOn, CoreTurned, memory_in, scene_of};
 
 use crate::evictor::Named;
 use crate::reads::{Loaded, load_line};
@@ -77,7 +77,7 @@ pub(crate) fn flush(
     chip: &mut LabChip,
     said: &mut Vec<Said>,
 ) -> Result<(), AllocError>
-    requires ready { IsReady core.old chip.old }
+    requires ready { MayGoOn core.old chip.old }
     ensures turned { OnOk result (CoreTurned (after_flushing chip.old.rank)
         core.old chip.old said.old.items core.new chip.new said.new.items) }
 {
@@ -94,7 +94,7 @@ pub(crate) fn write_word(
     at: HeapWord,
     value: u64,
 ) -> Result<(), AllocError>
-    requires ready { IsReady core.old chip.old }
+    requires ready { MayGoOn core.old chip.old }
     ensures turned { OnOk result (CoreTurned (word_written chip.old.rank at value)
         core.old chip.old said.old.items core.new chip.new said.new.items) }
 {
@@ -113,7 +113,7 @@ pub(crate) fn write_line(
     at: HeapLine,
     words: &[u64; 4],
 ) -> Result<(), AllocError>
-    requires ready { IsReady core.old chip.old }
+    requires ready { MayGoOn core.old chip.old }
     ensures turned { OnOk result (CoreTurned (line_written chip.old.rank at words.now)
         core.old chip.old said.old.items core.new chip.new said.new.items) }
 {
@@ -149,7 +149,7 @@ fn store_line(
     at: HeapLine,
     words: &[u64; 4],
 ) -> Result<(), AllocError>
-    requires ready { IsReady core.old chip.old }
+    requires ready { MayGoOn core.old chip.old }
     requires empty { core.old.out ≡ None }
     ensures turned { OnOk result (CoreTurned (line_stored chip.old.rank at words.now)
         core.old chip.old said.old.items core.new chip.new said.new.items) }
@@ -169,7 +169,7 @@ pub(crate) fn put(
     at: HeapLine,
     words: &[u64; 4],
 ) -> Result<(), AllocError>
-    requires ready { IsReady core.old chip.old }
+    requires ready { MayGoOn core.old chip.old }
     ensures turned { OnOk result (CoreTurned (line_put chip.old.rank at words.now)
         core.old chip.old said.old.items core.new chip.new said.new.items) }
 {
@@ -179,14 +179,14 @@ pub(crate) fn put(
 
 /// The words of a line that is got, where nothing waits in the buffer. No line is evicted.
 fn get_line(core: &mut Core<Named>, chip: &mut LabChip, at: HeapLine) -> [u64; 4]
-    requires ready { IsReady core.old chip.old }
+    requires ready { MayGoOn core.old chip.old }
     requires empty { core.old.out ≡ None }
     ensures words { result ≡ line_in (memory_in chip.old) at }
-    ensures lines { core.new.lines ≡ filled [] at (line_in (memory_in chip.old) at) }
+    ensures lines { core.new.lines ≡ with_filled_line [] at (line_in (memory_in chip.old) at) }
     ensures memory { memory_in chip.new ≡ memory_in chip.old }
     ensures empty { core.new.out ≡ None }
-    ensures ready { IsReady core.new chip.new }
-    ensures kept { IsKept chip.old chip.new }
+    ensures ready { MayGoOn core.new chip.new }
+    ensures kept { MadeHeapAccesses chip.old chip.new }
     ensures makes { all_events chip.new
         ≡ all_events chip.old ++ of_rank_all chip.old.rank (loads_of at result) }
 {
@@ -222,7 +222,7 @@ pub(crate) fn get(
     said: &mut Vec<Said>,
     at: HeapLine,
 ) -> Result<[u64; 4], AllocError>
-    requires ready { IsReady core.old chip.old }
+    requires ready { MayGoOn core.old chip.old }
     ensures turned { OnOk result (CoreTurned (line_got chip.old.rank at)
         core.old chip.old said.old.items core.new chip.new said.new.items) }
     ensures answers { IfOk result (λ words. words ≡ line_in

@@ -3,11 +3,11 @@
 ghost use Rattle.std.specs.Prelude.{◌≡◌, ◌==◌, ◌++◌, if◌then◌else◌, drop, ℕ, List, OnOk, IfOk, Some, None, length, slice_index};
 ghost use Rattle.std.specs.Option.{unwrap_or};
 ghost use Rattle.scc_base.specs.Places.{line_of_word};
-ghost use Rattle.line_cache.specs.Lines.{IsPlaceOf, filled, held};
+ghost use Rattle.line_cache.specs.Lines.{IsPlaceOf, with_filled_line, cached_words};
 ghost use Rattle.lab_plain.specs.Scenes.{answer, waiting_word, line_answer, line_in, line_read, say_left, word_fetched, word_loaded, word_read};
 ghost use Rattle.lab_run.specs.Evicting.{IsPlaceIn};
 ghost use Rattle.lab_run.specs.Loads.{LoadsLine};
-ghost use Rattle.lab_run.specs.Turns.{IsReady, CoreTurned, memory_in, scene_of};
+ghost use Rattle.lab_run.specs.Turns.{MayGoOn, CoreTurned, memory_in, scene_of};
 
 use crate::evictor::Named;
 use crate::moves::{answer, own};
@@ -71,7 +71,7 @@ fn front_of(entries: &[Entry]) -> &[Entry]
 
 /// The place that a line has once another one was brought in.
 fn place_after(entries: &[Entry], new: Line, line: Line) -> Option<usize>
-    ensures { (words : List ℕ) → IsPlaceOf (filled entries.now new words) line result }
+    ensures { (words : List ℕ) → IsPlaceOf (with_filled_line entries.now new words) line result }
 {
     let front = front_of(entries);
     if line.is(new) {
@@ -83,7 +83,7 @@ fn place_after(entries: &[Entry], new: Line, line: Line) -> Option<usize>
 
 /// The place at which the line stands that an evictor names, once this one was brought in.
 fn leaving(entries: &[Entry], new: Line, evict: &Option<HeapLine>) -> Option<usize>
-    ensures { (words : List ℕ) → IsPlaceIn evict.now (filled entries.now new words) result }
+    ensures { (words : List ℕ) → IsPlaceIn evict.now (with_filled_line entries.now new words) result }
 {
     match evict {
         Some(evict) => place_after(entries, new, evict.line()),
@@ -98,8 +98,8 @@ pub(crate) fn load_line(
     at: HeapLine,
     evict: &Option<HeapLine>,
 ) -> Loaded
-    requires ready { IsReady core.old chip.old }
-    requires new { held core.old.lines at ≡ None }
+    requires ready { MayGoOn core.old chip.old }
+    requires new { cached_words core.old.lines at ≡ None }
     ensures loads { LoadsLine evict.now core.old chip.old at result core.new chip.new }
 {
     let leaves = leaving(core.lines(), at.line(), evict);
@@ -132,8 +132,8 @@ fn load_word(
     at: HeapWord,
     evict: &Option<HeapLine>,
 ) -> Result<u64, AllocError>
-    requires ready { IsReady core.old chip.old }
-    requires new { held core.old.lines (line_of_word at) ≡ None }
+    requires ready { MayGoOn core.old chip.old }
+    requires new { cached_words core.old.lines (line_of_word at) ≡ None }
     ensures turned { OnOk result (CoreTurned (word_loaded chip.old.rank at evict.now)
         core.old chip.old said.old.items core.new chip.new said.new.items) }
     ensures answers { IfOk result (λ v. v ≡ slice_index (line_in (memory_in chip.old) (line_of_word at)) at.word) }
@@ -158,10 +158,10 @@ fn fetch_word(
     at: HeapWord,
     evict: &Option<HeapLine>,
 ) -> Result<u64, AllocError>
-    requires ready { IsReady core.old chip.old }
-    ensures turned { OnOk result (CoreTurned (λ s. word_fetched chip.old.rank at evict.now s (held s.lines (line_of_word at)))
+    requires ready { MayGoOn core.old chip.old }
+    ensures turned { OnOk result (CoreTurned (λ s. word_fetched chip.old.rank at evict.now s (cached_words s.lines (line_of_word at)))
         core.old chip.old said.old.items core.new chip.new said.new.items) }
-    ensures answers { IfOk result (λ v. v ≡ slice_index (unwrap_or (held core.old.lines (line_of_word at))
+    ensures answers { IfOk result (λ v. v ≡ slice_index (unwrap_or (cached_words core.old.lines (line_of_word at))
         (line_in (memory_in chip.old) (line_of_word at))) at.word) }
 {
     let line = at.line().line();
@@ -182,7 +182,7 @@ pub(crate) fn read_word(
     at: HeapWord,
     evict: &Option<HeapLine>,
 ) -> Result<u64, AllocError>
-    requires ready { IsReady core.old chip.old }
+    requires ready { MayGoOn core.old chip.old }
     ensures turned { OnOk result (CoreTurned (word_read chip.old.rank at evict.now)
         core.old chip.old said.old.items core.new chip.new said.new.items) }
     ensures answers { IfOk result (λ v. v ≡ answer at (scene_of core.old chip.old said.old.items)) }
@@ -204,7 +204,7 @@ pub(crate) fn read_line(
     at: HeapLine,
     evict: &Option<HeapLine>,
 ) -> Result<[u64; 4], AllocError>
-    requires ready { IsReady core.old chip.old }
+    requires ready { MayGoOn core.old chip.old }
     ensures turned { OnOk result (CoreTurned (line_read chip.old.rank at evict.now)
         core.old chip.old said.old.items core.new chip.new said.new.items) }
     ensures answers { IfOk result (λ words. words ≡ line_answer chip.old.rank at evict.now (scene_of core.old chip.old said.old.items)) }

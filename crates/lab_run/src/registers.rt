@@ -2,7 +2,7 @@
 
 ghost use Rattle.std.specs.Prelude.{◌≡◌, ◌<◌, IfOk, Some, if◌then◌else◌};
 ghost use Rattle.lab_plain.specs.Meaning.{free_made, holder_of, is_holder, take_made, unmet_take};
-ghost use Rattle.lab_run.specs.Benches.{HasMade, BenchStands, bench_stand};
+ghost use Rattle.lab_run.specs.Benches.{StandsOnBench, BenchStands, bench_stand};
 
 use crate::bench::Bench;
 use lab_plain::{Said, Stopped};
@@ -55,7 +55,7 @@ impl Bench {
         requires stands { BenchStands self.old }
         requires turn { self.old.chip.rank ≡ core }
         requires below { core < 48 }
-        ensures { IfOk result (λ stopped. HasMade (take_made line core register expect (bench_stand self.old)
+        ensures { IfOk result (λ stopped. StandsOnBench (take_made line core register expect (bench_stand self.old)
             (holder_of self.old.holders register)) stopped self.new) }
     {
         if self.has(core, register) {
@@ -87,7 +87,7 @@ impl Bench {
         requires stands { BenchStands self.old }
         requires turn { self.old.chip.rank ≡ core }
         requires below { core < 48 }
-        ensures { IfOk result (λ stopped. HasMade (free_made line core register (bench_stand self.old)
+        ensures { IfOk result (λ stopped. StandsOnBench (free_made line core register (bench_stand self.old)
             (holder_of self.old.holders register)) stopped self.new) }
     {
         if !self.has(core, register) {

@@ -10,7 +10,7 @@ use Rattle.std.proofs.lemmas.Bool.{eq-eqb, eqb-true, and_parts, and_from}
 use Rattle.scc_base.specs.Places.{LineAt, WordAt, line_of_word, same_line}
 use Rattle.line_cache.specs.declared.cache.Entry.{Entry}
 use Rattle.line_cache.specs.declared.cache.Mark.{Mark}
-use Rattle.line_cache.specs.Lines.{held, noted, AreDistinct, IsCache, IsMarked, IsPlaceOf, most_lines}
+use Rattle.line_cache.specs.Lines.{cached_words, lines_with_word, AreDistinct, IsCache, IsMarked, IsPlaceOf, most_lines}
 use Rattle.line_cache.proofs.LineLemmas.{same_line-is, held_at, noted_none, held-push, held-noted, held-remove, cache-noted, cache-remove, cache-push}
 
 same_line-refl : (line : LineAt) → same_line line line ≡ true
@@ -33,16 +33,16 @@ line_there (x ∷ xs) line (suc at) e low there is = line_there xs line at e (om
 
 -- a word that was written changes the entry where its line stands, and no other
 pub noted_at : (es : List Entry) (i : ℕ) (p : WordAt) (v : ℕ) (e : Entry) → AreDistinct es → i < length es → e ≡ get_or es i e
-    → same_line e.line (line_of_word p) ≡ true → set es i (record { line = e.line; words = slice_set e.words p.word v }) ≡ noted es p v
+    → same_line e.line (line_of_word p) ≡ true → set es i (record { line = e.line; words = slice_set e.words p.word v }) ≡ lines_with_word es p v
 noted_at [] i p v e s low is same = absurd (omega (arith, low))
 noted_at (x ∷ xs) zero p v e s low is same =
-    let none : held xs (line_of_word p) ≡ None = subst (λ a. held xs a ≡ None) (ap (λ (y : Entry). y.line) (sym is) ∙ same_line-is e.line (line_of_word p) same) s.0 in
+    let none : cached_words xs (line_of_word p) ≡ None = subst (λ a. cached_words xs a ≡ None) (ap (λ (y : Entry). y.line) (sym is) ∙ same_line-is e.line (line_of_word p) same) s.0 in
     rw (← is, same, noted_none xs p v none) refl
 noted_at (x ∷ xs) (suc i) p v e s low is same = by (noted_at xs i p v e s.1 (omega (arith, low)) is same) (same_line x.line (line_of_word p)) refl
   where
-    by : set xs i (record { line = e.line; words = slice_set e.words p.word v }) ≡ noted xs p v → (q : Bool) → same_line x.line (line_of_word p) ≡ q → set (x ∷ xs) (suc i) (record { line = e.line; words = slice_set e.words p.word v }) ≡ noted (x ∷ xs) p v
+    by : set xs i (record { line = e.line; words = slice_set e.words p.word v }) ≡ lines_with_word xs p v → (q : Bool) → same_line x.line (line_of_word p) ≡ q → set (x ∷ xs) (suc i) (record { line = e.line; words = slice_set e.words p.word v }) ≡ lines_with_word (x ∷ xs) p v
     by rest true q =
-        let none : held xs (line_of_word p) ≡ None = subst (λ a. held xs a ≡ None) (same_line-is x.line (line_of_word p) q) s.0 in
+        let none : cached_words xs (line_of_word p) ≡ None = subst (λ a. cached_words xs a ≡ None) (same_line-is x.line (line_of_word p) q) s.0 in
         let some = held_at xs i (line_of_word p) e s.1 (omega (arith, low)) is same in
         absurd (cc (none, some))
     by rest false q = rw (q, ← rest) refl
@@ -64,11 +64,11 @@ module _ (es : List Entry) (len at : ℕ) (line : LineAt) (e : Entry) (cache : I
   same : same_line here.line line ≡ true
   same = line_there (take len es) line at here place.1 place.0 read
 
-  pub words_there : Some here.words ≡ held (take len es) line
+  pub words_there : Some here.words ≡ cached_words (take len es) line
   words_there = held_at (take len es) at line here cache.distinct place.1 read same
 
   pub word_noted : (p : WordAt) (k v : ℕ) → line_of_word p ≡ line → k ≡ p.word
-      → take len (set es at (record { line = here.line; words = slice_set here.words k v })) ≡ noted (take len es) p v
+      → take len (set es at (record { line = here.line; words = slice_set here.words k v })) ≡ lines_with_word (take len es) p v
   word_noted p k v on word =
       ap (λ j. take len (set es at (record { line = here.line; words = slice_set here.words j v }))) word
       ∙ take-set-lt len es at _ low
@@ -77,12 +77,12 @@ module _ (es : List Entry) (len at : ℕ) (line : LineAt) (e : Entry) (cache : I
 -- ---- a cache whose lines stand first
 
 -- what stands there now is what stood there, but for a word that was written
-pub marked_noted : (es ws : List Entry) (len : ℕ) (marks : List Mark) (pass : ℕ) (p : WordAt) (v : ℕ) → length ws ≡ length es → take len ws ≡ noted (take len es) p v
+pub marked_noted : (es ws : List Entry) (len : ℕ) (marks : List Mark) (pass : ℕ) (p : WordAt) (v : ℕ) → length ws ≡ length es → take len ws ≡ lines_with_word (take len es) p v
     → IsMarked es len marks pass → IsMarked ws len marks pass
 marked_noted es ws len marks pass p v size now s = record {
   cache = subst (λ x. IsCache x) (sym now) (cache-noted (take len es) p v s.cache);
   few = let few = s.few in omega (arith, few, size);
-  unmarked = λ line mark is other. subst (λ x. held x line ≡ None) (sym now) (held-noted (take len es) p v line (s.unmarked line mark is other));
+  unmarked = λ line mark is other. subst (λ x. cached_words x line ≡ None) (sym now) (held-noted (take len es) p v line (s.unmarked line mark is other));
 }
 
 take_less : (i n : ℕ) (xs : List Entry) → i ≤ n → take i (take n xs) ≡ take i xs
@@ -109,17 +109,17 @@ pub marked_removed : (es ws : List Entry) (len at : ℕ) (marks : List Mark) (pa
 marked_removed es ws len at marks pass size now s = record {
   cache = subst (λ x. IsCache x) (sym now) (cache-remove (take len es) at s.cache);
   few = let few = s.few in omega (arith, few, size);
-  unmarked = λ line mark is other. subst (λ x. held x line ≡ None) (sym now) (held-remove (take len es) at line (s.unmarked line mark is other));
+  unmarked = λ line mark is other. subst (λ x. cached_words x line ≡ None) (sym now) (held-remove (take len es) at line (s.unmarked line mark is other));
 }
 
 -- a line that is brought in has the mark of this pass then, and every other number the mark that it had
 pub marked_filled : (es : List Entry) (len : ℕ) (marks : List Mark) (pass k : ℕ) (e : Entry) (m : Mark) → len < most_lines → len < length es
-    → k < length marks → k ≡ e.line.line → m.pass ≡ pass → IsMarked es len marks pass → held (take len es) e.line ≡ None
+    → k < length marks → k ≡ e.line.line → m.pass ≡ pass → IsMarked es len marks pass → cached_words (take len es) e.line ≡ None
     → IsMarked (set es len e) (len + 1) (set marks k m) pass
 marked_filled es len marks pass k e m room low few at same s h = record {
   cache = subst (λ x. IsCache x) (sym now) (cache-push (take len es) e (omega (arith, room, first)) s.cache h);
   few = let size = length-set es len e in omega (arith, low, size);
-  unmarked = λ line mark is other. subst (λ x. held x line ≡ None) (sym now) (by line mark is other (k == line.line) refl);
+  unmarked = λ line mark is other. subst (λ x. cached_words x line ≡ None) (sym now) (by line mark is other (k == line.line) refl);
 }
   where
     now : take (len + 1) (set es len e) ≡ take len es ++ e ∷ []
@@ -129,7 +129,7 @@ marked_filled es len marks pass k e m room low few at same s h = record {
     first = length-take-le len es (omega (arith, low))
 
     by : (line : LineAt) (mark : Mark) → mark ≡ get_or (set marks k m) line.line mark → (mark.pass == pass) ≡ false → (t : Bool) → (k == line.line) ≡ t
-        → held (take len es ++ e ∷ []) line ≡ None
+        → cached_words (take len es ++ e ∷ []) line ≡ None
     by line mark is other true q =
         let there : mark ≡ m = is ∙ get_or-set_at marks k line.line m mark (sym (eqb-true k line.line q)) few in
         let now : (mark.pass == pass) ≡ true = eq-eqb mark.pass pass (ap (λ (x : Mark). x.pass) there ∙ same) in

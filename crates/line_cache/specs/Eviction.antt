@@ -37,13 +37,13 @@ pub record Seeds : Type 0 where
   pub count : ℕ
 
 -- the next word of the generator evicts where 4 divides it, and then a quarter of it picks the entry
-abbrev pub picked : ℕ → ℕ → ℕ → Option ℕ
-picked word held count =
+abbrev pub picked_entry : ℕ → ℕ → ℕ → Option ℕ
+picked_entry word held count =
     if word % 4 == 0 && may_evict held count then Some (word / 4 % held) else None
 
 -- what a seeded evictor answers while `held` entries are held
 abbrev pub seeded_answer : Seeds → ℕ → Option ℕ
-seeded_answer e held = picked (pcg32 e.generator).0 held e.count
+seeded_answer e held = picked_entry (pcg32 e.generator).0 held e.count
 
 -- the seeded evictor after that answer: one word was drawn
 abbrev pub seeded_next : Seeds → ℕ → Seeds

@@ -51,7 +51,7 @@ impl Model for Cache {
 
 impl Cache {
     ghost use Rattle.std.specs.Prelude.{◌≡◌, ◌<◌, ◌==◌, [], None, length, remove};
-    ghost use Rattle.line_cache.specs.Lines.{held, filled, noted, line_noted, IsCache};
+    ghost use Rattle.line_cache.specs.Lines.{cached_words, with_filled_line, lines_with_word, line_noted, IsCache};
 
     /// Nothing is held.
     pub fn new() -> Cache
@@ -114,7 +114,7 @@ impl Cache {
     /// The words that are held of a line.
     #[inline(always)]
     pub fn look(&self, line: Line) -> Option<[u64; 4]>
-        ensures { result ≡ held self.now line }
+        ensures { result ≡ cached_words self.now line }
     {
         match self.find(line) {
             None => None,
@@ -125,8 +125,8 @@ impl Cache {
     /// Brings a line in, behind the others. Where 512 are held the first leaves.
     #[inline]
     pub fn fill(&mut self, line: Line, words: [u64; 4])
-        requires { held self.old line ≡ None }
-        ensures lines { self.new ≡ filled self.old line words }
+        requires { cached_words self.old line ≡ None }
+        ensures lines { self.new ≡ with_filled_line self.old line words }
         ensures cache { IsCache self.new }
     {
         if self.len == MOST_LINES {
@@ -143,7 +143,7 @@ impl Cache {
     /// Notes a word that the core wrote, where its line is held.
     #[inline]
     pub fn note_write(&mut self, place: Place, value: u64)
-        ensures lines { self.new ≡ noted self.old place value }
+        ensures lines { self.new ≡ lines_with_word self.old place value }
         ensures cache { IsCache self.new }
     {
         if let Some(at) = self.find(place.line_at()) {

@@ -6,7 +6,7 @@ use Rattle.scc_base.specs.Setups.{SetupView}
 use Rattle.scc_mesh.specs.Scenes.{ChipView, IsNew, about_in, events_in, records_in}
 use Rattle.scc_proto.specs.Passed.{open_call}
 use Rattle.script_reader.specs.Script.{Script}
-use Rattle.script_reader.specs.Settled.{IsWhole}
+use Rattle.script_reader.specs.Settled.{IsWholeScript}
 use Rattle.script_machine.specs.Machine.{MachineView}
 use Rattle.script_machine.specs.CallLists.{calls_of}
 use Rattle.rcce_ue.specs.Ues.{UeView}
@@ -22,12 +22,12 @@ use Rattle.call_tap.specs.Kept.{AreKept, HasTapRoom}
 use Rattle.call_tap.specs.Planned.{has_room_for}
 use Rattle.log_run.specs.declared.loggers.Logger.{Logger}
 use Rattle.log_run.specs.Loggers.{IsTapped}
-use Rattle.log_run.specs.LogRuns.{AreFresh, AreLegalCalls, HaveKept, IsFresh, IsFreshCrew, IsOver, IsOwnCall, KeepsCalls, plain_calls, ue_loggers, ue_of}
+use Rattle.log_run.specs.LogRuns.{AreFreshLoggers, AreLegalCalls, HaveKept, IsFreshLogger, IsFreshLogCrew, IsLogRunOver, IsOwnCall, KeepsCalls, plain_calls, ue_loggers, ue_of}
 use Rattle.log_run.specs.Sizes.{has_room_for_all}
 use Rattle.log_run.proofs.RoomLaws.{each_room}
 
 -- fresh loggers are a crew, which runs their script
-pub fresh_is_crew : (script : Script) (chip : ChipView) (crew : List (Logger UeView)) → IsFreshCrew script chip crew → IsCrew ue_loggers chip crew
+pub fresh_is_crew : (script : Script) (chip : ChipView) (crew : List (Logger UeView)) → IsFreshLogCrew script chip crew → IsCrew ue_loggers chip crew
 fresh_is_crew script chip crew fresh = record {
   whole = fresh.whole;
   each = fresh.loggers.count;
@@ -40,29 +40,29 @@ fresh_is_crew script chip crew fresh = record {
       };
 }
 
-pub fresh_runs : (script : Script) (chip : ChipView) (crew : List (Logger UeView)) → IsFreshCrew script chip crew → AllRun ue_of script crew
+pub fresh_runs : (script : Script) (chip : ChipView) (crew : List (Logger UeView)) → IsFreshLogCrew script chip crew → AllRun ue_of script crew
 fresh_runs script chip crew fresh k d low = ap (λ (m : MachineView). m.script) (fresh.loggers.each k d low).fresh.machine
 
-pub fresh_some : (script : Script) (chip : ChipView) (crew : List (Logger UeView)) (s : SetupView) → IsFreshCrew script chip crew → s ≡ about_in chip → 1 ≤ s.nue → 0 < length crew
+pub fresh_some : (script : Script) (chip : ChipView) (crew : List (Logger UeView)) (s : SetupView) → IsFreshLogCrew script chip crew → s ≡ about_in chip → 1 ≤ s.nue → 0 < length crew
 fresh_some script chip crew s fresh same ranks =
     let each = fresh.loggers.count in
     let some : 1 ≤ (about_in chip).nue = subst (λ (x : SetupView). 1 ≤ x.nue) same ranks in
     omega (arith, each, some)
 
 -- loggers that are fresh for a new chip
-pub fresh_crew : (script : Script) (s : SetupView) (chip : ChipView) (crew : List (Logger UeView)) → IsWhole script.nue script.items → IsNew s chip → AreFresh script s crew → IsFreshCrew script chip crew
+pub fresh_crew : (script : Script) (s : SetupView) (chip : ChipView) (crew : List (Logger UeView)) → IsWholeScript script.nue script.items → IsNew s chip → AreFreshLoggers script s crew → IsFreshLogCrew script chip crew
 fresh_crew script s chip crew read new fresh = record {
   read = read;
   whole = new.whole;
   empty = λ r low. new.empty r;
-  loggers = subst (λ (x : SetupView). AreFresh script x crew) (sym new.about) fresh;
+  loggers = subst (λ (x : SetupView). AreFreshLoggers script x crew) (sym new.about) fresh;
 }
 
 -- one logger more
 pub fresh_more : (script : Script) (s : SetupView) (n : ℕ) (crew : List (Logger UeView)) (logger : Logger UeView) → length crew ≡ n
-    → ((rank : ℕ) (d : Logger UeView) → rank < n → IsFresh script s rank (slice_index_or crew rank d)) → IsFresh script s n logger
-    → (rank : ℕ) (d : Logger UeView) → rank < n + 1 → IsFresh script s rank (slice_index_or (crew ++ logger ∷ []) rank d)
-fresh_more script s n crew logger count each last = each_more (IsFresh script s) n crew logger count each last
+    → ((rank : ℕ) (d : Logger UeView) → rank < n → IsFreshLogger script s rank (slice_index_or crew rank d)) → IsFreshLogger script s n logger
+    → (rank : ℕ) (d : Logger UeView) → rank < n + 1 → IsFreshLogger script s rank (slice_index_or (crew ++ logger ∷ []) rank d)
+fresh_more script s n crew logger count each last = each_more (IsFreshLogger script s) n crew logger count each last
 
 -- ---- the end
 
@@ -92,7 +92,7 @@ pub over : (script : Script) (s : SetupView) (chip now : ChipView) (crew later :
     → ((k : ℕ) (call : DataCall) → k < script.nue → open_call (about_in now) (records_in now k) ≡ Some call → WaitsOpen script k call) → NoneDrafts (about_in now) (records_in now)
     → ((k : ℕ) (d : Logger UeView) → k < script.nue → has_room_for (calls_of script k) ≡ true → KeepsCalls (slice_index_or later k d).tap (records_in now k).calls)
     → ((k : ℕ) → k < script.nue → All HasItsBytes (records_in now k).calls) → ((k : ℕ) → k < script.nue → All (IsOwnCall script k) (records_in now k).calls)
-    → ((k : ℕ) → k < script.nue → has_room_for (calls_of script k) ≡ true → HasTapRoom (records_in now k).calls) → IsOver script s now later end
+    → ((k : ℕ) → k < script.nue → has_room_for (calls_of script k) ≡ true → HasTapRoom (records_in now k).calls) → IsLogRunOver script s now later end
 over script s chip now crew later end ranks room new each stands count answer calls legal opened no_draft kept long own few = record {
   kept = record {
     count = count ∙ each ∙ ranks;

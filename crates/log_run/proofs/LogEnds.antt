@@ -14,13 +14,13 @@ use Rattle.scc_proto.specs.Words.{Memory}
 use Rattle.scc_proto.proofs.PortLaws.{record_of-nil}
 use Rattle.scc_mesh.specs.Scenes.{ChipView, about_in, events_in, records_in}
 use Rattle.script_reader.specs.Script.{Script}
-use Rattle.script_reader.specs.Settled.{IsWhole}
+use Rattle.script_reader.specs.Settled.{IsWholeScript}
 use Rattle.script_machine.specs.CallLists.{calls_of}
-use Rattle.script_plain.specs.Collectives.{started}
+use Rattle.script_plain.specs.Collectives.{start_of_rank}
 use Rattle.script_plain.specs.Ends.{Ended}
 use Rattle.script_machine.specs.Local.{Local, local_next}
-use Rattle.script_plain.specs.Meaning.{State, next_of, plain_end, recorded}
-use Rattle.script_machine.specs.Next.{Next, call_of}
+use Rattle.script_plain.specs.Meaning.{State, next_of, plain_end, next_with_calls}
+use Rattle.script_machine.specs.Next.{Next, call_next}
 use Rattle.script_machine.specs.Next.Next.{Ends, Goes, Posts, Sends, Recvs, Bars}
 use Rattle.call_tap.specs.declared.taps.Tap.{Tap}
 use Rattle.call_tap.specs.Kept.{HasTapRoom}
@@ -31,8 +31,8 @@ use Rattle.rcce_ue.specs.Ues.{UeView}
 use Rattle.chip_run.specs.Crews.{AllRest, IsCrew}
 use Rattle.rcce_run.specs.Crews.{AllRun, IsAtEnd, crew_locals}
 use Rattle.rcce_run.specs.UeRuns.{WaitsOpen}
-use Rattle.rcce_run.specs.Sweep.{Stood, slots_by}
-use Rattle.rcce_run.specs.Ues.{Fits, state_of}
+use Rattle.rcce_run.specs.Sweep.{IsStateOfRecord, slots_by}
+use Rattle.rcce_run.specs.Ues.{FitsRecord, state_of}
 use Rattle.rcce_run.proofs.Holding.{at_below, at_past}
 use Rattle.rcce_run.proofs.PlainEnds.{call_waits, plain_ended_at}
 use Rattle.rcce_run.proofs.RunEnds.{RunsUes, at_end, fit, is_swept}
@@ -42,7 +42,7 @@ use Rattle.log_run.specs.Loggers.{IsTapped}
 use Rattle.log_run.specs.LogRuns.{AreLegalCalls, KeepsCalls, done_at, plain_calls, ue_loggers, ue_of}
 use Rattle.log_run.proofs.PathLaws.{AreFirst, are_first}
 
-recorded_call : (done : List DataCall) (n : Next Local) → call_of (recorded done n) ≡ call_of n
+recorded_call : (done : List DataCall) (n : Next Local) → call_next (next_with_calls done n) ≡ call_next n
 recorded_call done Ends = refl
 recorded_call done (Goes after) = refl
 recorded_call done (Posts message after) = refl
@@ -78,17 +78,17 @@ module _ (script : Script) (chip : ChipView) (crew : List (Logger UeView)) (memo
   within : (k : ℕ) → k < s.nue → k < length crew
   within k low = subst (λ (n : ℕ). k < n) (sym is_crew.each) low
 
-  fit_at : (k : ℕ) → k < s.nue → Fits (ue_of (slice_index_or crew k d)) s k (events_in chip k)
+  fit_at : (k : ℕ) → k < s.nue → FitsRecord (ue_of (slice_index_or crew k d)) s k (events_in chip k)
   fit_at k low = fit ue_loggers ue_of loggers_run script chip crew memory agrees is_crew all_run some d k low
 
   -- the finished calls of a rank are the first of those that its program names
-  module _ (read : IsWhole script.nue script.items) (ranks : s.nue ≡ script.nue) where
+  module _ (read : IsWholeScript script.nue script.items) (ranks : s.nue ≡ script.nue) where
     pub first_at : (k : ℕ) → k < script.nue → AreFirst script k (records k).calls
     first_at k low =
         let below : k < s.nue = subst (λ (n : ℕ). k < n) (sym ranks) low in
         let fits = fit_at k below in
         are_first script k read low s (records k) (state_of (locals k) (records k)) fits.last
-        (subst (λ (x : Script). Stood next_of s k (started x k) (records k) (state_of (locals k) (records k)) fits.last) (all_run k d (within k below)) fits.stood)
+        (subst (λ (x : Script). IsStateOfRecord next_of s k (start_of_rank x k) (records k) (state_of (locals k) (records k)) fits.last) (all_run k d (within k below)) fits.stood)
 
     -- there is room for them, where there is for the program's
     pub room_at : (k : ℕ) → k < script.nue → has_room_for (calls_of script k) ≡ true → HasTapRoom (records k).calls
@@ -121,10 +121,10 @@ module _ (script : Script) (chip : ChipView) (crew : List (Logger UeView)) (memo
     pub waits_open : (k : ℕ) (call : DataCall) → k < script.nue → open_call s (records k) ≡ Some call → WaitsOpen script k call
     waits_open k call less open_there =
         let low : k < s.nue = subst (λ (n : ℕ). k < n) (sym ranks_are) less in
-        let next_is : call_of (next_of (states k)) ≡ Some (calls.call_of call) = ended.opened k low call open_there in
+        let next_is : call_next (next_of (states k)) ≡ Some (calls.call_of call) = ended.opened k low call open_there in
         let (line, waits) = call_waits (locals k) (slots_by s records ended.lasts k) (calls.call_of call) (sym (recorded_call (records k).calls (local_next (locals k))) ∙ next_is) in
         record {
-          stands = ap (option_and_then (λ (u : State). call_of (next_of u))) (cell_at k less) ∙ next_is;
+          stands = ap (option_and_then (λ (u : State). call_next (next_of u))) (cell_at k less) ∙ next_is;
           line = line;
           waits = ap (λ (e : Ended). e.end) (plain_ended_at script states (slots_by s records ended.lasts) ended.ends k less) ∙ waits;
         }
@@ -139,7 +139,7 @@ module _ (script : Script) (chip : ChipView) (crew : List (Logger UeView)) (memo
       all_passed : (k : ℕ) → passed_calls s records k ≡ (records k).calls
       all_passed k =
           ⊎_elim
-          (λ (low : k < s.nue). none_passed next_of s memory records (started script) _ _
+          (λ (low : k < s.nue). none_passed next_of s memory records (start_of_rank script) _ _
           (is_swept ue_loggers ue_of loggers_run script chip crew memory agrees is_crew all_run some d rests).swept k low)
           (λ (past : s.nue ≤ k). past_passed k past)
           (cases_lt k s.nue)

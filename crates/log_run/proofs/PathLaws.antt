@@ -8,23 +8,23 @@ use Rattle.scc_base.specs.Setups.{SetupView}
 use Rattle.scc_base.specs.declared.calls.Call.{Call}
 use Rattle.scc_proto.specs.Stages.{Record}
 use Rattle.script_reader.specs.Script.{Script}
-use Rattle.script_reader.specs.Settled.{IsWhole}
+use Rattle.script_reader.specs.Settled.{IsWholeScript}
 use Rattle.script_machine.specs.declared.posts.Posted.{Posted}
 use Rattle.script_machine.specs.CallLists.{calls_from, calls_of}
-use Rattle.script_plain.specs.Collectives.{started}
+use Rattle.script_plain.specs.Collectives.{start_of_rank}
 use Rattle.script_machine.specs.Lengths.{lengths_of}
 use Rattle.script_machine.specs.Local.{Local, local_next, local_start}
-use Rattle.script_plain.specs.Meaning.{State, next_of, recorded}
+use Rattle.script_plain.specs.Meaning.{State, next_of, next_with_calls}
 use Rattle.script_machine.specs.Next.{Next}
 use Rattle.script_machine.specs.Next.Next.{Ends, Goes, Posts, Sends, Recvs, Bars}
-use Rattle.script_plain.specs.Paths.{Came, Did}
+use Rattle.script_plain.specs.Paths.{Came, DidCalls}
 use Rattle.script_plain.specs.Paths.Came.{Began, Went, Leaves, Passed, Took, Joined}
-use Rattle.script_plain.specs.Paths.Did.{Here, Own, Left, Sent, Got, Met}
-use Rattle.script_plain.specs.Ready.{IsReady}
+use Rattle.script_plain.specs.Paths.DidCalls.{Here, Own, Left, Sent, Got, Met}
+use Rattle.script_plain.specs.Ready.{CanMakeNext}
 use Rattle.script_plain.proofs.OwnWays.CallListLaws.{calls_did}
 use Rattle.script_plain.proofs.ProgramLengths.ReadyLemmas.{ready-law}
-use Rattle.rcce_run.specs.Sweep.{Stood}
-use Rattle.rcce_run.specs.Sweep.Stood.{Running, Stopped}
+use Rattle.rcce_run.specs.Sweep.{IsStateOfRecord}
+use Rattle.rcce_run.specs.Sweep.IsStateOfRecord.{Running, Stopped}
 use Rattle.log_run.specs.LogRuns.{IsOwnCall}
 
 -- ---- what stands next at a rank, without the calls done so far
@@ -37,7 +37,7 @@ local_of (Sends to head bytes after) = Sends to head bytes after.local
 local_of (Recvs from head take refuse) = Recvs from head (λ bytes. (take bytes).local) (λ sent. (refuse sent).local)
 local_of (Bars comm after) = Bars comm after.local
 
-recorded_local : (done : List DataCall) (n : Next Local) → local_of (recorded done n) ≡ n
+recorded_local : (done : List DataCall) (n : Next Local) → local_of (next_with_calls done n) ≡ n
 recorded_local done Ends = refl
 recorded_local done (Goes after) = refl
 recorded_local done (Posts message after) = refl
@@ -48,7 +48,7 @@ recorded_local done (Bars comm after) = refl
 local_is : (u : State) (n : Next State) → next_of u ≡ n → local_next u.local ≡ local_of n
 local_is u n is = sym (recorded_local u.matched (local_next u.local)) ∙ ap local_of is
 
-pub did_local : (v : State) (end : Option Posted) (u : State) (last : Option Posted) (done : List DataCall) → Did next_of v end u last done → Did local_next v.local end u.local last done
+pub did_local : (v : State) (end : Option Posted) (u : State) (last : Option Posted) (done : List DataCall) → DidCalls next_of v end u last done → DidCalls local_next v.local end u.local last done
 did_local v end u last done Here = Here
 did_local v end u last done (Own a w l cs step rest) = Own a.local w.local l cs (local_is a (Goes w) step) (did_local v end w l cs rest)
 did_local v end u last done (Left a w l message cs step rest) = Left a.local w.local l message cs (local_is a (Posts message w) step) (did_local v end w (Some message) cs rest)
@@ -59,7 +59,7 @@ did_local v end u last done (Met a w l comm cs step rest) = Met a.local w.local 
 
 -- ---- the bytes of the calls on a way
 
-ready_recorded : (script : Script) (rank : ℕ) (done : List DataCall) (n : Next Local) → IsReady script rank n → IsReady script rank (recorded done n)
+ready_recorded : (script : Script) (rank : ℕ) (done : List DataCall) (n : Next Local) → CanMakeNext script rank n → CanMakeNext script rank (next_with_calls done n)
 ready_recorded script rank done Ends ready = ready
 ready_recorded script rank done (Goes after) ready = ready
 ready_recorded script rank done (Posts message after) ready = ready
@@ -67,11 +67,11 @@ ready_recorded script rank done (Sends to head bytes after) ready = ready
 ready_recorded script rank done (Recvs from head take refuse) ready = ready
 ready_recorded script rank done (Bars comm after) ready = ready
 
-module _ (script : Script) (rank : ℕ) (start : State) (ready : (u : State) (last : Option Posted) → Came next_of start u last → IsReady script rank (local_next u.local)) where
-  ready_at : (u : State) (last : Option Posted) (n : Next State) → Came next_of start u last → next_of u ≡ n → IsReady script rank n
-  ready_at u last n came is = subst (λ (x : Next State). IsReady script rank x) is (ready_recorded script rank u.matched (local_next u.local) (ready u last came))
+module _ (script : Script) (rank : ℕ) (start : State) (ready : (u : State) (last : Option Posted) → Came next_of start u last → CanMakeNext script rank (local_next u.local)) where
+  ready_at : (u : State) (last : Option Posted) (n : Next State) → Came next_of start u last → next_of u ≡ n → CanMakeNext script rank n
+  ready_at u last n came is = subst (λ (x : Next State). CanMakeNext script rank x) is (ready_recorded script rank u.matched (local_next u.local) (ready u last came))
 
-  pub calls_long : (v : State) (end : Option Posted) (u : State) (last : Option Posted) (done : List DataCall) → Came next_of start u last → Did next_of v end u last done → All HasItsBytes done
+  pub calls_long : (v : State) (end : Option Posted) (u : State) (last : Option Posted) (done : List DataCall) → Came next_of start u last → DidCalls next_of v end u last done → All HasItsBytes done
   calls_long v end u last done came Here = All-nil HasItsBytes
   calls_long v end u last done came (Own a w l cs step rest) = calls_long v end w l cs (Went a w l came step) rest
   calls_long v end u last done came (Left a w l message cs step rest) =
@@ -88,7 +88,7 @@ module _ (script : Script) (rank : ℕ) (start : State) (ready : (u : State) (la
       (calls_long v end w l cs (Joined a w l comm came step) rest)
 
   -- and each of them is one that the rank can make
-  pub calls_own : (v : State) (end : Option Posted) (u : State) (last : Option Posted) (done : List DataCall) → Came next_of start u last → Did next_of v end u last done → All (IsOwnCall script rank) done
+  pub calls_own : (v : State) (end : Option Posted) (u : State) (last : Option Posted) (done : List DataCall) → Came next_of start u last → DidCalls next_of v end u last done → All (IsOwnCall script rank) done
   calls_own v end u last done came Here = All-nil (IsOwnCall script rank)
   calls_own v end u last done came (Own a w l cs step rest) = calls_own v end w l cs (Went a w l came step) rest
   calls_own v end u last done came (Left a w l message cs step rest) =
@@ -98,7 +98,7 @@ module _ (script : Script) (rank : ℕ) (start : State) (ready : (u : State) (la
       All-cons (IsOwnCall script rank) (calls.Send to head bytes) cs (ready_at a l (Sends to head bytes w) came step)
       (calls_own v end w l cs (Passed a w l to head bytes came step) rest)
   calls_own v end u last done came (Got a l from head bytes take refuse cs even step rest) =
-      let ready : IsReady script rank (Recvs from head take refuse) = ready_at a l (Recvs from head take refuse) came step in
+      let ready : CanMakeNext script rank (Recvs from head take refuse) = ready_at a l (Recvs from head take refuse) came step in
       All-cons (IsOwnCall script rank) (calls.Recv from head bytes) cs (ready.0, ready.1, even)
       (calls_own v end (take bytes) l cs (Took a l from head bytes take refuse even came step) rest)
   calls_own v end u last done came (Met a w l comm cs step rest) =
@@ -114,18 +114,18 @@ pub record AreFirst (script : Script) (rank : ℕ) (done : List DataCall) : Type
   pub long : All HasItsBytes done
   pub own : All (IsOwnCall script rank) done
 
-module _ (script : Script) (rank : ℕ) (whole : IsWhole script.nue script.items) (within : rank < script.nue) where
-  ready : (u : State) (last : Option Posted) → Came next_of (started script rank) u last → IsReady script rank (local_next u.local)
+module _ (script : Script) (rank : ℕ) (whole : IsWholeScript script.nue script.items) (within : rank < script.nue) where
+  ready : (u : State) (last : Option Posted) → Came next_of (start_of_rank script rank) u last → CanMakeNext script rank (local_next u.local)
   ready = ready-law script rank whole within
 
-  first_by : (v : State) (end : Option Posted) (done : List DataCall) → Did next_of v end (started script rank) None done → AreFirst script rank done
+  first_by : (v : State) (end : Option Posted) (done : List DataCall) → DidCalls next_of v end (start_of_rank script rank) None done → AreFirst script rank done
   first_by v end done did = record {
     rest = calls_from (lengths_of v.local) v.local.left;
-    planned = calls_did v.local end (local_start script rank) None done (did_local v end (started script rank) None done did);
-    long = calls_long script rank (started script rank) ready v end (started script rank) None done Began did;
-    own = calls_own script rank (started script rank) ready v end (started script rank) None done Began did;
+    planned = calls_did v.local end (local_start script rank) None done (did_local v end (start_of_rank script rank) None done did);
+    long = calls_long script rank (start_of_rank script rank) ready v end (start_of_rank script rank) None done Began did;
+    own = calls_own script rank (start_of_rank script rank) ready v end (start_of_rank script rank) None done Began did;
   }
 
-  pub are_first : (s : SetupView) (rec : Record) (u : State) (last : Option Posted) → Stood next_of s rank (started script rank) rec u last → AreFirst script rank rec.calls
+  pub are_first : (s : SetupView) (rec : Record) (u : State) (last : Option Posted) → IsStateOfRecord next_of s rank (start_of_rank script rank) rec u last → AreFirst script rank rec.calls
   are_first s rec u last (Running did) = first_by u last rec.calls did
   are_first s rec u last (Stopped before did refused) = first_by before last rec.calls did

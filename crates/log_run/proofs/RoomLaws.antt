@@ -13,7 +13,7 @@ use Rattle.scc_proto.proofs.Tests.{both_first, both_second}
 use Rattle.call_tap.specs.Planned.{bytes_planned, has_room_for}
 use Rattle.call_tap.proofs.PlannedLaws.{planned_append}
 use Rattle.script_reader.specs.Script.{Script}
-use Rattle.script_machine.specs.CallLists.{called, calls_from, calls_of}
+use Rattle.script_machine.specs.CallLists.{calls_made, calls_from, calls_of}
 use Rattle.script_machine.specs.Lengths.{Lengths, lengths_after}
 use Rattle.script_machine.specs.Program.{Prim, program_of}
 use Rattle.script_machine.specs.Rooms.{nothing_held}
@@ -22,11 +22,11 @@ use Rattle.log_run.specs.Sizes.{bytes_moved_by, calls_by, has_room_for_all}
 
 -- ---- one primitive more
 
-calls_front : (l : Lengths) (prims : List Prim) (prim : Prim) → slice_get prims 0 ≡ Some prim → calls_from l prims ≡ called l prim.act ++ calls_from (lengths_after l prim.act) (drop 1 prims)
+calls_front : (l : Lengths) (prims : List Prim) (prim : Prim) → slice_get prims 0 ≡ Some prim → calls_from l prims ≡ calls_made l prim.act ++ calls_from (lengths_after l prim.act) (drop 1 prims)
 calls_front l [] prim here = absurd (cc (here))
 calls_front l (x ∷ prims) prim here =
     let same : x ≡ prim = cc (here) in
-    ap (λ (p : Prim). called l p.act ++ calls_from (lengths_after l p.act) prims) same
+    ap (λ (p : Prim). calls_made l p.act ++ calls_from (lengths_after l p.act) prims) same
 
 pub nothing_left : (l : Lengths) (prims : List Prim) → slice_get prims 0 ≡ None → calls_from l prims ≡ []
 nothing_left l [] none = refl
@@ -47,16 +47,16 @@ pub record AreCounted (planned : List Call) (calls bytes : ℕ) (left : List Cal
   pub sum : bytes_planned planned ≡ bytes + bytes_planned left
 
 pub counted_on : (planned : List Call) (calls bytes : ℕ) (l m : Lengths) (left : List Prim) (prim : Prim) (moved : Option ℕ) (more_calls more_bytes : ℕ) (rest : List Prim)
-    → AreCounted planned calls bytes (calls_from l left) → slice_get left 0 ≡ Some prim → option_to_list moved ≡ map bytes_asked (called l prim.act) → m ≡ lengths_after l prim.act
+    → AreCounted planned calls bytes (calls_from l left) → slice_get left 0 ≡ Some prim → option_to_list moved ≡ map bytes_asked (calls_made l prim.act) → m ≡ lengths_after l prim.act
     → more_calls ≡ calls + calls_by moved → more_bytes ≡ bytes + bytes_moved_by moved → rest ≡ drop 1 left → AreCounted planned more_calls more_bytes (calls_from m rest)
 counted_on planned calls bytes l m left prim moved more_calls more_bytes rest counted here asks same is_calls is_bytes behind =
-    let parts : calls_from l left ≡ called l prim.act ++ calls_from m rest =
-    calls_front l left prim here ∙ ap (λ (c : List Call). called l prim.act ++ c) (λ i. calls_from (sym same i) (sym behind i)) in
-    let lengths = ap length parts ∙ length-append (called l prim.act) (calls_from m rest) in
-    let sums = ap bytes_planned parts ∙ planned_append (called l prim.act) (calls_from m rest) in
+    let parts : calls_from l left ≡ calls_made l prim.act ++ calls_from m rest =
+    calls_front l left prim here ∙ ap (λ (c : List Call). calls_made l prim.act ++ c) (λ i. calls_from (sym same i) (sym behind i)) in
+    let lengths = ap length parts ∙ length-append (calls_made l prim.act) (calls_from m rest) in
+    let sums = ap bytes_planned parts ∙ planned_append (calls_made l prim.act) (calls_from m rest) in
     let c = counted.count in
     let s = counted.sum in
-    let own = asked_of (called l prim.act) moved asks in
+    let own = asked_of (calls_made l prim.act) moved asks in
     record { count = omega (arith, lengths, c, own.0, is_calls); sum = omega (arith, sums, s, own.1, is_bytes) }
 
 -- ---- whether there is room

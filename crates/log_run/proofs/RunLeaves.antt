@@ -19,12 +19,12 @@ use Rattle.rcce_run.specs.Crews.{AllRun, EndsAs}
 use Rattle.rcce_run.specs.UeRuns.{WaitsOpen}
 use Rattle.rcce_run.proofs.RunEnds.{ends_as, still_run}
 use Rattle.log_run.specs.declared.loggers.Logger.{Logger}
-use Rattle.log_run.specs.LogRuns.{AreLegalCalls, IsFreshCrew, KeepsCalls, plain_calls, ue_loggers, ue_of}
+use Rattle.log_run.specs.LogRuns.{AreLegalCalls, IsFreshLogCrew, KeepsCalls, plain_calls, ue_loggers, ue_of}
 use Rattle.log_run.proofs.FreshLaws.{fresh_runs, fresh_some}
 use Rattle.log_run.proofs.LogEnds.{first_at, kept_at, legal, loggers_run, plain_at, ranks_are, room_at, waits_open}
 use Rattle.log_run.proofs.PathLaws.{AreFirst}
 
-module _ (script : Script) (chip now : ChipView) (crew later : List (Logger UeView)) (fresh : IsFreshCrew script chip crew) (s : SetupView) (about : s ≡ about_in chip) (ranks : 1 ≤ s.nue)
+module _ (script : Script) (chip now : ChipView) (crew later : List (Logger UeView)) (fresh : IsFreshLogCrew script chip crew) (s : SetupView) (about : s ≡ about_in chip) (ranks : 1 ≤ s.nue)
     (stands : CrewStands ue_loggers chip crew now later) (memory : Memory) (agrees : Agrees (about_in now) memory (records_in now)) (rested : AllRest ue_loggers now later (length later)) where
   all : AllRun ue_of script later
   all = still_run ue_loggers ue_of loggers_run script chip now crew later stands.goes (fresh_runs script chip crew fresh)

@@ -25,7 +25,7 @@ use Rattle.log_run.specs.declared.loggers.Logger.{Logger}
 use Rattle.log_run.specs.Loggers.{IsTapped, loggers_of}
 
 -- a UE before its first turn, with a tap that has read nothing
-pub record IsFresh (script : Script) (s : SetupView) (rank : ℕ) (logger : Logger UeView) : Type 0 where
+pub record IsFreshLogger (script : Script) (s : SetupView) (rank : ℕ) (logger : Logger UeView) : Type 0 where
   pub fresh : IsFreshUe script s rank logger.worker
   pub tapped : IsTapped logger.tap s rank []
 
@@ -73,7 +73,7 @@ pub record AreOwnCalls (script : Script) (rank : ℕ) (calls : List DataCall) : 
 -- What a run of a script leaves on a chip of this setup: the finished calls of each rank are those that the plain meaning
 -- did for it, with their bytes and in order, and they are legal. A call is open in a record only where the plain meaning
 -- leaves the rank waiting in this call, and a rank with no call open has no message in draft. All ranks are at home.
-pub record HasRun (script : Script) (s : SetupView) (chip : ChipView) : Type 0 where
+pub record HasRunLogged (script : Script) (s : SetupView) (chip : ChipView) : Type 0 where
   pub setup : about_in chip ≡ s
   pub whole : IsWhole chip
   pub finished : (rank : ℕ) → (records_in chip rank).calls ≡ plain_calls script rank
@@ -84,17 +84,17 @@ pub record HasRun (script : Script) (s : SetupView) (chip : ChipView) : Type 0 w
   pub no_draft : NoneDrafts (about_in chip) (records_in chip)
 
 -- before the run: one logger for each rank
-pub record AreFresh (script : Script) (setup : SetupView) (crew : List (Logger UeView)) : Type 0 where
+pub record AreFreshLoggers (script : Script) (setup : SetupView) (crew : List (Logger UeView)) : Type 0 where
   pub count : length crew ≡ setup.nue
-  pub each : (rank : ℕ) (d : Logger UeView) → rank < length crew → IsFresh script setup rank (slice_index_or crew rank d)
+  pub each : (rank : ℕ) (d : Logger UeView) → rank < length crew → IsFreshLogger script setup rank (slice_index_or crew rank d)
 
 -- a chip that is open without events, all its ranks at home, and such loggers of this script, which was read, with the chip's
 -- setup
-pub record IsFreshCrew (script : Script) (chip : ChipView) (crew : List (Logger UeView)) : Type 0 where
-  pub read : settled.IsWhole script.nue script.items
+pub record IsFreshLogCrew (script : Script) (chip : ChipView) (crew : List (Logger UeView)) : Type 0 where
+  pub read : settled.IsWholeScript script.nue script.items
   pub whole : IsWhole chip
   pub empty : (r : ℕ) → r < (about_in chip).nue → events_in chip r ≡ []
-  pub loggers : AreFresh script (about_in chip) crew
+  pub loggers : AreFreshLoggers script (about_in chip) crew
 
 -- behind a run each tap keeps the calls that the plain meaning did for its rank
 pub record HaveKept (script : Script) (crew : List (Logger UeView)) : Type 0 where
@@ -103,7 +103,7 @@ pub record HaveKept (script : Script) (crew : List (Logger UeView)) : Type 0 whe
   pub long : (rank : ℕ) → rank < script.nue → All HasItsBytes (plain_calls script rank)
 
 -- a run that is over
-pub record IsOver (script : Script) (s : SetupView) (chip : ChipView) (crew : List (Logger UeView)) (end : RunEnd) : Type 0 where
+pub record IsLogRunOver (script : Script) (s : SetupView) (chip : ChipView) (crew : List (Logger UeView)) (end : RunEnd) : Type 0 where
   pub kept : HaveKept script crew
   pub answer : EndsAs end script
-  pub history : HasRun script s chip
+  pub history : HasRunLogged script s chip

@@ -2,7 +2,7 @@
 
 ghost use Rattle.std.specs.Prelude.{◌≡◌, IfOk};
 ghost use Rattle.script_reader.specs.Script.{rules_of};
-ghost use Rattle.log_run.specs.LogRuns.{AreFresh};
+ghost use Rattle.log_run.specs.LogRuns.{AreFreshLoggers};
 
 use crate::loggers::Logger;
 use call_tap::Tap;
@@ -20,7 +20,7 @@ pub fn crew_of<'s>(
 ) -> Result<Vec<Logger<Ue<'s, Never>>>, AllocError>
     requires ranks { setup.now.nue ≡ scripts.now.nue }
     requires communicators { setup.now.comms ≡ rules_of scripts.now.items }
-    ensures { IfOk result (λ crew. AreFresh scripts.now setup.now crew.items) }
+    ensures { IfOk result (λ crew. AreFreshLoggers scripts.now setup.now crew.items) }
 {
     let mut crew = Vec::with_capacity(alloc, setup.nue() as usize)?;
     for number in 0..setup.nue() {

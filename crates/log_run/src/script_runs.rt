@@ -3,7 +3,7 @@
 ghost use Rattle.std.specs.Prelude.{◌≡◌, None, IfErr, IfOk, true};
 ghost use Rattle.script_reader.specs.Script.{rules_of};
 ghost use Rattle.scc_mesh.specs.Scenes.{IsNew};
-ghost use Rattle.log_run.specs.LogRuns.{AreFresh, HasRun, IsOver};
+ghost use Rattle.log_run.specs.LogRuns.{AreFreshLoggers, HasRunLogged, IsLogRunOver};
 ghost use Rattle.log_run.specs.Sizes.{has_room_for_all};
 
 use crate::crew::crew_of;
@@ -118,7 +118,7 @@ pub fn run_script<'s>(
     requires communicators { setup.now.comms ≡ rules_of scripts.now.items }
     requires room { has_room_for_all scripts.now ≡ true }
     ensures run { IfOk result (λ run. run ≡ scripts.now) }
-    ensures history { IfOk result (λ run. HasRun scripts.now setup.now chip.new) }
+    ensures history { IfOk result (λ run. HasRunLogged scripts.now setup.now chip.new) }
     ensures refused { IfErr result (λ failed. chip.new ≡ None) }
 {
     let mut crew = crew_of(alloc, scripts, setup)?;
@@ -135,10 +135,10 @@ fn run_crew(
     crew: &mut [Logger<Ue<'_, Never>>],
 ) -> RunEnd
     requires chip { IsNew setup.now chip.old }
-    requires fresh { AreFresh scripts.now setup.now crew.old }
+    requires fresh { AreFreshLoggers scripts.now setup.now crew.old }
     requires ranks { setup.now.nue ≡ scripts.now.nue }
     requires room { has_room_for_all scripts.now ≡ true }
-    ensures { IsOver scripts.now setup.now chip.new crew.new result }
+    ensures { IsLogRunOver scripts.now setup.now chip.new crew.new result }
 {
     scripts.acceptance_law();
     log_run(chip, crew)

@@ -3,8 +3,8 @@ use Rattle.std.proofs.Common.{◌≡◌, ◌≢◌, ℕ, zero, suc, ◌+◌, ◌
 use Rattle.std.proofs.lemmas.Bool.{cases_eq, eqb-true}
 use Rattle.std.proofs.lemmas.List.Sums.{sum_by-cons, sum_by_more}
 use Rattle.std.proofs.lemmas.Option.{get_or_from_slice_get, slice_get_within}
-use Rattle.mesh_load.specs.Mesh.{Link, Tile, all_links, carried, mesh_core_of, distance, distance_of, holds, lines_moved, route, route_of, tile_of}
-use Rattle.mesh_load.specs.Tables.{IsPlaced, Loads, load_on, chosen, column_cell, in_column, in_row, pair_place, passes_column, passes_row, row_cell}
+use Rattle.mesh_load.specs.Mesh.{Link, Tile, all_links, lines_over_link, mesh_core_of, distance, distance_of, holds, lines_moved, route, route_of, tile_of}
+use Rattle.mesh_load.specs.Tables.{IsPlaced, Loads, load_on, sum_where, column_cell, in_column, in_row, pair_place, passes_column, passes_row, row_cell}
 use Rattle.mesh_load.proofs.RouteLaws.{column_place, row_place, shared}
 use Rattle.mesh_load.proofs.TableLaws.{chosen-set}
 use Rattle.script_plain.specs.declared.matches.Match.{Match}
@@ -114,29 +114,29 @@ alone at one placed =
     times (λ link. holds link (route_of at one)) (lines_moved one.head.len) all_links
     ∙ ap (λ (n : ℕ). lines_moved one.head.len * n) (counted (mesh_core_of at one.from) (mesh_core_of at one.to) placed.from placed.to)
 
-none : (at : List ℕ) (links : List Link) → sum_by (carried at []) links ≡ 0
+none : (at : List ℕ) (links : List Link) → sum_by (lines_over_link at []) links ≡ 0
 none at [] = refl
-none at (link ∷ links) = omega (arith, sum_by-cons (carried at []) link links, none at links)
+none at (link ∷ links) = omega (arith, sum_by-cons (lines_over_link at []) link links, none at links)
 
-pub together : (at : List ℕ) (matches : List Match) → All (IsPlaced at) matches → sum_by (carried at matches) all_links ≡ sum_by (λ one. lines_moved one.head.len * distance_of at one) matches
+pub together : (at : List ℕ) (matches : List Match) → All (IsPlaced at) matches → sum_by (lines_over_link at matches) all_links ≡ sum_by (λ one. lines_moved one.head.len * distance_of at one) matches
 together at [] all = none at all_links
 together at (one ∷ matches) all =
-    two_sums (λ link. cond (holds link (route_of at one)) (lines_moved one.head.len) 0) (carried at matches) (carried at (one ∷ matches))
+    two_sums (λ link. cond (holds link (route_of at one)) (lines_moved one.head.len) 0) (lines_over_link at matches) (lines_over_link at (one ∷ matches))
     (λ link. sum_by-cons (λ other. cond (holds link (route_of at other)) (lines_moved other.head.len) 0) one matches) all_links
-    ∙ ap (λ (n : ℕ). n + sum_by (carried at matches) all_links) (alone at one (all 0 one (omega arith)))
+    ∙ ap (λ (n : ℕ). n + sum_by (lines_over_link at matches) all_links) (alone at one (all 0 one (omega arith)))
     ∙ ap (λ (n : ℕ). lines_moved one.head.len * distance_of at one + n) (together at matches (λ k d within. all (suc k) d (omega (arith, within))))
     ∙ sym (sum_by-cons (λ other. lines_moved other.head.len * distance_of at other) one matches)
 
 -- the tables say what each link carries
 pub each : (at : List ℕ) (matches : List Match) (pairs rows columns : List ℕ) → All (IsPlaced at) matches
-    → ((test : ℕ → Bool) → chosen test pairs ≡ sum_by (λ one. cond (test (pair_place at one)) (lines_moved one.head.len) 0) matches)
-    → ((test : ℕ → Bool) → chosen test rows ≡ chosen (λ pair. test (row_cell pair)) pairs)
-    → ((test : ℕ → Bool) → chosen test columns ≡ chosen (λ pair. test (column_cell pair)) pairs)
-    → (link : Link) → chosen (in_row link) rows + chosen (in_column link) columns ≡ carried at matches link
+    → ((test : ℕ → Bool) → sum_where test pairs ≡ sum_by (λ one. cond (test (pair_place at one)) (lines_moved one.head.len) 0) matches)
+    → ((test : ℕ → Bool) → sum_where test rows ≡ sum_where (λ pair. test (row_cell pair)) pairs)
+    → ((test : ℕ → Bool) → sum_where test columns ≡ sum_where (λ pair. test (column_cell pair)) pairs)
+    → (link : Link) → sum_where (in_row link) rows + sum_where (in_column link) columns ≡ lines_over_link at matches link
 each at matches pairs rows columns placed of_pairs of_rows of_columns link =
     let along : Match → ℕ = λ one. cond (in_row link (row_cell (pair_place at one))) (lines_moved one.head.len) 0 in
     let across : Match → ℕ = λ one. cond (in_column link (column_cell (pair_place at one))) (lines_moved one.head.len) 0 in
-    ap (λ (n : ℕ). n + chosen (in_column link) columns) (of_rows (in_row link) ∙ of_pairs (λ pair. in_row link (row_cell pair)))
+    ap (λ (n : ℕ). n + sum_where (in_column link) columns) (of_rows (in_row link) ∙ of_pairs (λ pair. in_row link (row_cell pair)))
     ∙ ap (λ (n : ℕ). sum_by along matches + n) (of_columns (in_column link) ∙ of_pairs (λ pair. in_column link (column_cell pair)))
     ∙ sym (parts-sum (IsPlaced at) along across (λ one. cond (holds link (route_of at one)) (lines_moved one.head.len) 0) both matches placed)
   where
@@ -151,14 +151,14 @@ each at matches pairs rows columns placed of_pairs of_rows of_columns link =
         ∙ ap (λ (p : Bool). cond (in_row link (row_cell (pair_place at one))) n 0 + cond p n 0) (sym (column_place link from to is.from is.to))
 
 -- and all together
-pub whole : (at : List ℕ) (matches : List Match) (loads : Loads) → All (IsPlaced at) matches → ((link : Link) → load_on loads link ≡ carried at matches link)
+pub whole : (at : List ℕ) (matches : List Match) (loads : Loads) → All (IsPlaced at) matches → ((link : Link) → load_on loads link ≡ lines_over_link at matches link)
     → sum_by (load_on loads) all_links ≡ sum_by (λ one. lines_moved one.head.len * distance_of at one) matches
-whole at matches loads placed is = sum_by-same (load_on loads) (carried at matches) is all_links ∙ together at matches placed
+whole at matches loads placed is = sum_by-same (load_on loads) (lines_over_link at matches) is all_links ∙ together at matches placed
 
 -- one message more in the table of pairs
 module _ (at : List ℕ) (matches : List Match) (pairs : List ℕ) (i k v : ℕ) (one : Match) (here : slice_get matches i ≡ Some one) (there : k < length pairs) (is : k ≡ pair_place at one) (moves : v ≡ lines_moved one.head.len) where
-  pub added_pair : ((test : ℕ → Bool) → chosen test pairs ≡ sum_by (λ other. cond (test (pair_place at other)) (lines_moved other.head.len) 0) (take i matches))
-      → (test : ℕ → Bool) → chosen test (set pairs k (get_or pairs k 0 + v)) ≡ sum_by (λ other. cond (test (pair_place at other)) (lines_moved other.head.len) 0) (take (i + 1) matches)
+  pub added_pair : ((test : ℕ → Bool) → sum_where test pairs ≡ sum_by (λ other. cond (test (pair_place at other)) (lines_moved other.head.len) 0) (take i matches))
+      → (test : ℕ → Bool) → sum_where test (set pairs k (get_or pairs k 0 + v)) ≡ sum_by (λ other. cond (test (pair_place at other)) (lines_moved other.head.len) 0) (take (i + 1) matches)
   added_pair so_far test =
       let f : Match → ℕ = λ other. cond (test (pair_place at other)) (lines_moved other.head.len) 0 in
       chosen-set test pairs k v there

@@ -72,8 +72,8 @@ abbrev pub route_of : List ℕ → Match → List Link
 route_of at one = route (tile_of (mesh_core_of at one.from)) (tile_of (mesh_core_of at one.to))
 
 -- the lines that go over a link: the sum over the messages whose route holds it
-abbrev pub carried : List ℕ → List Match → Link → ℕ
-carried at matches link = sum_by (λ one. if holds link (route_of at one) then lines_moved one.head.len else 0) matches
+abbrev pub lines_over_link : List ℕ → List Match → Link → ℕ
+lines_over_link at matches link = sum_by (λ one. if holds link (route_of at one) then lines_moved one.head.len else 0) matches
 
 -- the links from a tile, and those of the mesh: by tile number, and then east, west, north and south. (A link over the edge
 -- is on no route.)

@@ -6,13 +6,13 @@ use Rattle.mesh_load.specs.Mesh.{Link, mesh_core_of}
 use Rattle.script_plain.specs.declared.matches.Match.{Match}
 
 -- the sum of the values whose places pass a test
-abbrev pub chosen : (ℕ → Bool) → List ℕ → ℕ
-chosen test [] = 0
-chosen test (value ∷ values) = (if test 0 then value else 0) + chosen (λ place. test (suc place)) values
+abbrev pub sum_where : (ℕ → Bool) → List ℕ → ℕ
+sum_where test [] = 0
+sum_where test (value ∷ values) = (if test 0 then value else 0) + sum_where (λ place. test (suc place)) values
 
 -- the sum of all values
 abbrev pub total : List ℕ → ℕ
-total values = chosen (λ place. true) values
+total values = sum_where (λ place. true) values
 
 -- the place of a message in the table of pairs: the tile of its sender, and then that of its receiver
 abbrev pub pair_place : List ℕ → Match → ℕ
@@ -61,4 +61,4 @@ pub record Loads : Type 0 where
 
 -- what a link carries
 abbrev pub load_on : Loads → Link → ℕ
-load_on loads link = chosen (in_row link) loads.rows + chosen (in_column link) loads.columns
+load_on loads link = sum_where (in_row link) loads.rows + sum_where (in_column link) loads.columns

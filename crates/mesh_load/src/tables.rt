@@ -3,7 +3,7 @@
 ghost use Rattle.std.specs.Prelude.{◌≡◌, ◌*◌, ◌/◌, ◌<◌, ◌≤◌, ◌^◌, ℕ, Bool, if◌then◌else◌, sum_by};
 ghost use Rattle.std.specs.List.{All};
 ghost use Rattle.mesh_load.specs.Mesh.{mesh_core_of, lines_moved, link_at};
-ghost use Rattle.mesh_load.specs.Tables.{IsPlaced, chosen, column_cell, in_column, in_row, pair_place, row_cell, total};
+ghost use Rattle.mesh_load.specs.Tables.{IsPlaced, sum_where, column_cell, in_column, in_row, pair_place, row_cell, total};
 
 use crate::links::Dir;
 use scc_base::{CoreId, Head, Rank};
@@ -28,7 +28,7 @@ fn lines(head: Head) -> u64
 /// The lines that go from tile to tile, for each pair of tiles.
 pub fn add_pairs(matches: &Matches, at: &[CoreId; 48]) -> [u64; 576]
     ensures sums { (test : ℕ → Bool)
-        → chosen test result ≡ sum_by (λ one. if test (pair_place at.now one) then lines_moved one.head.len else 0) matches.now }
+        → sum_where test result ≡ sum_by (λ one. if test (pair_place at.now one) then lines_moved one.head.len else 0) matches.now }
     ensures placed { All (IsPlaced at.now) matches.now }
     ensures few { total result ≤ 2 ^ 52 }
 {
@@ -45,7 +45,7 @@ pub fn add_pairs(matches: &Matches, at: &[CoreId; 48]) -> [u64; 576]
 /// The lines that go from a tile along its row, for each column to which they go.
 pub fn add_rows(pairs: &[u64; 576]) -> [u64; 144]
     requires few { total pairs.now ≤ 2 ^ 52 }
-    ensures { (test : ℕ → Bool) → chosen test result ≡ chosen (λ pair. test (row_cell pair)) pairs.now }
+    ensures { (test : ℕ → Bool) → sum_where test result ≡ sum_where (λ pair. test (row_cell pair)) pairs.now }
 {
     let mut rows = [0; 144];
     for pair in 0..576 {
@@ -57,7 +57,7 @@ pub fn add_rows(pairs: &[u64; 576]) -> [u64; 144]
 /// The lines that go to a tile along its column, for each row from which they come.
 pub fn add_columns(pairs: &[u64; 576]) -> [u64; 96]
     requires few { total pairs.now ≤ 2 ^ 52 }
-    ensures { (test : ℕ → Bool) → chosen test result ≡ chosen (λ pair. test (column_cell pair)) pairs.now }
+    ensures { (test : ℕ → Bool) → sum_where test result ≡ sum_where (λ pair. test (column_cell pair)) pairs.now }
 {
     let mut columns = [0; 96];
     for pair in 0..576 {
@@ -91,7 +91,7 @@ fn is_in_column(x: usize, y: usize, dir: Dir, cell: usize) -> bool
 /// The lines that go over a link along its row.
 pub fn along_rows(rows: &[u64; 144], x: u8, y: u8, dir: Dir) -> u64
     requires few { total rows.now ≤ 2 ^ 52 }
-    ensures sum { result ≡ chosen (in_row (link_at x y dir)) rows.now }
+    ensures sum { result ≡ sum_where (in_row (link_at x y dir)) rows.now }
     ensures few { result ≤ 2 ^ 52 }
 {
     let mut sum = 0;
@@ -106,7 +106,7 @@ pub fn along_rows(rows: &[u64; 144], x: u8, y: u8, dir: Dir) -> u64
 /// The lines that go over a link along its column.
 pub fn along_columns(columns: &[u64; 96], x: u8, y: u8, dir: Dir) -> u64
     requires few { total columns.now ≤ 2 ^ 52 }
-    ensures sum { result ≡ chosen (in_column (link_at x y dir)) columns.now }
+    ensures sum { result ≡ sum_where (in_column (link_at x y dir)) columns.now }
     ensures few { result ≤ 2 ^ 52 }
 {
     let mut sum = 0;

@@ -5,7 +5,7 @@ use Rattle.script_reader.specs.Script.{Script}
 use Rattle.script_plain.specs.Ends.{all_finished}
 use Rattle.script_plain.specs.Matches.{plain_matches}
 use Rattle.script_plain.specs.Meaning.{plain_ends}
-use Rattle.mesh_load.specs.Mesh.{carried}
+use Rattle.mesh_load.specs.Mesh.{lines_over_link}
 use Rattle.mesh_load.specs.Tables.{load_on}
 use Rattle.outcomes.specs.Coming.{Comes}
 use Rattle.outcomes.specs.Outcomes.{run_outcome}
@@ -20,5 +20,5 @@ pub comes_run : (program at : List ℕ) (script : Script) (report : Report) (fil
 comes_run program at script report files is = (
   refl,
   inl (ap (λ (finished : Bool). run_outcome (mesh_ran_of finished (load_on report.load))) is.finished
-      ∙ ap (λ (text : List ℕ). run_outcome (mesh_ran_by (all_finished (plain_ends script)) text)) (mesh_same (load_on report.load) (carried at (plain_matches script)) is.load)),
+      ∙ ap (λ (text : List ℕ). run_outcome (mesh_ran_by (all_finished (plain_ends script)) text)) (mesh_same (load_on report.load) (lines_over_link at (plain_matches script)) is.load)),
 )

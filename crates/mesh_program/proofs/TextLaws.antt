@@ -4,15 +4,15 @@ use Rattle.std.proofs.lemmas.List.{append-nil}
 use Rattle.std.proofs.lemmas.List.FromFn.{get_or-range_with_len, length-range_with_len}
 use Rattle.std.specs.Prelude.{◌==◌, if◌then◌else◌}
 use Rattle.rcce_io.specs.declared.writing.WriteFault.{WriteFault}
-use Rattle.rcce_io.specs.Sending.{CutShort, Sends, SinkView, joined, with_text}
+use Rattle.rcce_io.specs.Sending.{CutShort, Sends, SinkView, joined_texts, with_text}
 use Rattle.rcce_io.proofs.SendingLemmas.{cut_after, cut_then, sends_after}
 use Rattle.mesh_load.specs.Mesh.{Link, links_at}
 use Rattle.mesh_program.specs.Texts.{link_line, link_text, mesh_text, tile_numbers, tile_text}
 
-joined_same : {X : Type 0} (f g : X → List ℕ) → ((x : X) → f x ≡ g x) → (xs : List X) → joined (map f xs) ≡ joined (map g xs)
+joined_same : {X : Type 0} (f g : X → List ℕ) → ((x : X) → f x ≡ g x) → (xs : List X) → joined_texts (map f xs) ≡ joined_texts (map g xs)
 joined_same f g same [] = refl
 joined_same f g same (x ∷ xs) =
-    ap (λ (t : List ℕ). t ++ joined (map f xs)) (same x) ∙ ap (λ (t : List ℕ). g x ++ t) (joined_same f g same xs)
+    ap (λ (t : List ℕ). t ++ joined_texts (map f xs)) (same x) ∙ ap (λ (t : List ℕ). g x ++ t) (joined_same f g same xs)
 
 link_same : (on other : Link → ℕ) → ((link : Link) → on link ≡ other link) → (link : Link) → link_text on link ≡ link_text other link
 link_same on other same link = ap (λ (n : ℕ). if n == 0 then [] else link_line link n) (same link)

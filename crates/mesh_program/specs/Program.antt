@@ -5,7 +5,7 @@ use Rattle.script_reader.specs.Script.{Script}
 use Rattle.script_plain.specs.Ends.{all_finished}
 use Rattle.script_plain.specs.Matches.{plain_matches}
 use Rattle.script_plain.specs.Meaning.{plain_ends}
-use Rattle.mesh_load.specs.Mesh.{Link, carried}
+use Rattle.mesh_load.specs.Mesh.{Link, lines_over_link}
 use Rattle.outcomes.specs.Outcomes.{Ran}
 use Rattle.outcomes.specs.Plans.{Plan, Program}
 use Rattle.outcomes.specs.Plans.Plan.{Runs}
@@ -49,7 +49,7 @@ mesh_ran_of finished on = mesh_ran_by finished (mesh_text on)
 
 -- a script is run by its plain meaning
 abbrev pub mesh_run_plan : List ℕ → Script → Plan
-mesh_run_plan at script = Runs (mesh_ran_of (all_finished (plain_ends script)) (carried at (plain_matches script)))
+mesh_run_plan at script = Runs (mesh_ran_of (all_finished (plain_ends script)) (lines_over_link at (plain_matches script)))
 
 -- the script's file
 abbrev pub mesh_command_plan : Placed → Plan

@@ -1,6 +1,6 @@
 -- What a report comes to.
 use Rattle.std.specs.Prelude.{◌≡◌, ℕ, List}
-use Rattle.mesh_load.specs.Mesh.{Link, carried}
+use Rattle.mesh_load.specs.Mesh.{Link, lines_over_link}
 use Rattle.mesh_load.specs.Tables.{load_on}
 use Rattle.outcomes.specs.Outcomes.{Ran}
 use Rattle.mesh_program.specs.declared.report.Report.{Report}
@@ -17,4 +17,4 @@ mesh_report_ran report = mesh_ran_of report.finished (load_on report.load)
 -- the report is that of a script's plain meaning
 pub record IsReportOf (at : List ℕ) (script : Script) (report : Report) : Type 0 where
   pub finished : report.finished ≡ all_finished (plain_ends script)
-  pub load : (link : Link) → load_on report.load link ≡ carried at (plain_matches script) link
+  pub load : (link : Link) → load_on report.load link ≡ lines_over_link at (plain_matches script) link

@@ -4,7 +4,7 @@ use Rattle.std.proofs.lemmas.Bool.{lt-leb, le-leb, leb-true, leb-false, eqb-true
 use Rattle.mpb_alloc.specs.declared.heap.Run.{Run}
 use Rattle.mpb_alloc.specs.declared.heap.MallocFault.TheVariants.{Full}
 use Rattle.scc_base.specs.Places.{LineRun}
-use Rattle.mpb_alloc.specs.Heaps.{IsWithin, StandWithin, lines_in_runs, times_at, rest_of_run, taken_from, given_back, is_run, returned, lowest_fit, longest_of, run_of_lines, front_of, LineHeap, IsHeap, answer_for}
+use Rattle.mpb_alloc.specs.Heaps.{IsHeapRun, StandWithin, lines_in_runs, times_at, rest_of_run, taken_from, given_back, is_run, without_buffer, lowest_fit, longest_of, run_of_lines, front_of, LineHeap, IsHeap, answer_for}
 use Rattle.mpb_alloc.proofs.RunLemmas.{within_from_apart, within-append, lines_in_runs-append, times_at-append, length-le-lines_in_runs, Found, found, taken_apart, given_apart, lines_in_runs-given_back, times_at-given_back, one_at, clear_from_times}
 use Rattle.std.proofs.lemmas.Bool.Decides.{nat_tests}
 
@@ -67,7 +67,7 @@ split_lines n r k =
     (λ e. let f = eqb-true r.lines n e in omega arith)
     (λ e. omega arith)
 
-within_at : (front back : List Run) (r : Run) → StandWithin (front ++ r ∷ back) → IsWithin r
+within_at : (front back : List Run) (r : Run) → StandWithin (front ++ r ∷ back) → IsHeapRun r
 within_at [] back r s = s.0
 within_at (x ∷ front) back r s = within_at front back r s.1
 
@@ -79,7 +79,7 @@ goes h n b s some e =
     let within : StandWithin (f.front ++ w.0 ∷ f.back) = subst StandWithin f.is (within_from_apart h.free 225 (omega arith) s.free_apart) in
     subst (λ x. Goes h n x) (sym w.2) (went h n w.0 s some f (within_at f.front f.back w.0 within))
   where
-    went : (h : LineHeap) (n : ℕ) (r : Run) → IsHeap h → 0 < n → Found n r h.free → IsWithin r → Goes h n (front_of n r)
+    went : (h : LineHeap) (n : ℕ) (r : Run) → IsHeap h → 0 < n → Found n r h.free → IsHeapRun r → Goes h n (front_of n r)
     went h n r s some f w =
         let enough = f.enough in
         let w0 = w.0 in let w1 = w.1 in let w2 = w.2 in
@@ -109,9 +109,9 @@ goes h n b s some e =
 
 -- a buffer that is out, and the others
 pub record Struck (b : Run) (out : List Run) : Type 0 where
-  pub lines : lines_in_runs out ≡ b.lines + lines_in_runs (returned b out)
-  pub times : (l : ℕ) → times_at l out ≡ one_at l b + times_at l (returned b out)
-  pub within : StandWithin out → IsWithin b × StandWithin (returned b out)
+  pub lines : lines_in_runs out ≡ b.lines + lines_in_runs (without_buffer b out)
+  pub times : (l : ℕ) → times_at l out ≡ one_at l b + times_at l (without_buffer b out)
+  pub within : StandWithin out → IsHeapRun b × StandWithin (without_buffer b out)
 
 same_run : (a b : Run) → a.first ≡ b.first → a.lines ≡ b.lines → a ≡ b
 same_run a b p q = λ i. record { first = p i; lines = q i }
@@ -123,7 +123,7 @@ struck_first b r rs t =
     record {
       lines = rw t (ap (λ x. x.lines + lines_in_runs rs) (sym same));
       times = λ l. rw t (ap (λ x. one_at l x + times_at l rs) (sym same));
-      within = λ s. rw t (subst IsWithin (sym same) s.0, s.1);
+      within = λ s. rw t (subst IsHeapRun (sym same) s.0, s.1);
     }
 
 struck_later : (b r : Run) (rs : List Run) → is_run b r ≡ false → Struck b rs → Struck b (r ∷ rs)
@@ -148,10 +148,10 @@ struck b (r ∷ rs) k h e = by (λ j. struck b rs j) (is_run b r) refl k h e
 
 -- a buffer comes back
 pub record Comes (h : LineHeap) (b : Run) : Type 0 where
-  pub heap : IsHeap (record { free = given_back b h.free; out = returned b h.out })
+  pub heap : IsHeap (record { free = given_back b h.free; out = without_buffer b h.out })
   pub room : length h.free < 31
   pub within : StandWithin h.free
-  pub whole : IsWithin b
+  pub whole : IsHeapRun b
 
 pub comes : (h : LineHeap) (b : Run) → IsHeap h → Contains h.out b → Comes h b
 comes h b s c =

@@ -3,7 +3,7 @@ use Rattle.std.proofs.Common.{◌≡◌, ℕ, ◌+◌, ◌-◌, ◌<◌, ◌≤�
 use Rattle.std.proofs.lemmas.Bool.{cond_both, ltb-true, ltb-false, leb-true, eqb-false, cases_lt}
 use Rattle.std.proofs.lemmas.Bool.Decides.{nat_tests}
 use Rattle.mpb_alloc.specs.declared.heap.Run.{Run}
-use Rattle.mpb_alloc.specs.Heaps.{line_behind, has_line, StandApart, IsWithin, StandWithin, lines_in_runs, times_at, rest_of_run, taken_from, joined_runs, given_back, lowest_fit}
+use Rattle.mpb_alloc.specs.Heaps.{line_behind, has_line, StandApart, IsHeapRun, StandWithin, lines_in_runs, times_at, rest_of_run, taken_from, joined_runs, given_back, lowest_fit}
 
 pub apart_from_lower : (rs : List Run) (low lower : ℕ) → lower ≤ low → StandApart low rs → StandApart lower rs
 apart_from_lower [] low lower h s = tt
@@ -181,7 +181,7 @@ times_at-given_back l b low (r ∷ rs) n s c =
         omega (arith, one_at-joined_runs l b r t, later one (clear_joined b r (line_behind r + 1) rs t n s.1 (omega arith) s.3 c.1))
 
 -- a buffer whose lines are in no run is clear of them
-pub clear_from_times : (b : Run) (rs : List Run) → IsWithin b → StandWithin rs
+pub clear_from_times : (b : Run) (rs : List Run) → IsHeapRun b → StandWithin rs
     → ((l : ℕ) → 225 ≤ l → l < 256 → one_at l b + times_at l rs ≤ 1) → IsClear b rs
 clear_from_times b [] w s h = tt
 clear_from_times b (r ∷ rs) w s h = (

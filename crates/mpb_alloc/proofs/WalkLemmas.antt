@@ -4,7 +4,7 @@ use Rattle.std.proofs.Math.Seq.{take-append_seam, drop-append_seam}
 use Rattle.std.proofs.lemmas.List.{length-take, length-drop}
 use Rattle.std.proofs.lemmas.Bool.{le-leb, le-ltb, eq-eqb, ne_eqb, and_from}
 use Rattle.mpb_alloc.specs.declared.heap.Run.{Run}
-use Rattle.mpb_alloc.specs.Heaps.{line_behind, IsWithin, StandWithin, rest_of_run, taken_from, joined_runs, given_back, is_run, returned, lowest_fit}
+use Rattle.mpb_alloc.specs.Heaps.{line_behind, IsHeapRun, StandWithin, rest_of_run, taken_from, joined_runs, given_back, is_run, without_buffer, lowest_fit}
 
 -- what stands from a place on begins with the run at that place
 pub drop_here : (xs : List Run) (i : ℕ) (r : Run) → i < length xs → r ≡ get_or xs i r → drop i xs ≡ r ∷ drop (suc i) xs
@@ -20,7 +20,7 @@ pub record Passed (n at : ℕ) (free : List Run) : Type 0 where
 pub record Fits (n at : ℕ) (free : List Run) (r : Run) : Type 0 where
   pub fit : lowest_fit n free ≡ Some r
   pub taken : taken_from n free ≡ take at free ++ (rest_of_run n r ++ drop (suc at) free)
-  pub within : IsWithin r
+  pub within : IsHeapRun r
 
 pub fits_here : (n at : ℕ) (free : List Run) (r : Run) → at < length free → r ≡ get_or free at r → Passed n at free
     → n ≤ r.lines → Fits n at free r
@@ -65,7 +65,7 @@ rest_replaces n at free r h f e =
 pub record Giving (first : Run) (initial : List Run) (now : Run) (at : ℕ) (free : List Run) : Type 0 where
   pub is : given_back first initial ≡ take at free ++ given_back now (drop at free)
   pub within : StandWithin (drop at free)
-  pub whole : IsWithin now
+  pub whole : IsHeapRun now
   pub room : length free < 31
   pub bound : at ≤ length free
 
@@ -93,8 +93,8 @@ giving_joined first initial run at free other g h e a b =
 
 -- the buffer at the place is the one
 pub strikes_here : (b : Run) (at : ℕ) (out : List Run) (other : Run) → at < length out → other ≡ get_or out at other
-    → b.first ≡ other.first → b.lines ≡ other.lines → returned b out ≡ take at out ++ returned b (drop at out)
-    → remove out at ≡ returned b out
+    → b.first ≡ other.first → b.lines ≡ other.lines → without_buffer b out ≡ take at out ++ without_buffer b (drop at out)
+    → remove out at ≡ without_buffer b out
 strikes_here b at out other h e f l is =
     let d = drop_here out at other h e in
     let t : is_run b other ≡ true =

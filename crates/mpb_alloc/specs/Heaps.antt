@@ -38,13 +38,13 @@ StandApart low [] = Unit {0}
 StandApart low (r ∷ rs) = (low ≤ r.first) × (0 < r.lines) × (line_behind r ≤ 256) × StandApart (line_behind r + 1) rs
 
 -- the run has a line, and all its lines are of the heap
-abbrev pub IsWithin : Run → Type 0
-IsWithin r = (first_heap ≤ r.first) × (0 < r.lines) × (line_behind r ≤ 256)
+abbrev pub IsHeapRun : Run → Type 0
+IsHeapRun r = (first_heap ≤ r.first) × (0 < r.lines) × (line_behind r ≤ 256)
 
 -- each run is such
 abbrev pub StandWithin : List Run → Type 0
 StandWithin [] = Unit {0}
-StandWithin (r ∷ rs) = IsWithin r × StandWithin rs
+StandWithin (r ∷ rs) = IsHeapRun r × StandWithin rs
 
 -- how many lines the runs have
 abbrev pub lines_in_runs : List Run → ℕ
@@ -107,9 +107,9 @@ abbrev pub is_run : Run → Run → Bool
 is_run a b = a.first == b.first && a.lines == b.lines
 
 -- the buffers that are out after this one came back
-abbrev pub returned : Run → List Run → List Run
-returned b [] = []
-returned b (r ∷ rs) = if is_run b r then rs else r ∷ returned b rs
+abbrev pub without_buffer : Run → List Run → List Run
+without_buffer b [] = []
+without_buffer b (r ∷ rs) = if is_run b r then rs else r ∷ without_buffer b rs
 
 -- the buffer that a fitting run gives, or the fault where none fits
 abbrev pub answer_by : ℕ → ℕ → Option Run → Result LineRun MallocFault

@@ -1,7 +1,7 @@
 //! The heap of a core's message passing buffer.
 
 ghost use Rattle.std.specs.Prelude.{◌≡◌, ◌+◌, ◌<◌, ◌↔◌, ◌++◌, [], ◌∷◌, length, IsTrue, IfOk, OnErr, OnOk, Contains, option_map, slice_index_or};
-ghost use Rattle.mpb_alloc.specs.Heaps.{front_of, longest_of, lowest_fit, given_back, taken_from, joined_runs, returned, line_behind, IsWithin, StandWithin};
+ghost use Rattle.mpb_alloc.specs.Heaps.{front_of, longest_of, lowest_fit, given_back, taken_from, joined_runs, without_buffer, line_behind, IsHeapRun, StandWithin};
 
 use arrayvec::ArrayVec;
 use scc_base::Buf;
@@ -54,7 +54,7 @@ impl Model for Heap {
 
 impl Heap {
     ghost use Rattle.std.specs.Prelude.{◌≡◌, ◌↔◌, ◌++◌, [], ◌∷◌, IsTrue, IfOk, OnOk, OnErr, Contains};
-    ghost use Rattle.mpb_alloc.specs.Heaps.{run_of_lines, IsHeap, all_free, malloc_answer, fits_in, lines_for, taken_from, given_back, returned};
+    ghost use Rattle.mpb_alloc.specs.Heaps.{run_of_lines, IsHeap, all_free, malloc_answer, fits_in, lines_for, taken_from, given_back, without_buffer};
 
     /// All 31 lines are free.
     pub fn new() -> Heap
@@ -101,7 +101,7 @@ impl Heap {
     pub fn free(&mut self, buffer: Buf)
         requires { Contains self.old.out (run_of_lines buffer) }
         ensures free { self.new.free ≡ given_back (run_of_lines buffer) self.old.free }
-        ensures out { self.new.out ≡ returned (run_of_lines buffer) self.old.out }
+        ensures out { self.new.out ≡ without_buffer (run_of_lines buffer) self.old.out }
         ensures heap { IsHeap self.new }
     {
         let run = Run::of(buffer);
@@ -166,8 +166,8 @@ fn longest(runs: &Runs) -> usize
 
 /// One run from the first line of the two to the last.
 fn join(left: Run, right: Run) -> Run
-    requires left { IsWithin left }
-    requires right { IsWithin right }
+    requires left { IsHeapRun left }
+    requires right { IsHeapRun right }
     ensures { result ≡ joined_runs left right }
 {
     let first = left.first.min(right.first);
@@ -209,7 +209,7 @@ fn take_lowest(free: &mut Runs, lines: usize) -> Option<Buf>
 fn give_back(free: &mut Runs, run: Run)
     requires room { length free.old.items < 31 }
     requires within { StandWithin free.old.items }
-    requires run { IsWithin run }
+    requires run { IsHeapRun run }
     ensures { free.new.items ≡ given_back run free.old.items }
 {
     let mut run = run;
@@ -231,7 +231,7 @@ fn give_back(free: &mut Runs, run: Run)
 
 /// Strikes a buffer from those that are out.
 fn strike(out: &mut Runs, run: Run)
-    ensures { out.new.items ≡ returned run out.old.items }
+    ensures { out.new.items ≡ without_buffer run out.old.items }
 {
     for at in 0..out.len() {
         let other = run_at(out, at);

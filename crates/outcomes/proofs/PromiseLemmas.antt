@@ -15,7 +15,7 @@ use Rattle.outcomes.specs.Statuses.{is_quiet}
 use Rattle.outcomes.specs.Outcomes.{Outcome, Ran, run_outcome, words_refused, file_refused, too_long, no_memory, absent, read_fault}
 use Rattle.outcomes.specs.Plans.{Plan, Program, contents_outcome, plan_outcome, words_outcome}
 use Rattle.outcomes.specs.Plans.Plan.{Runs, Refuses, Reads}
-use Rattle.outcomes.specs.Coming.{ByTest, LeadsOn, Comes, IsMeant, Holds, Asks, IsAsked}
+use Rattle.outcomes.specs.Coming.{ByTest, LeadsOn, Comes, IsMeant, FileHolds, Asks, IsAsked}
 use Rattle.outcomes.specs.Delivery.{Sinks, Delivers, Shows}
 use Rattle.outcomes.specs.Promises.{EndsAsMeant, Promises}
 use Rattle.outcomes.proofs.DeliveryLemmas.{rose_not_steady, shows_steady, shows_or_write, shows_unless_write, status_of_end, rose_by_write, write_out_of, write_err_of, quiet_of, fronts_of, later_of, shown_or}
@@ -148,7 +148,7 @@ module _ (program file : List ℕ) (limit : ℕ) (next : List ℕ → Plan) wher
       IfSome told (λ files. (whole : List ℕ) × (contents_of file files ≡ Some whole) × (bytes ≡ take (limit + 1) whole)) →
       Fate program (next bytes) told count after_count o → Fate program (Reads file limit next) told count after_count o
   fate_short told count after_count bytes o short given fate =
-      let held : Holds told file bytes = told_more told (λ files whole. whole.1 ∙ ap (λ b. Some b) (sym (short_front whole.0 bytes whole.2 short))) given in
+      let held : FileHolds told file bytes = told_more told (λ files whole. whole.1 ∙ ap (λ b. Some b) (sym (short_front whole.0 bytes whole.2 short))) given in
       let same : (files : List NamedFile) → contents_of file files ≡ Some bytes → plan_outcome program (Reads file limit next) files ≡ plan_outcome program (next bytes) files =
       λ files is. read_contents files (Some bytes) is ∙ short_contents (λ b. plan_outcome program (next b) files) bytes short in
       record {

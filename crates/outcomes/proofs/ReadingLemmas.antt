@@ -5,7 +5,7 @@ use Rattle.std.proofs.lemmas.Bool.{le-ltb, lt-ltb}
 use Rattle.rcce_io.specs.Files.{FilesView, NamedFile, contents_of}
 use Rattle.rcce_io.specs.Reading.{ReadsAll}
 use Rattle.rcce_io.specs.declared.reading.ReadEnd.TheVariants as ends
-use Rattle.outcomes.specs.Coming.{Comes, Holds}
+use Rattle.outcomes.specs.Coming.{Comes, FileHolds}
 use Rattle.outcomes.specs.Outcomes.{Outcome, no_memory, too_long}
 use Rattle.outcomes.specs.Plans.{Plan}
 use Rattle.outcomes.specs.Plans.Plan.{Runs, Refuses, Reads}
@@ -35,6 +35,6 @@ take_whole n whole bytes is few =
 
 -- bytes within the limit stand in the file, where files are told
 pub holds_short : (told : Option (List NamedFile)) (file : List ℕ) (limit : ℕ) (bytes : List ℕ) → length bytes ≤ limit
-    → IfSome told (λ files. (whole : List ℕ) × (contents_of file files ≡ Some whole) × (bytes ≡ take (limit + 1) whole)) → Holds told file bytes
+    → IfSome told (λ files. (whole : List ℕ) × (contents_of file files ≡ Some whole) × (bytes ≡ take (limit + 1) whole)) → FileHolds told file bytes
 holds_short None file limit bytes few found = found
 holds_short (Some files) file limit bytes few found = found.1 ∙ ap Some (take_whole limit found.0 bytes found.2 few)

@@ -43,15 +43,15 @@ IsMeant program (Err text) before after o = (after ≡ before) × (o ≡ words_r
 IsMeant program (Ok plan) before after o = Comes program plan before after o
 
 -- the file has these bytes, where files are told
-abbrev pub Holds : Option (List NamedFile) → List ℕ → List ℕ → Type 0
-Holds told file bytes = IfSome told (λ files. contents_of file files ≡ Some bytes)
+abbrev pub FileHolds : Option (List NamedFile) → List ℕ → List ℕ → Type 0
+FileHolds told file bytes = IfSome told (λ files. contents_of file files ≡ Some bytes)
 
 -- the plan comes to reading the file, and before it to files that it read with their contents
 abbrev pub Asks : Plan → Option (List NamedFile) → List ℕ → Type 0
 Asks (Runs ran) told file = ⊥
 Asks (Refuses name line kind) told file = ⊥
 Asks (Reads name limit next) told file =
-    (file ≡ name) ⊎ ((bytes : List ℕ) × (length bytes ≤ limit) × Holds told name bytes × Asks (next bytes) told file)
+    (file ≡ name) ⊎ ((bytes : List ℕ) × (length bytes ≤ limit) × FileHolds told name bytes × Asks (next bytes) told file)
 
 -- the words ask for the file
 abbrev pub IsAsked : Result Plan (List ℕ) → Option (List NamedFile) → List ℕ → Type 0

@@ -1,6 +1,6 @@
 -- How a program is to end: its status and its two texts (this project's profile).
 use Rattle.std.specs.Prelude.{ℕ, Bool, if◌then◌else◌, List, [], ◌∷◌, codes, decimal}
-use Rattle.rcce_io.specs.Sending.{joined}
+use Rattle.rcce_io.specs.Sending.{joined_texts}
 use Rattle.outcomes.specs.declared.status.Status.{Status}
 use Rattle.outcomes.specs.declared.status.Status.TheVariants as status
 
@@ -22,7 +22,7 @@ run_outcome ran = record { status = if ran.finished then status.Finished else st
 
 -- an outcome with this status, one line on err and nothing on out
 abbrev pub complains : Status → List (List ℕ) → Outcome
-complains status texts = record { status = status; out = []; err = joined texts }
+complains status texts = record { status = status; out = []; err = joined_texts texts }
 
 -- the outcome of refused words, with the text that refuses them
 abbrev pub words_refused : List ℕ → List ℕ → Outcome

@@ -36,5 +36,5 @@ words_outcome program (Err text) files = words_refused program text
 words_outcome program (Ok plan) files = plan_outcome program plan files
 
 -- how a program is to end on these words, where these are the files
-abbrev pub expected : Program → List (List ℕ) → List NamedFile → Outcome
-expected program words files = words_outcome program.name (program.plan words) files
+abbrev pub expected_outcome : Program → List (List ℕ) → List NamedFile → Outcome
+expected_outcome program words files = words_outcome program.name (program.plan words) files

@@ -6,7 +6,7 @@ use Rattle.outcomes.specs.declared.status.Status.{Status}
 use Rattle.outcomes.specs.declared.status.Status.TheVariants as status
 use Rattle.outcomes.specs.Statuses.{is_quiet}
 use Rattle.outcomes.specs.Outcomes.{Outcome, Ran, run_outcome, words_refused, read_fault}
-use Rattle.outcomes.specs.Plans.{Program, expected}
+use Rattle.outcomes.specs.Plans.{Program, expected_outcome}
 use Rattle.outcomes.specs.Plans.Plan.{Runs}
 use Rattle.outcomes.specs.Coming.{IsMeant, IsAsked}
 use Rattle.outcomes.specs.Delivery.{Sinks, AreSteady, Delivers, Shows, ShowsOr, TakesFront}
@@ -32,7 +32,7 @@ pub record Promises (program : Program) (words : List (List ℕ)) (files files_a
   -- The output theorem: where the files tell their contents and no call failed, the status and both texts are those of the
   -- expected outcome, or of want of memory.
   pub output : IfSome files.told (λ told. IsSteady files.faults files_after.faults → AreSteady before after
-      → ShowsOr program.name (expected program words told) before after s)
+      → ShowsOr program.name (expected_outcome program words told) before after s)
   -- refused words: whatever the files are. They never give want of memory.
   pub refused : (text : List ℕ) → program.plan words ≡ Err text → AreSteady before after
       → Shows (words_refused program.name text) before after s
@@ -43,7 +43,7 @@ pub record Promises (program : Program) (words : List (List ℕ)) (files files_a
   pub memory_cause : s ≡ status.Memory → IsOk (program.plan words)
   -- faults of the files: a status of theirs has a cause, and a fault that was counted is shown, with a file that was asked for
   pub files_cause : s ≡ status.Files
-      → Rose files.faults files_after.faults ⊎ IfSome files.told (λ told. (expected program words told).status ≡ status.Files)
+      → Rose files.faults files_after.faults ⊎ IfSome files.told (λ told. (expected_outcome program words told).status ≡ status.Files)
   pub read_fault : files.faults < files_after.faults → (s ≡ status.Write)
       ⊎ ((file : List ℕ) × IsAsked (program.plan words) files.told file × Shows (read_fault program.name file) before after s)
   -- faults of the sinks

@@ -1,5 +1,5 @@
 ghost use Rattle.std.specs.Prelude.{◌≡◌, ◌<◌, ◌≤◌, length, IfOk};
-ghost use Rattle.outcomes.specs.Coming.{Holds};
+ghost use Rattle.outcomes.specs.Coming.{FileHolds};
 ghost use Rattle.outcomes.specs.Complaints.{ReadsFile};
 
 use crate::Complaint;
@@ -18,7 +18,7 @@ pub fn read_file<'a, F: Files>(
     ensures reads { ReadsFile file.now limit (F.seen files.old) (F.seen files.new) result }
     ensures within { IfOk result (λ bytes. length bytes ≤ limit) }
     // The bytes stand in the file, where files are told; and what is told of files stays.
-    ensures holds { IfOk result (λ bytes. Holds (F.seen files.old).told file.now bytes) }
+    ensures holds { IfOk result (λ bytes. FileHolds (F.seen files.old).told file.now bytes) }
     ensures told { IfOk result (λ bytes. (F.seen files.new).told ≡ (F.seen files.old).told) }
 {
     match read_all(alloc, files, file, limit) {

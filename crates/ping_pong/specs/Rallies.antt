@@ -21,5 +21,5 @@ hits [] = []
 hits (ball ∷ seen) = Recv 0 (plain_head 4) ball ∷ Send 0 (plain_head 4) ball ∷ hits seen
 
 -- a station that has made no call
-abbrev pub IsFresh : StationAt → Type 0
-IsFresh station = (s : Sight) → s.events ≡ [] → NoCallOpen s station
+abbrev pub IsFreshStation : StationAt → Type 0
+IsFreshStation station = (s : Sight) → s.events ≡ [] → NoCallOpen s station

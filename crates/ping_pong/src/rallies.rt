@@ -7,7 +7,7 @@ ghost use Rattle.scc_mesh.specs.Scenes.{IsHomeBelow, IsNew, IsWhole, about_in, e
 ghost use Rattle.station.specs.Stations.{NoCallOpen};
 ghost use Rattle.scc_base.specs.Worlds.{world_setup};
 ghost use Rattle.ping_pong.specs.GivingUp.{HasCome, HitStops, ServeStops};
-ghost use Rattle.ping_pong.specs.Rallies.{IsFresh, hits, serves};
+ghost use Rattle.ping_pong.specs.Rallies.{IsFreshStation, hits, serves};
 
 use crate::players::{hit, serve};
 use line_cache::Never;
@@ -27,7 +27,7 @@ fn serve_all(
     balls: &[Ball],
     back: &mut [Ball],
 ) -> Result<(), Stop>
-    requires fresh { IsFresh station.old }
+    requires fresh { IsFreshStation station.old }
     requires seat { (port.old.about ≡ world_setup 2) × (port.old.ticket.rank ≡ 0) × (port.old.ticket.events ≡ []) }
     requires as_many { length back.old ≡ length balls.now }
     ensures same { (port.new.ticket.table ≡ port.old.ticket.table) × (port.new.ticket.rank ≡ port.old.ticket.rank) }
@@ -46,7 +46,7 @@ fn hit_all(
     port: &mut SeatPort<'_>,
     seen: &mut [Ball],
 ) -> Result<(), Stop>
-    requires fresh { IsFresh station.old }
+    requires fresh { IsFreshStation station.old }
     requires seat { (port.old.about ≡ world_setup 2) × (port.old.ticket.rank ≡ 1) × (port.old.ticket.events ≡ []) }
     ensures same { (port.new.ticket.table ≡ port.old.ticket.table) × (port.new.ticket.rank ≡ port.old.ticket.rank) }
     ensures calls { IfOk result (λ done. (record_of (world_setup 2) 1 port.new.ticket.events).calls ≡ hits seen.new) }
@@ -68,8 +68,8 @@ fn play<R: Threads + Sync>(
     seen: &mut [Ball],
     back: &mut [Ball],
 ) -> (Result<(), Stop>, Result<(), Stop>)
-    requires one { IsFresh one.old }
-    requires other { IsFresh other.old }
+    requires one { IsFreshStation one.old }
+    requires other { IsFreshStation other.old }
     requires at_one { (at_one.old.about ≡ world_setup 2) × (at_one.old.ticket.rank ≡ 0) × (at_one.old.ticket.events ≡ []) }
     requires at_other { (at_other.old.about ≡ world_setup 2) × (at_other.old.ticket.rank ≡ 1) × (at_other.old.ticket.events ≡ []) }
     requires as_many { length back.old ≡ length balls.now }
@@ -131,8 +131,8 @@ pub(crate) fn rally<R: Threads + Sync>(
     back: &mut [Ball],
 ) -> Result<(), Stop>
     requires new { IsNew (world_setup 2) chip.old }
-    requires one { IsFresh one.old }
-    requires other { IsFresh other.old }
+    requires one { IsFreshStation one.old }
+    requires other { IsFreshStation other.old }
     requires as_many { (length seen.old ≡ length balls.now) × (length back.old ≡ length balls.now) }
     ensures seen { IfOk result (λ done. seen.new ≡ balls.now) }
     ensures back { IfOk result (λ done. back.new ≡ balls.now) }

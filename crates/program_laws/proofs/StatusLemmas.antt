@@ -15,7 +15,7 @@ use Rattle.outcomes.specs.declared.status.Status.{Status}
 use Rattle.outcomes.specs.declared.status.Status.TheVariants as status
 use Rattle.outcomes.specs.Numbers.{is_option, ue_count_of}
 use Rattle.outcomes.specs.Outcomes.{Outcome, too_long}
-use Rattle.outcomes.specs.Plans.{Plan, contents_outcome, expected, plan_outcome, words_outcome}
+use Rattle.outcomes.specs.Plans.{Plan, contents_outcome, expected_outcome, plan_outcome, words_outcome}
 use Rattle.rcce_words.specs.CommandLine.{option_named, nothing, take_option, take_name, takes_value, scan, job_of, parse_command}
 use Rattle.rcce_words.specs.ScriptFiles.{bytes_plan, parsed_plan, script_plan}
 use Rattle.rcce_words.specs.ScriptWords.{Command, plan_of, script_command}
@@ -57,7 +57,7 @@ of_command : (command : Option Command) (files : List NamedFile) → (words_outc
 of_command None files = refl
 of_command (Some command) files = of_file check.rccecheck.name files check.check_run_plan (λ script. refl) command.script command.nue
 
-pub check_status : (words : List (List ℕ)) (told : List NamedFile) → (expected check.rccecheck words told).status ≡ run_status words told
+pub check_status : (words : List (List ℕ)) (told : List NamedFile) → (expected_outcome check.rccecheck words told).status ≡ run_status words told
 check_status words told = of_command (script_command words) told
 
 -- ---- `rccerun`
@@ -81,7 +81,7 @@ parsed_job : (number script : List ℕ) (nue : ℕ) → is_option script ≡ fal
 parsed_job number script nue name count = ap (read_by number script) count ∙ ap (named_by nue script) name
 
 of_words : (number script : List ℕ) (nue : ℕ) (told : List NamedFile) → is_option script ≡ false → ue_count_of number ≡ Some nue
-    → (expected run.rccerun (codes "-nue" ∷ number ∷ script ∷ []) told).status ≡ contents_status nue (contents_of script told)
+    → (expected_outcome run.rccerun (codes "-nue" ∷ number ∷ script ∷ []) told).status ≡ contents_status nue (contents_of script told)
 of_words number script nue told name count =
     let words : List (List ℕ) = codes "-nue" ∷ number ∷ script ∷ [] in
     ap (λ (job : Result Job WordFault). (words_outcome run.rccerun.name (run.words_plan words job) told).status) (parsed_job number script nue name count)
@@ -101,16 +101,16 @@ abbrev command_by : List ℕ → Option ℕ → Bool → Option Command
 command_by script count test = if test then option_map (λ nue. record { nue = nue; script = script }) count else None
 
 three : (option number script : List ℕ) (told : List NamedFile) (count : Option ℕ) (test : Bool) → ue_count_of number ≡ count → (bytes_eq option (codes "-nue") && not (is_option script)) ≡ test
-    → IsSome (command_by script count test) → (expected run.rccerun (option ∷ number ∷ script ∷ []) told).status ≡ command_status (command_by script count test) told
+    → IsSome (command_by script count test) → (expected_outcome run.rccerun (option ∷ number ∷ script ∷ []) told).status ≡ command_status (command_by script count test) told
 three option number script told count false counted tested some = absurd (cc)
 three option number script told None true counted tested some = absurd (cc)
 three option number script told (Some nue) true counted tested some =
     let tests = both_are (bytes_eq option (codes "-nue")) (not (is_option script)) tested in
     let same : codes "-nue" ≡ option = sym ((bytes_eq-Decides option (codes "-nue")).0 tests.0) in
-    subst (λ (word : List ℕ). (expected run.rccerun (word ∷ number ∷ script ∷ []) told).status ≡ contents_status nue (contents_of script told)) same
+    subst (λ (word : List ℕ). (expected_outcome run.rccerun (word ∷ number ∷ script ∷ []) told).status ≡ contents_status nue (contents_of script told)) same
     (of_words number script nue told (not_is (is_option script) tests.1) counted)
 
-pub one_status : (words : List (List ℕ)) (told : List NamedFile) → IsSome (script_command words) → (expected run.rccerun words told).status ≡ run_status words told
+pub one_status : (words : List (List ℕ)) (told : List NamedFile) → IsSome (script_command words) → (expected_outcome run.rccerun words told).status ≡ run_status words told
 one_status [] told some = absurd (cc)
 one_status (a ∷ []) told some = absurd (cc)
 one_status (a ∷ b ∷ []) told some = absurd (cc)

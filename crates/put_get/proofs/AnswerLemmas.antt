@@ -9,7 +9,7 @@ use Rattle.scc_base.specs.Events.{load_of, store_of}
 use Rattle.scc_base.specs.declared.events.Event.{Event}
 use Rattle.scc_proto.specs.Ports.{Sight, Did}
 use Rattle.line_cache.specs.declared.cache.Entry.{Entry}
-use Rattle.line_cache.specs.Lines.{noted}
+use Rattle.line_cache.specs.Lines.{lines_with_word}
 use Rattle.put_get.specs.Accesses.{loads_of}
 use Rattle.put_get.specs.Cores.{Private, Fetch, Held, Loaded}
 use Rattle.put_get.specs.Transfers.{same_word, load_count}
@@ -135,7 +135,7 @@ word_written known p v words below a =
         (known_more known (store_of p v ∷ []) (word_of_line (line_of_word p) k) (slice_index words k) (a.each k h))
 
 noted_known : (known : List Event) (p : WordAt) (v : ℕ) (es : List Entry) → p.word < 4 → EachEntry (IsLineKnown known) es
-    → EachEntry (IsLineKnown (known ++ store_of p v ∷ [])) (noted es p v)
+    → EachEntry (IsLineKnown (known ++ store_of p v ∷ [])) (lines_with_word es p v)
 noted_known known p v [] below a = tt
 noted_known known p v (e ∷ es) below a = (
   cond_both (same_line e.line (line_of_word p)) (record { line = e.line; words = set e.words p.word v }) e

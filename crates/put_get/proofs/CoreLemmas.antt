@@ -5,7 +5,7 @@ use Rattle.scc_base.specs.declared.events.Event.{Event}
 use Rattle.scc_proto.specs.Ports.{Seat, Sight, Did}
 use Rattle.scc_proto.proofs.PortLaws.{did_nothing, did_both}
 use Rattle.line_cache.specs.declared.cache.Entry.{Entry}
-use Rattle.line_cache.specs.Lines.{filled}
+use Rattle.line_cache.specs.Lines.{with_filled_line}
 use Rattle.line_cache.specs.Eviction.{MayAnswer, asked_after}
 use Rattle.write_combine.specs.declared.combiner.Out.{Out}
 use Rattle.put_get.specs.Accesses.{loads_of}
@@ -14,7 +14,7 @@ use Rattle.put_get.proofs.StepLemmas.{steps_both}
 
 -- a line came in, and the evictor named an entry
 pub fills_dropped : (lines now : List Entry) (out : Option Out) (n m : ℕ) (asked later : Option ℕ) (answers next : List (Option ℕ)) (line : LineAt) (words : List ℕ) (held at : ℕ)
-    → held ≡ length (filled lines line words) → at < held → MayAnswer answers held (Some at) → now ≡ remove (filled lines line words) at → m ≡ n + 1 → later ≡ asked_after asked
+    → held ≡ length (with_filled_line lines line words) → at < held → MayAnswer answers held (Some at) → now ≡ remove (with_filled_line lines line words) at → m ≡ n + 1 → later ≡ asked_after asked
     → Fills (record { lines = lines; out = out; evictions = n; asked = asked; answers = answers }) line words
     (record { lines = now; out = out; evictions = m; asked = later; answers = next })
 fills_dropped lines now out n m asked later answers next line words held at len h given e k once =

@@ -2,7 +2,7 @@
 use Rattle.std.proofs.Common.{◌≡◌, ℕ, suc, ◌≤◌, List, None, Some, ◌∙◌, ap, arith}
 use Rattle.scc_base.specs.Places.{LineAt, WordAt}
 use Rattle.scc_proto.specs.Ports.{Sight}
-use Rattle.line_cache.specs.Lines.{held}
+use Rattle.line_cache.specs.Lines.{cached_words}
 use Rattle.put_get.specs.Cores.{Private, Fills, Kept, Dropped, Fetch, Held, Loaded, ReadsWord}
 use Rattle.put_get.proofs.EntryLemmas.{held-filled}
 
@@ -17,9 +17,9 @@ fills_evictions {c} {d} (Kept given e) = let same : d.evictions ≡ c.evictions 
 fills_evictions {c} {d} (Dropped at low given e) = let more : d.evictions ≡ suc c.evictions = ap (λ (x : Private). x.evictions) e in omega (arith, more)
 
 -- the line stands in the cache where none was evicted
-pub fills_held : {c d : Private} {line : LineAt} {words : List ℕ} → Fills c line words d → held c.lines line ≡ None → d.evictions ≡ c.evictions
-    → held d.lines line ≡ Some words
-fills_held {c} {d} {line} {words} (Kept given e) none same = ap (λ (x : Private). held x.lines line) e ∙ held-filled c.lines line words none
+pub fills_held : {c d : Private} {line : LineAt} {words : List ℕ} → Fills c line words d → cached_words c.lines line ≡ None → d.evictions ≡ c.evictions
+    → cached_words d.lines line ≡ Some words
+fills_held {c} {d} {line} {words} (Kept given e) none same = ap (λ (x : Private). cached_words x.lines line) e ∙ held-filled c.lines line words none
 fills_held {c} {d} {line} {words} (Dropped at low given e) none same =
     let more : d.evictions ≡ suc c.evictions = ap (λ (x : Private). x.evictions) e in absurd (omega (arith, more, same))
 

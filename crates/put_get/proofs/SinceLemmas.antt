@@ -6,7 +6,7 @@ use Rattle.scc_base.specs.Events.{store_of}
 use Rattle.scc_base.specs.declared.events.Event.{Event}
 use Rattle.scc_proto.specs.Ports.{Sight, Did, and_then}
 use Rattle.scc_proto.proofs.PortLaws.{did_nothing, did_both}
-use Rattle.line_cache.specs.Lines.{noted}
+use Rattle.line_cache.specs.Lines.{lines_with_word}
 use Rattle.write_combine.specs.declared.combiner.Out.{Out}
 use Rattle.write_combine.specs.Combining.{one_word, with_word, handed_out, held_after}
 use Rattle.put_get.specs.Accesses.{stores_of_line, stores_of, whole_line}
@@ -142,13 +142,13 @@ none_out out o line is same = ap (λ (x : Option Out). handed_out x line) is ∙
 
 -- one more word of the line in the buffer was written, and nothing was stored
 joins : (known : List Event) (c : Private) (t : Sight) (o : Out) (p : WordAt) (v : ℕ) → p.word < 4 → c.out ≡ Some o → same_line o.line (line_of_word p) ≡ true → Since known c
-    → Since (known ++ store_of p v ∷ []) (record c { lines = noted c.lines p v; out = Some (with_word o p.word v) })
+    → Since (known ++ store_of p v ∷ []) (record c { lines = lines_with_word c.lines p v; out = Some (with_word o p.word v) })
 joins known c t o p v below held same since =
-    let next : Private = record c { lines = noted c.lines p v; out = Some (with_word o p.word v) } in
+    let next : Private = record c { lines = lines_with_word c.lines p v; out = Some (with_word o p.word v) } in
     let out : Some (held_after c.out p v) ≡ Some (with_word o p.word v) = ap (λ (x : Option Out). Some (held_after x p v)) held ∙ ap (λ (x : Out). Some x) (more_held o p v same) in
     HasWritten known c since t t next p v below (record {
       did = subst (λ (x : Option Out). Did t (stores_of x) t) (sym (none_out c.out o (line_of_word p) held same)) (did_nothing t);
-      is = λ i. record c { lines = noted c.lines p v; out = sym out i };
+      is = λ i. record c { lines = lines_with_word c.lines p v; out = sym out i };
     })
 
 writes_line : (known : List Event) (c d : Private) (s t : Sight) (line : LineAt) (words : List ℕ) → Since known c
@@ -165,14 +165,14 @@ writes_line known c d s t line words since other writes =
     let o0 : Out = one_word p0 v0 in
     let o1 : Out = with_word o0 1 v1 in
     let o2 : Out = with_word o1 2 v2 in
-    let c1 : Private = record c { lines = noted c.lines p0 v0; out = Some o0 } in
-    let c2 : Private = record c1 { lines = noted c1.lines p1 v1; out = Some o1 } in
-    let c3 : Private = record c2 { lines = noted c2.lines p2 v2; out = Some o2 } in
+    let c1 : Private = record c { lines = lines_with_word c.lines p0 v0; out = Some o0 } in
+    let c2 : Private = record c1 { lines = lines_with_word c1.lines p1 v1; out = Some o1 } in
+    let c3 : Private = record c2 { lines = lines_with_word c2.lines p2 v2; out = Some o2 } in
     let same = same_line-refl line in
     let first = first_held c.out p0 v0 other in
     let a : Since (known ++ store_of p0 v0 ∷ []) c1 = HasWritten known c since s t c1 p0 v0 (omega arith) (record {
       did = subst (λ (x : Option Out). Did s (stores_of x) t) (sym other) writes.did;
-      is = λ i. record c { lines = noted c.lines p0 v0; out = Some (sym first i) };
+      is = λ i. record c { lines = lines_with_word c.lines p0 v0; out = Some (sym first i) };
     }) in
     let b = joins (known ++ store_of p0 v0 ∷ []) c1 t o0 p1 v1 (omega arith) refl same a in
     let e = joins ((known ++ store_of p0 v0 ∷ []) ++ store_of p1 v1 ∷ []) c2 t o1 p2 v2 (omega arith) refl same b in
@@ -199,11 +199,11 @@ writes_through : (known : List Event) (c d : Private) (s t : Sight) (p : WordAt)
 writes_through known c d s t p v since below other writes =
     let stores = stores_of c.out in
     let mid = and_then s stores in
-    let written : Private = record c { lines = noted c.lines p v; out = Some (one_word p v) } in
+    let written : Private = record c { lines = lines_with_word c.lines p v; out = Some (one_word p v) } in
     let first = first_held c.out p v other in
     let a : Since (known ++ store_of p v ∷ []) written = HasWritten known c since s mid written p v below (record {
       did = subst (λ (x : Option Out). Did s (stores_of x) mid) (sym other) (did_front s stores (store_of p v ∷ []) t writes.did);
-      is = λ i. record c { lines = noted c.lines p v; out = Some (sym first i) };
+      is = λ i. record c { lines = lines_with_word c.lines p v; out = Some (sym first i) };
     }) in
     HasFlushed (known ++ store_of p v ∷ []) written a mid t d (record {
       did = subst (λ (es : List Event). Did mid es t) (sym (one_stored p v below)) (did_left s stores (store_of p v ∷ []) t writes.did);

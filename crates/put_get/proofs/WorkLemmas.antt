@@ -9,7 +9,7 @@ use Rattle.scc_base.specs.Events.{load_of}
 use Rattle.scc_base.specs.declared.events.Event.{Event}
 use Rattle.scc_proto.specs.Ports.{Sight, Did}
 use Rattle.scc_proto.proofs.PortLaws.{did_nothing, did_both}
-use Rattle.line_cache.specs.Lines.{held}
+use Rattle.line_cache.specs.Lines.{cached_words}
 use Rattle.put_get.specs.Accesses.{loads_of}
 use Rattle.put_get.specs.Cores.{Private, Fills, Kept, Dropped, Fetch, Held, Loaded, ReadsLine}
 use Rattle.put_get.specs.Transfers.{line_at, is_load, load_count, same_word, is_load_of, IsLoaded, IsLineLoaded, AreLoaded, ReadsLines, Gets}
@@ -76,7 +76,7 @@ load_count-append a b = sum_by-append (λ (e : Event). cond (is_load e.access) 1
 
 -- 1 where the line is held
 abbrev pub stands : Private → LineAt → ℕ
-stands c line = cond (is_some (held c.lines line)) 1 0
+stands c line = cond (is_some (cached_words c.lines line)) 1 0
 
 -- each entry holds what these events loaded
 abbrev pub AllLoaded : List Event → Private → Type 0
@@ -97,7 +97,7 @@ pub record Fetches (s : Sight) (c : Private) (line : LineAt) (words : List ℕ) 
   pub spends : Spends s c line t d
   pub words_loaded : (known : List Event) → AllLoaded known c → IsLineLoaded (known ++ spends.events) line words
 
-fills_cost : {c d : Private} {line : LineAt} {words : List ℕ} → held c.lines line ≡ None → Fills c line words d
+fills_cost : {c d : Private} {line : LineAt} {words : List ℕ} → cached_words c.lines line ≡ None → Fills c line words d
     → 4 + 4 * stands c line + 4 * c.evictions ≤ 4 * d.evictions + 4 * stands d line
 fills_cost {c} {d} {line} {words} h (Kept given e) =
     let before : stands c line ≡ 0 = ap (λ o. cond (is_some o) 1 0) h in
@@ -238,7 +238,7 @@ pub record SpendsLines (s : Sight) (c : Private) (core line : ℕ) (dst : List (
   pub loaded : (known : List Event) → AllLoaded known c → AreLoaded (known ++ events) core line dst
 
 pub stands_once : (c : Private) (line : LineAt) → stands c line ≤ 1
-stands_once c line = cond_both (is_some (held c.lines line)) 1 0 (λ n. n ≤ 1) (λ t. omega arith) (λ f. omega arith)
+stands_once c line = cond_both (is_some (cached_words c.lines line)) 1 0 (λ n. n ≤ 1) (λ t. omega arith) (λ f. omega arith)
 
 pub spends_lines : (dst : List (List ℕ)) (s : Sight) (c : Private) (core line : ℕ) (t : Sight) (d : Private) → ReadsLines s c core line dst t d
     → SpendsLines s c core line dst t d

@@ -7,7 +7,7 @@ use Rattle.scc_base.specs.Events.{store_of}
 use Rattle.scc_base.specs.declared.events.Event.{Event}
 use Rattle.scc_proto.specs.Ports.{Seat, Sight, Did}
 use Rattle.line_cache.specs.declared.cache.Entry.{Entry}
-use Rattle.line_cache.specs.Lines.{held, filled, noted, IsCache}
+use Rattle.line_cache.specs.Lines.{cached_words, with_filled_line, lines_with_word, IsCache}
 use Rattle.line_cache.specs.Eviction.{MayAnswer, asked_after}
 use Rattle.write_combine.specs.declared.combiner.Out.{Out}
 use Rattle.write_combine.specs.Combining.{handed_out, held_after, HoldsWord}
@@ -31,11 +31,13 @@ pub record IsCore (lines : List Entry) (out : Option Out) : Type 0 where
 -- a line came in, and the evictor was asked once, with the number of lines held: it named none, and the line stands
 -- last, or the one that it named left; nothing is said of what it answers afterwards
 pub data Fills (c : Private) (line : LineAt) (words : List ℕ) (d : Private) : Type 0 where
-  Kept : MayAnswer c.answers (length (filled c.lines line words)) None
-      → d ≡ record c { lines = filled c.lines line words; asked = asked_after c.asked; answers = d.answers } → Fills c line words d
-  Dropped : (at : ℕ) → at < length (filled c.lines line words) → MayAnswer c.answers (length (filled c.lines line words)) (Some at)
+  Kept : MayAnswer c.answers (length (with_filled_line c.lines line words)) None
+      → d ≡ record c { lines = with_filled_line c.lines line words; asked = asked_after c.asked; answers = d.answers }
+      → Fills c line words d
+  Dropped : (at : ℕ) → at < length (with_filled_line c.lines line words)
+      → MayAnswer c.answers (length (with_filled_line c.lines line words)) (Some at)
       → d ≡ record c {
-        lines = remove (filled c.lines line words) at;
+        lines = remove (with_filled_line c.lines line words) at;
         evictions = suc c.evictions;
         asked = asked_after c.asked;
         answers = d.answers;
@@ -43,8 +45,9 @@ pub data Fills (c : Private) (line : LineAt) (words : List ℕ) (d : Private) : 
 
 -- the words of a line were got: from the cache with no event, or by four loads, after which the line came in
 pub data Fetch (s : Sight) (c : Private) (line : LineAt) (words : List ℕ) (t : Sight) (d : Private) : Type 0 where
-  Held : held c.lines line ≡ Some words → t ≡ s → d ≡ c → Fetch s c line words t d
-  Loaded : held c.lines line ≡ None → length words ≡ 4 → Did s (loads_of line words) t → Fills c line words d → Fetch s c line words t d
+  Held : cached_words c.lines line ≡ Some words → t ≡ s → d ≡ c → Fetch s c line words t d
+  Loaded : cached_words c.lines line ≡ None → length words ≡ 4 → Did s (loads_of line words) t → Fills c line words d
+      → Fetch s c line words t d
 
 -- one word was read
 pub record ReadsWord (s : Sight) (c : Private) (p : WordAt) (v : ℕ) (t : Sight) (d : Private) : Type 0 where
@@ -68,7 +71,7 @@ pub record ReadsLine (s : Sight) (c : Private) (line : LineAt) (words : List ℕ
 -- one word was written: it is noted in the cache and in the buffer, and what the buffer handed out was stored
 pub record Writes (s : Sight) (c : Private) (p : WordAt) (v : ℕ) (t : Sight) (d : Private) : Type 0 where
   pub did : Did s (stores_of (handed_out c.out (line_of_word p))) t
-  pub is : d ≡ record c { lines = noted c.lines p v; out = Some (held_after c.out p v) }
+  pub is : d ≡ record c { lines = lines_with_word c.lines p v; out = Some (held_after c.out p v) }
 
 -- what the buffer held was stored
 pub record Flushes (s : Sight) (c : Private) (t : Sight) (d : Private) : Type 0 where
@@ -79,7 +82,7 @@ pub record Flushes (s : Sight) (c : Private) (t : Sight) (d : Private) : Type 0 
 -- before it, as when a word is written and then flushed
 pub record WritesThrough (s : Sight) (c : Private) (p : WordAt) (v : ℕ) (t : Sight) (d : Private) : Type 0 where
   pub did : Did s (stores_of c.out ++ store_of p v ∷ []) t
-  pub is : d ≡ record c { lines = noted c.lines p v; out = None }
+  pub is : d ≡ record c { lines = lines_with_word c.lines p v; out = None }
 
 -- a whole line was written: what the buffer held before was stored, and the line stands in the buffer
 pub record WritesLine (s : Sight) (c : Private) (line : LineAt) (words : List ℕ) (t : Sight) (d : Private) : Type 0 where

@@ -41,7 +41,7 @@ impl<V: Evict> Core<V> {
     ghost use Rattle.scc_base.specs.Events.{store_of};
     ghost use Rattle.scc_base.specs.declared.events.Event.{Event};
     ghost use Rattle.scc_proto.specs.Ports.{MayMakeAll, record_in};
-    ghost use Rattle.line_cache.specs.Lines.{held};
+    ghost use Rattle.line_cache.specs.Lines.{cached_words};
     ghost use Rattle.write_combine.specs.Combining.{handed_out};
     ghost use Rattle.put_get.specs.Accesses.{stores_of};
     ghost use Rattle.put_get.specs.Cores.{Private, IsCore, Fills, Fetch, ReadsWord, ReadsLine, Writes, WritesThrough, WritesLine, Flushes, MadeSteps};
@@ -111,7 +111,7 @@ impl<V: Evict> Core<V> {
     /// Brings a line in. Then the evictor is asked once, and the entry that it names leaves. Whether it named none.
     #[inline(always)]
     fn bring(&mut self, line: Line, words: [u64; 4]) -> bool
-        requires { held self.old.lines line ≡ None }
+        requires { cached_words self.old.lines line ≡ None }
         ensures fills { Fills self.old line words self.new }
         ensures kept { result ≡ true → self.new.evictions ≡ self.old.evictions }
     {

@@ -17,11 +17,11 @@ use Rattle.scc_base.specs.declared.communicators.CommRule.TheVariants.{Absent, W
 use Rattle.scc_base.specs.declared.kinds.Kind.{Kind}
 use Rattle.scc_base.specs.declared.kinds.Kind.TheVariants.{Plain, Bcast, Reduce, AllUp, AllDown}
 use Rattle.rcce_audit.specs.declared.lines.EndRanks.{EndRanks}
-use Rattle.rcce_audit.specs.Grammar.{Reading, RankedCall, rank_said, end_ranks, ends_said, head_of, head_said, bytes_said, is_post, call_named, message_said, is_present, call_said, with_call, is_in_order, add_call, begins_comm, line_said}
+use Rattle.rcce_audit.specs.Grammar.{Reading, RankedCall, log_rank_said, end_ranks, ends_said, log_head_of, log_head_said, log_bytes_said, is_post, call_named, message_said, has_rule, call_said, with_call, is_in_order, add_call, begins_comm, line_said}
 use Rattle.rcce_audit.specs.Logs.{IsMessage, IsLogCall}
 use Rattle.rcce_io.specs.Digits.{hex_text}
 use Rattle.rcce_audit.specs.Texts.{message_words, call_words, line_of, text_of}
-use Rattle.rcce_audit.specs.Words.{◌>>=◌, only_if, words_of, range_said}
+use Rattle.rcce_audit.specs.Words.{◌>>=◌, only_if, log_words_of, exact_range_said}
 use Rattle.texts.specs.Cuts.{lines_of}
 use Rattle.rcce_audit.proofs.HexTextLemmas.{digit_at}
 use Rattle.rcce_audit.proofs.WordLemmas.{range_said-decimal, kind_said-kind_text, hex_said-hex_text}
@@ -88,7 +88,7 @@ no_feed : (b : ℕ) → ink b ≡ true → (b == 10) ≡ false
 no_feed b is = grind (arith, nat_tests)
 
 -- the words of a line of words
-pub words_of-line_of : (w : List ℕ) (ws : List (List ℕ)) → AreWords (w ∷ ws) → words_of (line_of (w ∷ ws)) ≡ w ∷ ws
+pub words_of-line_of : (w : List ℕ) (ws : List (List ℕ)) → AreWords (w ∷ ws) → log_words_of (line_of (w ∷ ws)) ≡ w ∷ ws
 words_of-line_of w [] (is, rest) = slice_split_none (λ b. b == 32) w (none_pass (λ b. b == 32) w no_blank is)
 words_of-line_of w (v ∷ vs) (is, rest) =
     slice_split_at (λ b. b == 32) w 32 (line_of (v ∷ vs)) (none_pass (λ b. b == 32) w no_blank is) refl
@@ -140,12 +140,12 @@ call_are nue comms r (Post to head bytes) ranks below (valid, post) = message_ar
 call_are nue comms r (Bar comm) ranks below (within, stands) = (small_word r (omega arith), (refl, (small_word comm (omega arith), tt)))
 
 -- what the words of a message say
-rank_told : (nue r : ℕ) → nue ≤ 48 → r < nue → rank_said nue (decimal r) ≡ Some r
+rank_told : (nue r : ℕ) → nue ≤ 48 → r < nue → log_rank_said nue (decimal r) ≡ Some r
 rank_told nue r ranks below = range_said-decimal 0 (nue - 1) r (omega arith) (omega arith) (omega arith)
 
 ends_told : (nue r peer : ℕ) → nue ≤ 48 → r < nue → peer < nue → peer ≢ r → ends_said nue (decimal r) (decimal peer) ≡ Some (record { rank = r; peer = peer })
 ends_told nue r peer ranks below peer_below other =
-    ap (λ (o : Option ℕ). o >>= λ x. rank_said nue (decimal peer) >>= end_ranks x) (rank_told nue r ranks below)
+    ap (λ (o : Option ℕ). o >>= λ x. log_rank_said nue (decimal peer) >>= end_ranks x) (rank_told nue r ranks below)
     ∙ ap (λ (o : Option ℕ). o >>= end_ranks r) (rank_told nue peer ranks peer_below)
     ∙ cond-true (not (r == peer)) (Some (record { rank = r; peer = peer })) None (ap not (ne_eqb r peer (λ is. other (sym is))))
 
@@ -164,17 +164,17 @@ in_world a b world = by_cases (cases_eq a 0)
     by_cases (inl plain) = let in_it : b ≡ 0 = world plain in grind (arith, nat_tests)
     by_cases (inr other) = grind (arith, nat_tests)
 
-head_told : (head : MessageHead) → IsHead head → head_said (kind_text (kind_at head.kind)) (decimal head.comm) (decimal head.len) ≡ Some head
+head_told : (head : MessageHead) → IsHead head → log_head_said (kind_text (kind_at head.kind)) (decimal head.comm) (decimal head.len) ≡ Some head
 head_told head valid =
     let comm_below = valid.comm_below in
     let len_within = valid.len_within in
-    ap (λ (o : Option Kind). o >>= λ k. range_said 0 15 (decimal head.comm) >>= λ c. range_said 0 65536 (decimal head.len) >>= head_of k c) (kind_said-kind_text (kind_at head.kind))
-    ∙ ap (λ (o : Option ℕ). o >>= λ c. range_said 0 65536 (decimal head.len) >>= head_of (kind_at head.kind) c) (range_said-decimal 0 15 head.comm (omega arith) (omega arith) (omega arith))
-    ∙ ap (λ (o : Option ℕ). o >>= head_of (kind_at head.kind) head.comm) (range_said-decimal 0 65536 head.len (omega arith) len_within (omega arith))
+    ap (λ (o : Option Kind). o >>= λ k. exact_range_said 0 15 (decimal head.comm) >>= λ c. exact_range_said 0 65536 (decimal head.len) >>= log_head_of k c) (kind_said-kind_text (kind_at head.kind))
+    ∙ ap (λ (o : Option ℕ). o >>= λ c. exact_range_said 0 65536 (decimal head.len) >>= log_head_of (kind_at head.kind) c) (range_said-decimal 0 15 head.comm (omega arith) (omega arith) (omega arith))
+    ∙ ap (λ (o : Option ℕ). o >>= log_head_of (kind_at head.kind) head.comm) (range_said-decimal 0 65536 head.len (omega arith) len_within (omega arith))
     ∙ ap (λ (n : ℕ). only_if (not (n == 0 && not (head.comm == 0))) (record { kind = n; comm = head.comm; len = head.len })) (kind_back head.kind valid.kind_below)
     ∙ cond-true (not (head.kind == 0 && not (head.comm == 0))) (Some head) None (in_world head.kind head.comm valid.plain_in_world)
 
-bytes_told : (len : ℕ) (bytes : List ℕ) → IsBytes bytes → length bytes ≡ len → bytes_said len (hex_text bytes) ≡ Some bytes
+bytes_told : (len : ℕ) (bytes : List ℕ) → IsBytes bytes → length bytes ≡ len → log_bytes_said len (hex_text bytes) ≡ Some bytes
 bytes_told len bytes are counted =
     ap (λ (o : Option (List ℕ)). o >>= λ b. only_if (length b == len) b) (hex_said-hex_text bytes are)
     ∙ cond-true (length bytes == len) (Some bytes) None (eq-eqb (length bytes) len counted)
@@ -182,7 +182,7 @@ bytes_told len bytes are counted =
 message_told : (nue : ℕ) (comms : List CommRule) (r peer : ℕ) (verb : List ℕ) (head : MessageHead) (bytes : List ℕ) (call : DataCall) → nue ≤ 48 → r < nue → IsMessage nue r peer head bytes
     → call_named verb peer head bytes ≡ Some call → call_said nue comms (message_words r verb peer head bytes) ≡ Some (record { rank = r; call = call })
 message_told nue comms r peer verb head bytes call ranks below valid named =
-    ap (λ (o : Option EndRanks). o >>= λ e. head_said (kind_text (kind_at head.kind)) (decimal head.comm) (decimal head.len) >>= λ h. message_said e h verb (hex_text bytes)) (ends_told nue r peer ranks below valid.peer_below valid.other)
+    ap (λ (o : Option EndRanks). o >>= λ e. log_head_said (kind_text (kind_at head.kind)) (decimal head.comm) (decimal head.len) >>= λ h. message_said e h verb (hex_text bytes)) (ends_told nue r peer ranks below valid.peer_below valid.other)
     ∙ ap (λ (o : Option MessageHead). o >>= λ h. message_said (record { rank = r; peer = peer }) h verb (hex_text bytes)) (head_told head valid.valid)
     ∙ ap (λ (o : Option (List ℕ)). o >>= λ b. call_named verb peer head b >>= λ c. Some (record { rank = r; call = c })) (bytes_told head.len bytes valid.are_bytes valid.counted)
     ∙ ap (λ (o : Option DataCall). o >>= λ c. Some (record { rank = r; call = c })) named
@@ -190,7 +190,7 @@ message_told nue comms r peer verb head bytes call ranks below valid named =
 post_is : (head : MessageHead) → IsPostHead head → is_post head ≡ true
 post_is head valid = and_from (head.kind == 0) (head.comm == 0 && nat_le head.len 3584) (eq-eqb head.kind 0 valid.plain) (and_from (head.comm == 0) (nat_le head.len 3584) (eq-eqb head.comm 0 valid.in_world) (le-leb head.len 3584 valid.len_within))
 
-pub present_is : (rule : CommRule) → rule ≢ Absent → is_present rule ≡ true
+pub present_is : (rule : CommRule) → rule ≢ Absent → has_rule rule ≡ true
 present_is Absent stands = absurd (stands refl)
 present_is World stands = refl
 present_is (Mod parent k) stands = refl
@@ -202,9 +202,9 @@ call_told nue comms r (Recv from head bytes) ranks below valid = message_told nu
 call_told nue comms r (Post to head bytes) ranks below (valid, post) =
     message_told nue comms r to (codes "post") head bytes (Post to head bytes) ranks below valid (cond-true (is_post head) (Some (Post to head bytes)) None (post_is head post))
 call_told nue comms r (Bar comm) ranks below (within, stands) =
-    ap (λ (o : Option ℕ). o >>= λ x. range_said 0 15 (decimal comm) >>= λ c. only_if (bytes_eq (codes "bar") (codes "bar") && is_present (rule_of comms c)) (record { rank = x; call = Bar c })) (rank_told nue r ranks below)
-    ∙ ap (λ (o : Option ℕ). o >>= λ c. only_if (bytes_eq (codes "bar") (codes "bar") && is_present (rule_of comms c)) (record { rank = r; call = Bar c })) (range_said-decimal 0 15 comm (omega arith) (omega arith) (omega arith))
-    ∙ cond-true (is_present (rule_of comms comm)) (Some (record { rank = r; call = Bar comm })) None (present_is (rule_of comms comm) stands)
+    ap (λ (o : Option ℕ). o >>= λ x. exact_range_said 0 15 (decimal comm) >>= λ c. only_if (bytes_eq (codes "bar") (codes "bar") && has_rule (rule_of comms c)) (record { rank = x; call = Bar c })) (rank_told nue r ranks below)
+    ∙ ap (λ (o : Option ℕ). o >>= λ c. only_if (bytes_eq (codes "bar") (codes "bar") && has_rule (rule_of comms c)) (record { rank = r; call = Bar c })) (range_said-decimal 0 15 comm (omega arith) (omega arith) (omega arith))
+    ∙ cond-true (has_rule (rule_of comms comm)) (Some (record { rank = r; call = Bar comm })) None (present_is (rule_of comms comm) stands)
 
 -- a call's line does not begin as one of a communicator
 abbrev pub BeginsLow : List ℕ → Type 0
@@ -230,7 +230,7 @@ call_low r (Recv from head bytes) below = line_low (decimal r) (codes "recv") (d
 call_low r (Post to head bytes) below = line_low (decimal r) (codes "post") (decimal to ∷ kind_text (kind_at head.kind) ∷ decimal head.comm ∷ decimal head.len ∷ hex_text bytes ∷ []) (decimal_low r (omega arith))
 call_low r (Bar comm) below = line_low (decimal r) (codes "bar") (decimal comm ∷ []) (decimal_low r (omega arith))
 
-call_words_of : (r : ℕ) (call : DataCall) → AreWords (call_words r call) → words_of (line_of (call_words r call)) ≡ call_words r call
+call_words_of : (r : ℕ) (call : DataCall) → AreWords (call_words r call) → log_words_of (line_of (call_words r call)) ≡ call_words r call
 call_words_of r (Send to head bytes) are = words_of-line_of _ _ are
 call_words_of r (Recv from head bytes) are = words_of-line_of _ _ are
 call_words_of r (Post to head bytes) are = words_of-line_of _ _ are

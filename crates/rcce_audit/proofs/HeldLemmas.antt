@@ -3,7 +3,7 @@ use Rattle.std.proofs.Common.{◌≡◌, ℕ, zero, suc, ◌+◌, ◌<◌, List,
 use Rattle.std.proofs.lemmas.List.{drop-drop, drop_more, map-append, take-append-drop, take_more}
 use Rattle.scc_base.specs.Calls.{DataCall}
 use Rattle.scc_base.specs.declared.calls.Call.{Call}
-use Rattle.rcce_io.specs.Sending.{joined}
+use Rattle.rcce_io.specs.Sending.{joined_texts}
 use Rattle.rcce_audit.specs.Held.{bytes_in, call_with_bytes, calls_with_bytes}
 use Rattle.rcce_audit.specs.Pieces.{line_by}
 use Rattle.rcce_audit.specs.Texts.{call_lines, text_of}
@@ -21,18 +21,18 @@ behind_append : (one other : List Call) (bytes : List ℕ) → left_behind (one 
 behind_append [] other bytes = refl
 behind_append (call ∷ one) other bytes = behind_append one other (drop (bytes_in call) bytes)
 
-joined_append : (one other : List (List ℕ)) → joined (one ++ other) ≡ joined one ++ joined other
+joined_append : (one other : List (List ℕ)) → joined_texts (one ++ other) ≡ joined_texts one ++ joined_texts other
 joined_append [] other = refl
-joined_append (text ∷ one) other = ap (λ (t : List ℕ). text ++ t) (joined_append one other) ∙ sym (append_assoc text (joined one) (joined other))
+joined_append (text ∷ one) other = ap (λ (t : List ℕ). text ++ t) (joined_append one other) ∙ sym (append_assoc text (joined_texts one) (joined_texts other))
 
 -- the lines of calls
 abbrev pub list_text : ℕ → List Call → List ℕ → List ℕ
-list_text rank calls bytes = joined (map (line_by rank) (calls_with_bytes calls bytes))
+list_text rank calls bytes = joined_texts (map (line_by rank) (calls_with_bytes calls bytes))
 
 text_append : (rank : ℕ) (one other : List Call) (bytes : List ℕ) → list_text rank (one ++ other) bytes ≡ list_text rank one bytes ++ list_text rank other (left_behind one bytes)
 text_append rank one other bytes =
-    ap (λ (l : List DataCall). joined (map (line_by rank) l)) (with_append one other bytes)
-    ∙ ap joined (map-append (line_by rank) (calls_with_bytes one bytes) (calls_with_bytes other (left_behind one bytes)))
+    ap (λ (l : List DataCall). joined_texts (map (line_by rank) l)) (with_append one other bytes)
+    ∙ ap joined_texts (map-append (line_by rank) (calls_with_bytes one bytes) (calls_with_bytes other (left_behind one bytes)))
     ∙ joined_append (map (line_by rank) (calls_with_bytes one bytes)) (map (line_by rank) (calls_with_bytes other (left_behind one bytes)))
 
 module _ (rank : ℕ) (calls : List Call) (bytes : List ℕ) (i at : ℕ) (call : Call) (within : i < length calls) (is : call ≡ get_or calls i call) (place : drop at bytes ≡ left_behind (take i calls) bytes) where
@@ -76,6 +76,6 @@ module _ (rank : ℕ) (calls : List Call) (bytes : List ℕ) (i at : ℕ) (call 
       drop_taken (suc k) (x ∷ xs) = drop_taken k xs
 
 -- the lines are those of the log
-pub held_lines : (rank : ℕ) (calls : List DataCall) → joined (map (line_by rank) calls) ≡ text_of (call_lines rank calls)
+pub held_lines : (rank : ℕ) (calls : List DataCall) → joined_texts (map (line_by rank) calls) ≡ text_of (call_lines rank calls)
 held_lines rank [] = refl
 held_lines rank (call ∷ calls) = ap (λ (t : List ℕ). line_by rank call ++ t) (held_lines rank calls)

@@ -15,15 +15,15 @@ use Rattle.scc_base.specs.declared.kinds.Kind.{Kind}
 use Rattle.scc_base.specs.declared.kinds.Kind.TheVariants.{Plain, Bcast, Reduce, AllUp, AllDown}
 use Rattle.rcce_audit.specs.declared.lines.CommSplit.{CommSplit}
 use Rattle.rcce_audit.specs.declared.lines.EndRanks.{EndRanks}
-use Rattle.rcce_audit.specs.Grammar.{RankedCall, rank_said, end_ranks, ends_said, head_of, head_said, bytes_said, is_post, call_named, message_said, is_present, barrier_said, long_said, short_said, call_said, rule_named, split_said, comm_said, nue_of}
+use Rattle.rcce_audit.specs.Grammar.{RankedCall, log_rank_said, end_ranks, ends_said, log_head_of, log_head_said, log_bytes_said, is_post, call_named, message_said, has_rule, log_barrier_said, long_said, short_said, call_said, rule_named, log_split_said, comm_said, nue_of}
 use Rattle.rcce_audit.specs.Logs.{IsMessage, IsLogCall}
 use Rattle.rcce_io.specs.Digits.{hex_text}
 use Rattle.rcce_audit.specs.Texts.{head_words, split_words, message_words, call_words, line_of, rule_lines}
-use Rattle.rcce_audit.specs.Words.{◌>>=◌, only_if, words_of, range_said, kind_said, hex_said}
+use Rattle.rcce_audit.specs.Words.{◌>>=◌, only_if, log_words_of, exact_range_said, kind_said, exact_hex_said}
 use Rattle.rcce_audit.proofs.WordLemmas.{same_text, then_some, only_some, chosen, range_word, kind_word, hex_word}
 
 -- the words of a line, with single blanks between, are the line
-pub line_of-words_of : (line : List ℕ) → line_of (words_of line) ≡ line
+pub line_of-words_of : (line : List ℕ) → line_of (log_words_of line) ≡ line
 line_of-words_of line = join_with_byte-slice_split 32 line
 
 -- the two ranks of a message
@@ -36,8 +36,8 @@ pub record IsEndWords (nue : ℕ) (ends : EndRanks) (rank peer : List ℕ) : Typ
 
 ends_word : (nue : ℕ) (rank peer : List ℕ) (ends : EndRanks) → ends_said nue rank peer ≡ Some ends → IsEndWords nue ends rank peer
 ends_word nue rank peer ends said =
-    let (r, is_r, later) = then_some (rank_said nue rank) (λ r. rank_said nue peer >>= end_ranks r) ends said in
-    let (p, is_p, gives) = then_some (rank_said nue peer) (end_ranks r) ends later in
+    let (r, is_r, later) = then_some (log_rank_said nue rank) (λ r. log_rank_said nue peer >>= end_ranks r) ends said in
+    let (p, is_p, gives) = then_some (log_rank_said nue peer) (end_ranks r) ends later in
     let (apart, value) = only_some (not (r == p)) (record { rank = r; peer = p }) ends gives in
     let of_rank = range_word 0 (nue - 1) rank r is_r in
     let of_peer = range_word 0 (nue - 1) peer p is_p in
@@ -69,11 +69,11 @@ kind_number_below AllDown = omega arith
 world_alone : (a b : ℕ) → not (a == 0 && not (b == 0)) ≡ true → a ≡ 0 → b ≡ 0
 world_alone a b test is = grind (arith, nat_tests)
 
-head_word : (kind comm len : List ℕ) (head : MessageHead) → head_said kind comm len ≡ Some head → IsHeadWords head kind comm len
+head_word : (kind comm len : List ℕ) (head : MessageHead) → log_head_said kind comm len ≡ Some head → IsHeadWords head kind comm len
 head_word kind comm len head said =
-    let (k, is_k, later) = then_some (kind_said kind) (λ k. range_said 0 15 comm >>= λ c. range_said 0 65536 len >>= head_of k c) head said in
-    let (c, is_c, last) = then_some (range_said 0 15 comm) (λ c. range_said 0 65536 len >>= head_of k c) head later in
-    let (n, is_n, gives) = then_some (range_said 0 65536 len) (head_of k c) head last in
+    let (k, is_k, later) = then_some (kind_said kind) (λ k. exact_range_said 0 15 comm >>= λ c. exact_range_said 0 65536 len >>= log_head_of k c) head said in
+    let (c, is_c, last) = then_some (exact_range_said 0 15 comm) (λ c. exact_range_said 0 65536 len >>= log_head_of k c) head later in
+    let (n, is_n, gives) = then_some (exact_range_said 0 65536 len) (log_head_of k c) head last in
     let (test, value) = only_some (not (kind_number k == 0 && not (c == 0))) (record { kind = kind_number k; comm = c; len = n }) head gives in
     let of_comm = range_word 0 15 comm c is_c in
     let of_len = range_word 0 65536 len n is_n in
@@ -96,9 +96,9 @@ pub record IsBytesWord (len : ℕ) (bytes word : List ℕ) : Type 0 where
   pub are_bytes : IsBytes bytes
   pub counted : length bytes ≡ len
 
-bytes_word : (len : ℕ) (word bytes : List ℕ) → bytes_said len word ≡ Some bytes → IsBytesWord len bytes word
+bytes_word : (len : ℕ) (word bytes : List ℕ) → log_bytes_said len word ≡ Some bytes → IsBytesWord len bytes word
 bytes_word len word bytes said =
-    let (read, is, gives) = then_some (hex_said word) (λ b. only_if (length b == len) b) bytes said in
+    let (read, is, gives) = then_some (exact_hex_said word) (λ b. only_if (length b == len) b) bytes said in
     let (test, value) = only_some (length read == len) read bytes gives in
     let of_hex = hex_word word read is in
     let P : List ℕ → Type 0 = λ b. IsBytesWord len b word in
@@ -147,12 +147,12 @@ pub record IsRankedWords (nue : ℕ) (comms : List CommRule) (ranked : RankedCal
   pub valid : IsLogCall nue comms ranked.rank ranked.call
 
 message_line : (nue : ℕ) (comms : List CommRule) (rank verb peer kind comm len hex : List ℕ) (ranked : RankedCall) → 1 ≤ nue
-    → (ends_said nue rank peer >>= λ ends. head_said kind comm len >>= λ head. message_said ends head verb hex) ≡ Some ranked
+    → (ends_said nue rank peer >>= λ ends. log_head_said kind comm len >>= λ head. message_said ends head verb hex) ≡ Some ranked
     → IsRankedWords nue comms ranked (rank ∷ verb ∷ peer ∷ kind ∷ comm ∷ len ∷ hex ∷ [])
 message_line nue comms rank verb peer kind comm len hex ranked some said =
-    let (ends, is_ends, later) = then_some (ends_said nue rank peer) (λ e. head_said kind comm len >>= λ h. message_said e h verb hex) ranked said in
-    let (head, is_head, last) = then_some (head_said kind comm len) (λ h. message_said ends h verb hex) ranked later in
-    let (bytes, is_bytes, then_call) = then_some (bytes_said head.len hex) (λ b. call_named verb ends.peer head b >>= λ c. Some (record { rank = ends.rank; call = c })) ranked last in
+    let (ends, is_ends, later) = then_some (ends_said nue rank peer) (λ e. log_head_said kind comm len >>= λ h. message_said e h verb hex) ranked said in
+    let (head, is_head, last) = then_some (log_head_said kind comm len) (λ h. message_said ends h verb hex) ranked later in
+    let (bytes, is_bytes, then_call) = then_some (log_bytes_said head.len hex) (λ b. call_named verb ends.peer head b >>= λ c. Some (record { rank = ends.rank; call = c })) ranked last in
     let (call, is_call, value) = then_some (call_named verb ends.peer head bytes) (λ c. Some (record { rank = ends.rank; call = c })) ranked then_call in
     let of_ends = ends_word nue rank peer ends is_ends in
     let of_head = head_word kind comm len head is_head in
@@ -172,19 +172,19 @@ message_line nue comms rank verb peer kind comm len hex ranked some said =
     let is : record { rank = ends.rank; call = call } ≡ ranked = cc in
     subst P is (record { rank_below = rank_below; text = of_call.text ∙ words; valid = of_call.valid })
 
-present : (rule : CommRule) → is_present rule ≡ true → rule ≢ Absent
+present : (rule : CommRule) → has_rule rule ≡ true → rule ≢ Absent
 present Absent test is = absurd cc
 present World test is = absurd cc
 present (Mod parent k) test is = absurd cc
 present (Div parent k) test is = absurd cc
 
-barrier_line : (nue : ℕ) (comms : List CommRule) (rank verb comm : List ℕ) (ranked : RankedCall) → 1 ≤ nue → barrier_said nue comms rank verb comm ≡ Some ranked
+barrier_line : (nue : ℕ) (comms : List CommRule) (rank verb comm : List ℕ) (ranked : RankedCall) → 1 ≤ nue → log_barrier_said nue comms rank verb comm ≡ Some ranked
     → IsRankedWords nue comms ranked (rank ∷ verb ∷ comm ∷ [])
 barrier_line nue comms rank verb comm ranked some said =
-    let (r, is_r, later) = then_some (rank_said nue rank) (λ r. range_said 0 15 comm >>= λ c. only_if (bytes_eq verb (codes "bar") && is_present (rule_of comms c)) (record { rank = r; call = Bar c })) ranked said in
-    let (c, is_c, gives) = then_some (range_said 0 15 comm) (λ c. only_if (bytes_eq verb (codes "bar") && is_present (rule_of comms c)) (record { rank = r; call = Bar c })) ranked later in
-    let (test, value) = only_some (bytes_eq verb (codes "bar") && is_present (rule_of comms c)) (record { rank = r; call = Bar c }) ranked gives in
-    let parts = and_parts (bytes_eq verb (codes "bar")) (is_present (rule_of comms c)) test in
+    let (r, is_r, later) = then_some (log_rank_said nue rank) (λ r. exact_range_said 0 15 comm >>= λ c. only_if (bytes_eq verb (codes "bar") && has_rule (rule_of comms c)) (record { rank = r; call = Bar c })) ranked said in
+    let (c, is_c, gives) = then_some (exact_range_said 0 15 comm) (λ c. only_if (bytes_eq verb (codes "bar") && has_rule (rule_of comms c)) (record { rank = r; call = Bar c })) ranked later in
+    let (test, value) = only_some (bytes_eq verb (codes "bar") && has_rule (rule_of comms c)) (record { rank = r; call = Bar c }) ranked gives in
+    let parts = and_parts (bytes_eq verb (codes "bar")) (has_rule (rule_of comms c)) test in
     let of_rank = range_word 0 (nue - 1) rank r is_r in
     let of_comm = range_word 0 15 comm c is_c in
     let rank_text = of_rank.text in
@@ -221,8 +221,8 @@ call_line nue comms words ranked some said = by_length (length words == 7) said
 
 -- what a line says as a communicator
 pub data IsSplitRule (comms : List CommRule) : CommRule → Type 0 where
-  ByMod : (parent k : ℕ) → is_present (rule_of comms parent) ≡ true → 1 ≤ k → k ≤ 48 → IsSplitRule comms (Mod parent k)
-  ByDiv : (parent k : ℕ) → is_present (rule_of comms parent) ≡ true → 1 ≤ k → k ≤ 48 → IsSplitRule comms (Div parent k)
+  ByMod : (parent k : ℕ) → has_rule (rule_of comms parent) ≡ true → 1 ≤ k → k ≤ 48 → IsSplitRule comms (Mod parent k)
+  ByDiv : (parent k : ℕ) → has_rule (rule_of comms parent) ≡ true → 1 ≤ k → k ≤ 48 → IsSplitRule comms (Div parent k)
 
 pub record IsSplitWords (last : ℕ) (comms : List CommRule) (split : CommSplit) (words : List (List ℕ)) : Type 0 where
   pub above : last < split.comm
@@ -230,7 +230,7 @@ pub record IsSplitWords (last : ℕ) (comms : List CommRule) (split : CommSplit)
   pub rule : IsSplitRule comms split.rule
   pub text : rule_lines split.comm split.rule ≡ line_of words ∷ []
 
-rule_line : (last : ℕ) (comms : List CommRule) (c p k : ℕ) (word comm parent how parts : List ℕ) (rule : CommRule) → last < c → c < 16 → is_present (rule_of comms p) ≡ true → 1 ≤ k → k ≤ 48
+rule_line : (last : ℕ) (comms : List CommRule) (c p k : ℕ) (word comm parent how parts : List ℕ) (rule : CommRule) → last < c → c < 16 → has_rule (rule_of comms p) ≡ true → 1 ≤ k → k ≤ 48
     → codes "comm" ≡ word → decimal c ≡ comm → decimal p ≡ parent → decimal k ≡ parts → rule_named how p k ≡ Some rule
     → IsSplitWords last comms (record { comm = c; rule = rule }) (word ∷ comm ∷ parent ∷ how ∷ parts ∷ [])
 rule_line last comms c p k word comm parent how parts rule above below stands some most is_word is_comm is_parent is_parts named =
@@ -251,15 +251,15 @@ rule_line last comms c p k word comm parent how parts rule above below stands so
         subst P value (record { above = above; below = below; rule = ByDiv p k stands some most; text = ap (λ (w : List (List ℕ)). line_of w ∷ []) (words (codes "div") same) })
     by_div false same is = absurd cc
 
-split_line : (last : ℕ) (comms : List CommRule) (word comm parent how k : List ℕ) (split : CommSplit) → split_said last comms word comm parent how k ≡ Some split
+split_line : (last : ℕ) (comms : List CommRule) (word comm parent how k : List ℕ) (split : CommSplit) → log_split_said last comms word comm parent how k ≡ Some split
     → IsSplitWords last comms split (word ∷ comm ∷ parent ∷ how ∷ k ∷ [])
 split_line last comms word comm parent how k split said =
-    let (c, is_c, s1) = then_some (range_said (last + 1) 15 comm) _ split said in
-    let (p, is_p, s2) = then_some (range_said 0 15 parent) _ split s1 in
-    let (n, is_n, s3) = then_some (range_said 1 48 k) _ split s2 in
+    let (c, is_c, s1) = then_some (exact_range_said (last + 1) 15 comm) _ split said in
+    let (p, is_p, s2) = then_some (exact_range_said 0 15 parent) _ split s1 in
+    let (n, is_n, s3) = then_some (exact_range_said 1 48 k) _ split s2 in
     let (rule, is_rule, gives) = then_some (rule_named how p n) _ split s3 in
-    let (test, value) = only_some (bytes_eq word (codes "comm") && is_present (rule_of comms p)) (record { comm = c; rule = rule }) split gives in
-    let parts = and_parts (bytes_eq word (codes "comm")) (is_present (rule_of comms p)) test in
+    let (test, value) = only_some (bytes_eq word (codes "comm") && has_rule (rule_of comms p)) (record { comm = c; rule = rule }) split gives in
+    let parts = and_parts (bytes_eq word (codes "comm")) (has_rule (rule_of comms p)) test in
     let of_comm = range_word (last + 1) 15 comm c is_c in
     let of_parent = range_word 0 15 parent p is_p in
     let of_parts = range_word 1 48 k n is_n in
@@ -279,7 +279,7 @@ comm_line last comms (a ∷ b ∷ c ∷ d ∷ e ∷ f ∷ rest) split said = abs
 -- and what the first line says
 pub head_line : (words : List (List ℕ)) (nue : ℕ) → nue_of words ≡ Some nue → (head_words nue ≡ words) × (1 ≤ nue) × (nue ≤ 48)
 head_line (first ∷ second ∷ word ∷ []) nue said =
-    let (n, is_n, gives) = then_some (range_said 1 48 word) (λ n. only_if (bytes_eq first (codes "rcce") && bytes_eq second (codes "log")) n) nue said in
+    let (n, is_n, gives) = then_some (exact_range_said 1 48 word) (λ n. only_if (bytes_eq first (codes "rcce") && bytes_eq second (codes "log")) n) nue said in
     let (test, value) = only_some (bytes_eq first (codes "rcce") && bytes_eq second (codes "log")) n nue gives in
     let parts = and_parts (bytes_eq first (codes "rcce")) (bytes_eq second (codes "log")) test in
     let of_nue = range_word 1 48 word n is_n in

@@ -16,10 +16,10 @@ use Rattle.scc_base.proofs.WorldRules as world
 use Rattle.rcce_audit.specs.declared.faults.LogFault.{LogFault}
 use Rattle.rcce_audit.specs.declared.faults.LogKind.TheVariants as kind
 use Rattle.rcce_audit.specs.declared.lines.CommSplit.{CommSplit}
-use Rattle.rcce_audit.specs.Grammar.{Reading, RankedCall, with_comm, with_call, is_in_order, add_call, begins_comm, comm_said, call_said, line_said, kind_of, lines_said, end_said, nue_of, world_alone, no_calls, reading_start, first_said, all_said, parts_said, log_of, is_present, ◌>=>◌}
-use Rattle.rcce_audit.specs.Logs.{LogView, calls_of, IsLogCall, IsLog, most_log_bytes}
+use Rattle.rcce_audit.specs.Grammar.{Reading, RankedCall, with_comm, with_call, is_in_order, add_call, begins_comm, comm_said, call_said, line_said, kind_of, lines_said, end_said, nue_of, first_rules, no_calls, reading_start, first_said, all_said, parts_said, log_of, has_rule, ◌>=>◌}
+use Rattle.rcce_audit.specs.Logs.{LogView, calls_in_log, IsLogCall, IsLog, most_log_bytes}
 use Rattle.rcce_audit.specs.Texts.{head_words, line_of, rule_lines, call_words, call_lines, table_lines, log_lines, text_of, log_text, IsFileLog}
-use Rattle.rcce_audit.specs.Words.{◌>>=◌, words_of}
+use Rattle.rcce_audit.specs.Words.{◌>>=◌, log_words_of}
 use Rattle.texts.specs.Cuts.{lines_of}
 use Rattle.rcce_audit.proofs.ListLemmas.{get_or-replicate_same}
 use Rattle.rcce_audit.proofs.WordLemmas.{then_some, only_some}
@@ -55,14 +55,14 @@ pub record IsReading (r : Reading) : Type 0 where
   pub written : IsLog r.log
   pub last_below : r.comm < 16
   pub later : (c : ℕ) → r.comm < c → rule_of r.log.comms c ≡ Absent
-  pub unbegun : r.rank ≡ None → (q : ℕ) → calls_of r.log q ≡ []
-  pub begun : (last : ℕ) → r.rank ≡ Some last → (q : ℕ) → last < q → calls_of r.log q ≡ []
+  pub unbegun : r.rank ≡ None → (q : ℕ) → calls_in_log r.log q ≡ []
+  pub begun : (last : ℕ) → r.rank ≡ Some last → (q : ℕ) → last < q → calls_in_log r.log q ≡ []
 
-pub no_rules : (c : ℕ) → rule_of world_alone (suc c) ≡ Absent
+pub no_rules : (c : ℕ) → rule_of first_rules (suc c) ≡ Absent
 no_rules c = world.absent_after c
 
-pub world_rules : AreRules world_alone
-world_rules = world.world_alone world_alone refl
+pub world_rules : AreRules first_rules
+world_rules = world.world_alone first_rules refl
 
 no_lists : (q : ℕ) → get_or no_calls q [] ≡ []
 unfolding no_calls
@@ -81,7 +81,7 @@ start_reads nue some most = record {
     rules = world_rules;
     ranks = no_lists_length;
     no_others = λ r above. no_lists r;
-    calls = λ r. subst (All (IsLogCall nue world_alone r)) (sym (no_lists r)) (All-nil (IsLogCall nue world_alone r));
+    calls = λ r. subst (All (IsLogCall nue first_rules r)) (sym (no_lists r)) (All-nil (IsLogCall nue first_rules r));
   };
   last_below = omega arith;
   later = λ c above. later_of c above;
@@ -89,7 +89,7 @@ start_reads nue some most = record {
   begun = λ last is q above. no_lists q;
 }
   where
-    later_of : (c : ℕ) → 0 < c → rule_of world_alone c ≡ Absent
+    later_of : (c : ℕ) → 0 < c → rule_of first_rules c ≡ Absent
     later_of zero above = absurd (omega arith)
     later_of (suc c) above = no_rules c
 
@@ -134,7 +134,7 @@ pub split_stands : (comms : List CommRule) (rule : CommRule) → IsSplitRule com
 split_stands comms rule (ByMod parent k had some most) is = absurd cc
 split_stands comms rule (ByDiv parent k had some most) is = absurd cc
 
-had_rule : (rule : CommRule) → is_present rule ≡ true → rule ≢ Absent
+had_rule : (rule : CommRule) → has_rule rule ≡ true → rule ≢ Absent
 had_rule Absent test is = absurd cc
 had_rule World test is = absurd cc
 had_rule (Mod parent k) test is = absurd cc
@@ -151,14 +151,14 @@ pub record Grows (r next : Reading) (line : List ℕ) : Type 0 where
   pub reads : IsReading next
   pub lines : log_lines next.log ≡ log_lines r.log ++ line ∷ []
 
-comm_grows : (r : Reading) (split : CommSplit) (line : List ℕ) → IsReading r → r.rank ≡ None → IsSplitWords r.comm r.log.comms split (words_of line)
+comm_grows : (r : Reading) (split : CommSplit) (line : List ℕ) → IsReading r → r.rank ≡ None → IsSplitWords r.comm r.log.comms split (log_words_of line)
     → Grows r (record r { log = record r.log { comms = set r.log.comms split.comm split.rule }; comm = split.comm }) line
 comm_grows r split line is none words = record { reads = reads; lines = lines }
   where
     comms : List CommRule
     comms = r.log.comms
 
-    empty : (q : ℕ) → calls_of r.log q ≡ []
+    empty : (q : ℕ) → calls_in_log r.log q ≡ []
     empty = is.unbegun none
 
     was : rule_of comms split.comm ≡ Absent
@@ -203,7 +203,7 @@ comm_grows r split line is none words = record { reads = reads; lines = lines }
         (ap (λ (t : List (List ℕ)). line_of (head_words r.log.nue) ∷ t)
         (append-nil (table_lines rule_lines 0 (set comms split.comm split.rule)) ∙ table ∙ ap (λ (t : List (List ℕ)). t ++ line ∷ []) (sym (append-nil (table_lines rule_lines 0 comms)))))
 
-call_grows : (r : Reading) (ranked : RankedCall) (line : List ℕ) → IsReading r → is_in_order r.rank ranked.rank ≡ true → IsRankedWords r.log.nue r.log.comms ranked (words_of line)
+call_grows : (r : Reading) (ranked : RankedCall) (line : List ℕ) → IsReading r → is_in_order r.rank ranked.rank ≡ true → IsRankedWords r.log.nue r.log.comms ranked (log_words_of line)
     → Grows r (record r { log = record r.log { lists = with_call r.log.lists ranked }; rank = Some ranked.rank }) line
 call_grows r ranked line is ordered words = record { reads = reads; lines = lines }
   where
@@ -276,21 +276,21 @@ call_grows r ranked line is ordered words = record { reads = reads; lines = line
 line_grows : (r next : Reading) (line : List ℕ) → IsReading r → line_said r line ≡ Some next → Grows r next line
 line_grows r next line is said = by_kind (begins_comm line) said
   where
-    take_comm : (o : Option ℕ) → r.rank ≡ o → (split : CommSplit) → IsSplitWords r.comm r.log.comms split (words_of line) → with_comm r o split ≡ Some next → Grows r next line
+    take_comm : (o : Option ℕ) → r.rank ≡ o → (split : CommSplit) → IsSplitWords r.comm r.log.comms split (log_words_of line) → with_comm r o split ≡ Some next → Grows r next line
     take_comm None none split words taken =
         let value : record r { log = record r.log { comms = set r.log.comms split.comm split.rule }; comm = split.comm } ≡ next = cc in
         subst (λ (x : Reading). Grows r x line) value (comm_grows r split line is none words)
     take_comm (Some rank) none split words taken = absurd cc
 
-    by_kind : (t : Bool) → cond t (comm_said r.comm r.log.comms (words_of line) >>= with_comm r r.rank) (call_said r.log.nue r.log.comms (words_of line) >>= add_call r) ≡ Some next → Grows r next line
+    by_kind : (t : Bool) → cond t (comm_said r.comm r.log.comms (log_words_of line) >>= with_comm r r.rank) (call_said r.log.nue r.log.comms (log_words_of line) >>= add_call r) ≡ Some next → Grows r next line
     by_kind true taken =
-        let (split, is_split, gives) = then_some (comm_said r.comm r.log.comms (words_of line)) (with_comm r r.rank) next taken in
-        take_comm r.rank refl split (comm_line r.comm r.log.comms (words_of line) split is_split) gives
+        let (split, is_split, gives) = then_some (comm_said r.comm r.log.comms (log_words_of line)) (with_comm r r.rank) next taken in
+        take_comm r.rank refl split (comm_line r.comm r.log.comms (log_words_of line) split is_split) gives
     by_kind false taken =
-        let (ranked, is_ranked, gives) = then_some (call_said r.log.nue r.log.comms (words_of line)) (add_call r) next taken in
+        let (ranked, is_ranked, gives) = then_some (call_said r.log.nue r.log.comms (log_words_of line)) (add_call r) next taken in
         let (ordered, value) = only_some (is_in_order r.rank ranked.rank) (record r { log = record r.log { lists = with_call r.log.lists ranked }; rank = Some ranked.rank }) next gives in
         subst (λ (x : Reading). Grows r x line) value
-        (call_grows r ranked line is ordered (call_line r.log.nue r.log.comms (words_of line) ranked is.written.some_ranks is_ranked))
+        (call_grows r ranked line is ordered (call_line r.log.nue r.log.comms (log_words_of line) ranked is.written.some_ranks is_ranked))
 
 -- and lines
 pub record GrowsBy (r next : Reading) (more : List (List ℕ)) : Type 0 where
@@ -328,10 +328,10 @@ end_accepts : (number : ℕ) (last : List ℕ) (r : Reading) (log : LogView) →
 end_accepts number [] r log said = (refl, cc)
 end_accepts number (b ∷ last) r log said = absurd cc
 
-start_of_first : (line : List ℕ) (o : Option ℕ) (r : Reading) → nue_of (words_of line) ≡ o → ok_or {E = LogFault} (option_map reading_start o) (record { line = 1; kind = kind.BadHead }) ≡ Ok r
+start_of_first : (line : List ℕ) (o : Option ℕ) (r : Reading) → nue_of (log_words_of line) ≡ o → ok_or {E = LogFault} (option_map reading_start o) (record { line = 1; kind = kind.BadHead }) ≡ Ok r
     → IsReading r × (log_lines r.log ≡ line ∷ [])
 start_of_first line (Some nue) r is taken =
-    let (words, some, most) = head_line (words_of line) nue is in
+    let (words, some, most) = head_line (log_words_of line) nue is in
     let value : reading_start nue ≡ r = cc in
     let P : Reading → Type 0 = λ x. IsReading x × (log_lines x.log ≡ line ∷ []) in
     subst P value (start_reads nue some most, start_lines nue ∙ ap (λ (l : List ℕ). l ∷ []) (ap line_of words ∙ line_of-words_of line))
@@ -342,7 +342,7 @@ accepts [] last log said = absurd cc
 accepts (first ∷ lines) last log said =
     let (start, starts, rest) = then_ok (first_said first) (λ r. lines_said 2 r lines >=> end_said (length lines + 2) last) log said in
     let (read, reads, ended) = then_ok (lines_said 2 start lines) (end_said (length lines + 2) last) log rest in
-    let (is, first_lines) = start_of_first first (nue_of (words_of first)) start refl starts in
+    let (is, first_lines) = start_of_first first (nue_of (log_words_of first)) start refl starts in
     let grown = lines_grow 2 start read lines is reads in
     let (empty, value) = end_accepts (length lines + 2) last read log ended in
     let P : LogView → Type 0 = λ x. IsAccepted x (first ∷ lines) last in

@@ -14,7 +14,7 @@ use Rattle.scc_base.specs.Setups.{SetupView, setup_key}
 use Rattle.scc_base.proofs.ChangeLaws.{true_or_false}
 use Rattle.scc_base.proofs.Confluence.{last_or_below, other_end, joined_runs, one_end}
 use Rattle.scc_base.proofs.GroupFacts.{root_is, root_once, same_root}
-use Rattle.scc_proto.specs.Legality.{Outgoing, Standing, CallStep, Posting, Taking, Pairing, Meeting, owner_of, IsProper, callers, call_at, slot_at, slot_before, slot_after, Makes, OwnStep}
+use Rattle.scc_proto.specs.Legality.{Outgoing, Standing, CallStep, Posting, Taking, Pairing, Meeting, owner_of, IsProper, callers, call_at, looks_at_slot, slot_before, slot_after, Makes, OwnStep}
 use Rattle.scc_proto.proofs.Legality.CallTests.{BeginsWith}
 use Rattle.scc_proto.proofs.Legality.LegalLaws.{legal_from_end, end_of_legal}
 use Rattle.scc_proto.proofs.Legality.StepDecided.{IsReady, standing_after, ready_makes}
@@ -22,10 +22,10 @@ use Rattle.scc_proto.proofs.Legality.StepLaws.{own_step, step_told, first_call, 
 use Rattle.rcce_audit.specs.declared.progress.Progress.{Progress}
 use Rattle.rcce_audit.specs.declared.verdicts.Verdict.{Verdict}
 use Rattle.rcce_audit.specs.declared.verdicts.Verdict.TheVariants as verdict
-use Rattle.rcce_audit.specs.Logs.{LogView, IsLogCall, calls_of}
+use Rattle.rcce_audit.specs.Logs.{LogView, IsLogCall, calls_in_log}
 use Rattle.rcce_audit.specs.Texts.{IsFileLog, call_lines, call_words, line_of, log_lines, rule_lines, table_lines, text_of}
-use Rattle.rcce_audit.specs.Standings.{AreLists, outgoing_at, list_at, left_of, slot_of, standing_of, Sleeps, IsQuiet, partner_of, Acts, Leads, count_left}
-use Rattle.rcce_audit.specs.Verdicts.{IsFirstLeft, IsLegalLog, EndsIn, Tells}
+use Rattle.rcce_audit.specs.Standings.{AreLists, outgoing_at, calls_at_rank, calls_left, slot_of_lists, standing_of, Sleeps, IsQuiet, partner_of, Acts, Leads, count_left}
+use Rattle.rcce_audit.specs.Verdicts.{IsFirstLeft, IsLegalLog, EndsIn, VerdictTells}
 
 -- where a call stands at a place, the calls from there on begin with it
 pub drop-at : {X : Type 0} (calls : List X) (n : ℕ) (c : X) → slice_get calls n ≡ Some c → drop n calls ≡ c ∷ drop (n + 1) calls
@@ -41,8 +41,8 @@ get-none (x ∷ calls) (suc n) is = omega (arith, get-none calls n is)
 pub drop-none : {X : Type 0} (calls : List X) (n : ℕ) → slice_get calls n ≡ None → drop n calls ≡ []
 drop-none {X} calls n is = at_drop_all (λ (l : List X). l) calls n (get-none calls n is)
 
-pub left_same : (lists : List (List DataCall)) (k : ℕ) (old new : List ℕ) → slice_index new k ≡ slice_index old k → left_of lists old k ≡ left_of lists new k
-left_same lists k old new same = ap (λ (n : ℕ). drop n (list_at lists k)) (sym same)
+pub left_same : (lists : List (List DataCall)) (k : ℕ) (old new : List ℕ) → slice_index new k ≡ slice_index old k → calls_left lists old k ≡ calls_left lists new k
+left_same lists k old new same = ap (λ (n : ℕ). drop n (calls_at_rank lists k)) (sym same)
 
 module _ (nue : ℕ) (keys : ℕ → ℕ → ℕ) where
   -- a rank without calls has no step
@@ -74,7 +74,7 @@ module _ (nue : ℕ) (keys : ℕ → ℕ → ℕ) where
       inr (root_is (keys comm) k root same proper.zeroth ∙ sym (ap (partner_of keys k) e))
 
   -- a step that looks on an empty slot belongs to the slot's rank, and one that looks on a message to the rank that it is for
-  slot_owner : (y : CallStep) (k : ℕ) → slot_at y k ≡ true → ((slot_before y ≡ None) × (owner_of y ≡ k)) ⊎ ((m : Outgoing) × (slot_before y ≡ Some m) × (owner_of y ≡ m.to))
+  slot_owner : (y : CallStep) (k : ℕ) → looks_at_slot y k ≡ true → ((slot_before y ≡ None) × (owner_of y ≡ k)) ⊎ ((m : Outgoing) × (slot_before y ≡ Some m) × (owner_of y ≡ m.to))
   slot_owner (Posting from m) k at = inl (refl, grind (arith, nat_tests))
   slot_owner (Taking from m) k at = inr (m, refl, refl)
   slot_owner (Pairing from m) k at = inl (refl, grind (arith, nat_tests))
@@ -119,17 +119,17 @@ quiet_after s lists step old new acts quiet b asleep t (y, owner, makes) =
     caller k in_y in_step =
         ⊎_elim
         (λ (is : owner_of y ≡ k). acts.woken_callers k in_step (sleeps k is))
-        (λ (is : owner_of y ≡ partner_of (setup_key s) k (left_of lists new.next k)). acts.woken_partners k in_step (sleeps _ is))
-        (owner_found s.nue (setup_key s) y k (left_of lists new.next k) (t.calls k) makes.proper in_y (makes.calls.changed k in_y))
+        (λ (is : owner_of y ≡ partner_of (setup_key s) k (calls_left lists new.next k)). acts.woken_partners k in_step (sleeps _ is))
+        (owner_found s.nue (setup_key s) y k (calls_left lists new.next k) (t.calls k) makes.proper in_y (makes.calls.changed k in_y))
 
-    call : (k : ℕ) → callers s.nue (setup_key s) y k ≡ true → BeginsWith (call_at y k) (left_of lists old.next k)
+    call : (k : ℕ) → callers s.nue (setup_key s) y k ≡ true → BeginsWith (call_at y k) (calls_left lists old.next k)
     call k in_y =
         ⊎_elim
         (λ (in_step : callers s.nue (setup_key s) step k ≡ true). absurd (caller k in_y in_step))
         (λ (other : callers s.nue (setup_key s) step k ≡ false). (t.calls k, acts.makes.calls.others k other ∙ makes.calls.changed k in_y))
         (true_or_false (callers s.nue (setup_key s) step k))
 
-    slot_taken : (k : ℕ) → slot_at y k ≡ true → slot_at step k ≡ true → ⊥
+    slot_taken : (k : ℕ) → looks_at_slot y k ≡ true → looks_at_slot step k ≡ true → ⊥
     slot_taken k at_y at_step =
         let after : slot_after step ≡ slot_before y = sym (acts.makes.slots.changed k at_step).1 ∙ (makes.slots.changed k at_y).0 in
         ⊎_elim
@@ -137,12 +137,12 @@ quiet_after s lists step old new acts quiet b asleep t (y, owner, makes) =
         (λ (taken : (m : Outgoing) × (slot_before y ≡ Some m) × (owner_of y ≡ m.to)). acts.woken_taker taken.0 (after ∙ taken.1) (sleeps taken.0.to taken.2))
         (slot_owner s.nue (setup_key s) y k at_y)
 
-    slot : (k : ℕ) → slot_at y k ≡ true → slot_of lists old.posted k ≡ slot_before y
+    slot : (k : ℕ) → looks_at_slot y k ≡ true → slot_of_lists lists old.posted k ≡ slot_before y
     slot k at_y =
         ⊎_elim
-        (λ (at_step : slot_at step k ≡ true). absurd (slot_taken k at_y at_step))
-        (λ (other : slot_at step k ≡ false). acts.makes.slots.others k other ∙ (makes.slots.changed k at_y).0)
-        (true_or_false (slot_at step k))
+        (λ (at_step : looks_at_slot step k ≡ true). absurd (slot_taken k at_y at_step))
+        (λ (other : looks_at_slot step k ≡ false). acts.makes.slots.others k other ∙ (makes.slots.changed k at_y).0)
+        (true_or_false (looks_at_slot step k))
 
     ready : IsReady s.nue (setup_key s) y (standing_of lists old)
     ready = record { proper = makes.proper; calls = call; slot = slot }
@@ -158,7 +158,7 @@ pub leads_more : (s : SetupView) (x y z : Standing) → Leads s x y → Leads s 
 leads_more s x y z (n, run) (m, rest) = joined_runs (OwnStep s.nue (setup_key s)) (λ w. w ≡ z) n m x y run rest
 
 -- the steps of a log that lead to a standing at which nobody has one end there
-pub ends_in : (log : LogView) (s : SetupView) (start e : Standing) → s.nue ≡ log.nue → s.comms ≡ log.comms → start ≡ record { calls = calls_of log; slots = λ k. None } → Leads s start e → IsStill (OwnStep s.nue (setup_key s)) e → EndsIn log e
+pub ends_in : (log : LogView) (s : SetupView) (start e : Standing) → s.nue ≡ log.nue → s.comms ≡ log.comms → start ≡ record { calls = calls_in_log log; slots = λ k. None } → Leads s start e → IsStill (OwnStep s.nue (setup_key s)) e → EndsIn log e
 ends_in log s start e nue comms is (n, run) still =
     let Step : ℕ → Standing → Standing → Type 0 = OwnStep s.nue (setup_key s) in
     let ended : Runs Step (EndsAt Step e) n start = other_end Step (λ x. x ≡ e) (EndsAt Step e) (λ x at. (at, subst (IsStill Step) (sym at) still)) n start run in
@@ -166,22 +166,22 @@ ends_in log s start e nue comms is (n, run) still =
     (n, subst (λ (x : Standing). P log.nue log.comms x) is (subst (λ (c : List CommRule). P log.nue c start) comms (subst (λ (m : ℕ). P m s.comms start) nue ended)))
 
 -- a verdict that tells of the end of a log's steps tells whether the log is legal
-pub legal_told : (log : LogView) (v : Verdict) (e : Standing) → EndsIn log e → Tells (calls_of log) v e → (v ≡ verdict.Yes) ↔ IsLegalLog log
+pub legal_told : (log : LogView) (v : Verdict) (e : Standing) → EndsIn log e → VerdictTells (calls_in_log log) v e → (v ≡ verdict.Yes) ↔ IsLegalLog log
 legal_told log v e ends tells = (to v tells, from v tells)
   where
-    to : (w : Verdict) → Tells (calls_of log) w e → w ≡ verdict.Yes → IsLegalLog log
-    to verdict.Yes told is = (e.slots, legal_from_end log.nue _ ends.0 (calls_of log) e.slots e ends.1 (record { calls = told; slots = λ k. refl }))
+    to : (w : Verdict) → VerdictTells (calls_in_log log) w e → w ≡ verdict.Yes → IsLegalLog log
+    to verdict.Yes told is = (e.slots, legal_from_end log.nue _ ends.0 (calls_in_log log) e.slots e ends.1 (record { calls = told; slots = λ k. refl }))
     to (verdict.No rank call) told is = absurd cc
 
-    from : (w : Verdict) → Tells (calls_of log) w e → IsLegalLog log → w ≡ verdict.Yes
+    from : (w : Verdict) → VerdictTells (calls_in_log log) w e → IsLegalLog log → w ≡ verdict.Yes
     from verdict.Yes told legal = refl
     from (verdict.No rank call) told (slots, legal) =
-        absurd (told.left ((end_of_legal log.nue _ ends.0 (calls_of log) slots e ends.1 legal).calls rank))
+        absurd (told.left ((end_of_legal log.nue _ ends.0 (calls_in_log log) slots e ends.1 legal).calls rank))
 
 -- the steps of a log end at one standing
-pub one_end_told : (log : LogView) (v : Verdict) (e f : Standing) → EndsIn log e → Tells (calls_of log) v e → EndsIn log f → Tells (calls_of log) v f
+pub one_end_told : (log : LogView) (v : Verdict) (e f : Standing) → EndsIn log e → VerdictTells (calls_in_log log) v e → EndsIn log f → VerdictTells (calls_in_log log) v f
 one_end_told log v e f (n, run) tells (m, other) =
-    subst (Tells (calls_of log) v) (one_end _ (only_one log.nue _) (either_order log.nue _) n m _ e f run other).1 tells
+    subst (VerdictTells (calls_in_log log) v) (one_end _ (only_one log.nue _) (either_order log.nue _) n m _ e f run other).1 tells
 
 -- ranks have one root where they have one key
 pub roots_test : (key : ℕ → ℕ) (r q : ℕ) → (root_in key r == root_in key q) ≡ (key r == key q)
@@ -199,27 +199,27 @@ pub partner_none : (keys : ℕ → ℕ → ℕ) (k : ℕ) (calls : List DataCall
 partner_none keys k calls n is = ap (partner_of keys k) (drop-none calls n is)
 
 -- what is left of lists, as a verdict
-pub first_left : (lists : List (List DataCall)) (p : Progress) (r : ℕ) → (slice_get (list_at lists r) (slice_index p.next r) ≡ None → ⊥) → ((k : ℕ) → k < r → slice_get (list_at lists k) (slice_index p.next k) ≡ None)
-    → IsFirstLeft (list_at lists) (standing_of lists p) r (slice_index p.next r + 1)
+pub first_left : (lists : List (List DataCall)) (p : Progress) (r : ℕ) → (slice_get (calls_at_rank lists r) (slice_index p.next r) ≡ None → ⊥) → ((k : ℕ) → k < r → slice_get (calls_at_rank lists k) (slice_index p.next k) ≡ None)
+    → IsFirstLeft (calls_at_rank lists) (standing_of lists p) r (slice_index p.next r + 1)
 first_left lists p r some none =
     let n = slice_index p.next r in
-    let calls = list_at lists r in
+    let calls = calls_at_rank lists r in
     let within : n < length calls = ⊎_elim (λ (below : n < length calls). below) (λ (past : length calls ≤ n). absurd (some (slice_get_past calls n past))) (cases_lt n (length calls)) in
     record {
-      lower = λ k under. drop-none (list_at lists k) (slice_index p.next k) (none k under);
+      lower = λ k under. drop-none (calls_at_rank lists k) (slice_index p.next k) (none k under);
       left = λ is. let gone = ap length is in omega (arith, within, gone, length-drop n calls);
       used = take n calls;
       whole = sym (take-append-drop n calls);
       counted = ap (λ (m : ℕ). m + 1) (sym (length-take-le n calls (omega (arith, within))));
     }
 
-pub past_none : (lists : List (List DataCall)) (next : List ℕ) (k : ℕ) → length lists ≤ k → left_of lists next k ≡ []
+pub past_none : (lists : List (List DataCall)) (next : List ℕ) (k : ℕ) → length lists ≤ k → calls_left lists next k ≡ []
 past_none lists next k past = ap (λ (l : List DataCall). drop (slice_index next k) l) (get_or_past lists k [] past) ∙ drop-none [] (slice_index next k) refl
 
-pub none_left : (lists : List (List DataCall)) (p : Progress) (n : ℕ) → length lists ≤ n → ((k : ℕ) → k < n → slice_get (list_at lists k) (slice_index p.next k) ≡ None) → (k : ℕ) → left_of lists p.next k ≡ []
+pub none_left : (lists : List (List DataCall)) (p : Progress) (n : ℕ) → length lists ≤ n → ((k : ℕ) → k < n → slice_get (calls_at_rank lists k) (slice_index p.next k) ≡ None) → (k : ℕ) → calls_left lists p.next k ≡ []
 none_left lists p n all none k =
     ⊎_elim
-    (λ (below : k < n). drop-none (list_at lists k) (slice_index p.next k) (none k below))
+    (λ (below : k < n). drop-none (calls_at_rank lists k) (slice_index p.next k) (none k below))
     (λ (past : n ≤ k). past_none lists p.next k (omega (arith, past, all)))
     (cases_lt k n)
 
@@ -237,7 +237,7 @@ list_length [] n r = omega arith
 list_length (calls ∷ lists) n zero = omega (arith, length-append (call_lines n calls) (table_lines call_lines (n + 1) lists), length-map calls (λ call. line_of (call_words n call)))
 list_length (calls ∷ lists) n (suc r) = omega (arith, length-append (call_lines n calls) (table_lines call_lines (n + 1) lists), list_length lists (n + 1) r)
 
-pub few_calls : (log : LogView) (r : ℕ) → IsFileLog log → length (calls_of log r) < 4294967295
+pub few_calls : (log : LogView) (r : ℕ) → IsFileLog log → length (calls_in_log log r) < 4294967295
 few_calls log r is =
     omega (arith, is.fits, text_length (log_lines log), list_length log.lists 0 r, length-append (table_lines rule_lines 0 log.comms) (table_lines call_lines 0 log.lists))
 
@@ -245,12 +245,12 @@ pub are_lists : (log : LogView) (s : SetupView) (lists : List (List DataCall)) �
 are_lists log s lists is nue comms same = record {
   ranks = ap length same ∙ is.written.ranks;
   ranks_within = omega (arith, nue, is.written.ranks_within);
-  few = λ r. subst (λ (l : List (List DataCall)). length (list_at l r) < 4294967295) (sym same) (few_calls log r is);
-  no_others = λ r above. ap (λ (l : List (List DataCall)). list_at l r) same ∙ is.written.no_others r (omega (arith, nue, above));
+  few = λ r. subst (λ (l : List (List DataCall)). length (calls_at_rank l r) < 4294967295) (sym same) (few_calls log r is);
+  no_others = λ r above. ap (λ (l : List (List DataCall)). calls_at_rank l r) same ∙ is.written.no_others r (omega (arith, nue, above));
   calls = λ r.
-      subst (λ (m : ℕ). All (IsLogCall m s.comms r) (list_at lists r)) (sym nue)
-      (subst (λ (c : List CommRule). All (IsLogCall log.nue c r) (list_at lists r)) (sym comms)
-      (subst (λ (l : List (List DataCall)). All (IsLogCall log.nue log.comms r) (list_at l r)) (sym same) (is.written.calls r)));
+      subst (λ (m : ℕ). All (IsLogCall m s.comms r) (calls_at_rank lists r)) (sym nue)
+      (subst (λ (c : List CommRule). All (IsLogCall log.nue c r) (calls_at_rank lists r)) (sym comms)
+      (subst (λ (l : List (List DataCall)). All (IsLogCall log.nue log.comms r) (calls_at_rank l r)) (sym same) (is.written.calls r)));
 }
 
 -- where an audit begins, each rank is awake or has no call
@@ -262,24 +262,24 @@ start_quiet s lists p are awake b asleep t =
     (cases_lt b 48)
 
 start_standing : (log : LogView) (lists : List (List DataCall)) (p : Progress) → lists ≡ log.lists → ((k : ℕ) → slice_index p.next k ≡ 0) → ((k : ℕ) → slice_index_or p.posted k None ≡ None)
-    → standing_of lists p ≡ record { calls = calls_of log; slots = λ k. None }
+    → standing_of lists p ≡ record { calls = calls_in_log log; slots = λ k. None }
 start_standing log lists p same next posted = λ i. record { calls = λ k. calls k i; slots = λ k. slots k i }
   where
-    calls : (k : ℕ) → left_of lists p.next k ≡ calls_of log k
-    calls k = ap (λ (n : ℕ). drop n (list_at lists k)) (next k) ∙ ap (λ (l : List (List DataCall)). list_at l k) same
+    calls : (k : ℕ) → calls_left lists p.next k ≡ calls_in_log log k
+    calls k = ap (λ (n : ℕ). drop n (calls_at_rank lists k)) (next k) ∙ ap (λ (l : List (List DataCall)). calls_at_rank l k) same
 
-    slots : (k : ℕ) → slot_of lists p.posted k ≡ None
-    slots k = ap (λ (o : Option ℕ). option_and_then (outgoing_at (list_at lists k)) o) (posted k)
+    slots : (k : ℕ) → slot_of_lists lists p.posted k ≡ None
+    slots k = ap (λ (o : Option ℕ). option_and_then (outgoing_at (calls_at_rank lists k)) o) (posted k)
 
 -- where an audit ends, it has come to the end of the log's steps
 pub judged : (log : LogView) (s : SetupView) (lists : List (List DataCall)) (first last : Progress) (v : Verdict) → s.nue ≡ log.nue → s.comms ≡ log.comms → lists ≡ log.lists
     → ((k : ℕ) → slice_index first.next k ≡ 0) → ((k : ℕ) → slice_index_or first.posted k None ≡ None)
-    → length lists ≡ 48 → Leads s (standing_of lists first) (standing_of lists last) → IsQuiet s lists last → ((b : ℕ) → b < 48 → Sleeps last b) → Tells (list_at lists) v (standing_of lists last)
-    → (e : Standing) × EndsIn log e × Tells (calls_of log) v e
+    → length lists ≡ 48 → Leads s (standing_of lists first) (standing_of lists last) → IsQuiet s lists last → ((b : ℕ) → b < 48 → Sleeps last b) → VerdictTells (calls_at_rank lists) v (standing_of lists last)
+    → (e : Standing) × EndsIn log e × VerdictTells (calls_in_log log) v e
 judged log s lists first last v nue comms same next posted ranks leads quiet asleep tells = (
   standing_of lists last,
   ends_in log s (standing_of lists first) (standing_of lists last) nue comms (start_standing log lists first same next posted) leads still,
-  subst (λ (l : List (List DataCall)). Tells (list_at l) v (standing_of lists last)) same tells,
+  subst (λ (l : List (List DataCall)). VerdictTells (calls_at_rank l) v (standing_of lists last)) same tells,
 )
   where
     still : (a : ℕ) (t : Standing) → OwnStep s.nue (setup_key s) a (standing_of lists last) t → ⊥

@@ -11,7 +11,7 @@ use Rattle.scc_base.specs.Setups.{SetupView, setup_key}
 use Rattle.scc_proto.specs.Legality.{Outgoing, Standing, Posting, Taking, Pairing, Meeting, in_group, call_at, Makes, OwnStep}
 use Rattle.scc_proto.proofs.Legality.StepLaws.{itself, own_step, owner_of-own_step}
 use Rattle.rcce_audit.specs.declared.progress.Progress.{Progress}
-use Rattle.rcce_audit.specs.Standings.{AreLists, Tries, TriesFirst, IsQuiet, list_at, outgoing_at, outgoing_of, left_of, slot_of, standing_of, Sleeps, partner_of, Advances, Acts, Meets, Leads, VisitDoes, SweepDoes, count_left}
+use Rattle.rcce_audit.specs.Standings.{AreLists, Tries, TriesFirst, IsQuiet, calls_at_rank, outgoing_at, outgoing_of, calls_left, slot_of_lists, standing_of, Sleeps, partner_of, Advances, Acts, Meets, Leads, VisitDoes, SweepDoes, count_left}
 use Rattle.rcce_audit.proofs.StandingLemmas.{drop-at, drop-none, left_same, no_other_step, no_step, quiet_after, leads_none, leads_step, own_fewer}
 
 -- the call at a place, by the calls from there on
@@ -24,23 +24,23 @@ get-drop {X} calls n c rest is = found (slice_get calls n) refl
 
 module _ (s : SetupView) (lists : List (List DataCall)) where
   -- one caller
-  alone_calls : (a : ℕ) (c : DataCall) (old new : Progress) → left_of lists old.next a ≡ c ∷ left_of lists new.next a → ((j : ℕ) → j ≢ a → slice_index new.next j ≡ slice_index old.next j)
-      → Change (only a) (λ k before after. before ≡ c ∷ after) (left_of lists old.next) (left_of lists new.next)
+  alone_calls : (a : ℕ) (c : DataCall) (old new : Progress) → calls_left lists old.next a ≡ c ∷ calls_left lists new.next a → ((j : ℕ) → j ≢ a → slice_index new.next j ≡ slice_index old.next j)
+      → Change (only a) (λ k before after. before ≡ c ∷ after) (calls_left lists old.next) (calls_left lists new.next)
   alone_calls a c old new is others = record {
-    changed = λ k within. subst (λ (x : ℕ). left_of lists old.next x ≡ c ∷ left_of lists new.next x) (sym (eqb-true k a within)) is;
+    changed = λ k within. subst (λ (x : ℕ). calls_left lists old.next x ≡ c ∷ calls_left lists new.next x) (sym (eqb-true k a within)) is;
     others = λ k without. left_same lists k old.next new.next (others k (eqb-false k a without));
   }
 
   -- a slot, by the place of its post
   abbrev slot_by : ℕ → Option ℕ → Option Outgoing
-  slot_by k place = option_and_then (outgoing_at (list_at lists k)) place
+  slot_by k place = option_and_then (outgoing_at (calls_at_rank lists k)) place
 
   -- one slot
-  alone_slot : (a : ℕ) (before after : Option Outgoing) (old new : Progress) → slot_of lists old.posted a ≡ before → slot_of lists new.posted a ≡ after
+  alone_slot : (a : ℕ) (before after : Option Outgoing) (old new : Progress) → slot_of_lists lists old.posted a ≡ before → slot_of_lists lists new.posted a ≡ after
       → ((j : ℕ) → j ≢ a → slice_index_or new.posted j None ≡ slice_index_or old.posted j None)
-      → Change (only a) (λ k was is. (was ≡ before) × (is ≡ after)) (slot_of lists old.posted) (slot_of lists new.posted)
+      → Change (only a) (λ k was is. (was ≡ before) × (is ≡ after)) (slot_of_lists lists old.posted) (slot_of_lists lists new.posted)
   alone_slot a before after old new was is others = record {
-    changed = λ k within. subst (λ (x : ℕ). (slot_of lists old.posted x ≡ before) × (slot_of lists new.posted x ≡ after)) (sym (eqb-true k a within)) (was, is);
+    changed = λ k within. subst (λ (x : ℕ). (slot_of_lists lists old.posted x ≡ before) × (slot_of_lists lists new.posted x ≡ after)) (sym (eqb-true k a within)) (was, is);
     others = λ k without. ap (slot_by k) (sym (others k (eqb-false k a without)));
   }
 
@@ -56,73 +56,73 @@ module _ (s : SetupView) (lists : List (List DataCall)) where
       (cases_eq b j)
 
   -- a rank posts
-  pub post_acts : (a : ℕ) (m : Outgoing) (old mid new : Progress) → slice_get (list_at lists a) (slice_index old.next a) ≡ Some (Post m.to m.head m.bytes) → slot_of lists old.posted a ≡ None
+  pub post_acts : (a : ℕ) (m : Outgoing) (old mid new : Progress) → slice_get (calls_at_rank lists a) (slice_index old.next a) ≡ Some (Post m.to m.head m.bytes) → slot_of_lists lists old.posted a ≡ None
       → mid.next ≡ old.next → mid.posted ≡ set old.posted a (Some (slice_index old.next a)) → mid.awake ≡ set old.awake m.to true → a < length old.posted → m.to < length old.awake
       → Advances s lists a mid new → Acts s lists (Posting a m) old new
   post_acts a m old mid new front empty next noted woken below to_below adv = record {
     makes = record {
       proper = tt;
       calls = alone_calls a (Post m.to m.head m.bytes) old new
-          (drop-at (list_at lists a) (slice_index old.next a) _ front ∙ ap (λ (n : ℕ). Post m.to m.head m.bytes ∷ drop n (list_at lists a)) (sym (adv.own ∙ ap (λ (l : List ℕ). slice_index l a + 1) next)))
+          (drop-at (calls_at_rank lists a) (slice_index old.next a) _ front ∙ ap (λ (n : ℕ). Post m.to m.head m.bytes ∷ drop n (calls_at_rank lists a)) (sym (adv.own ∙ ap (λ (l : List ℕ). slice_index l a + 1) next)))
           (λ j other. adv.others j other ∙ ap (λ (l : List ℕ). slice_index l j) next);
       slots = alone_slot a None (Some m) old new empty
-          (ap (λ (l : List (Option ℕ)). slot_of lists l a) (adv.posted ∙ noted) ∙ put_slot)
+          (ap (λ (l : List (Option ℕ)). slot_of_lists lists l a) (adv.posted ∙ noted) ∙ put_slot)
           (λ j other. ap (λ (l : List (Option ℕ)). get_or l j None) (adv.posted ∙ noted) ∙ get_or-set_other old.posted a j (Some (slice_index old.next a)) None other);
     };
     kept = λ b asleep. awake_kept old mid m.to woken to_below b (adv.kept b asleep);
     woken_callers = λ k within asleep. adv.caller (subst (Sleeps new) (eqb-true k a within) asleep);
-    woken_partners = λ k within asleep. adv.partner (subst (λ (x : ℕ). Sleeps new (partner_of (setup_key s) x (left_of lists new.next x))) (eqb-true k a within) asleep);
+    woken_partners = λ k within asleep. adv.partner (subst (λ (x : ℕ). Sleeps new (partner_of (setup_key s) x (calls_left lists new.next x))) (eqb-true k a within) asleep);
     woken_slot = λ k within asleep. adv.caller (subst (Sleeps new) (eqb-true k a within) asleep);
     woken_taker = λ t is asleep.
         let same : m ≡ t = cc in
         awake_same old mid m.to woken to_below (adv.kept m.to (subst (λ (x : Outgoing). Sleeps new x.to) (sym same) asleep));
   }
     where
-      put_slot : slot_of lists (set old.posted a (Some (slice_index old.next a))) a ≡ Some m
+      put_slot : slot_of_lists lists (set old.posted a (Some (slice_index old.next a))) a ≡ Some m
       put_slot =
           let noted_at : get_or (set old.posted a (Some (slice_index old.next a))) a None ≡ Some (slice_index old.next a) = get_or-set_same old.posted a (Some (slice_index old.next a)) None below in
           ap (slot_by a) noted_at ∙ ap (λ (c : Option DataCall). option_and_then outgoing_of c) front
 
   -- a rank takes a posted message
-  pub take_acts : (a from : ℕ) (m : Outgoing) (old mid new : Progress) → m.to ≡ a → slice_get (list_at lists a) (slice_index old.next a) ≡ Some (Recv from m.head m.bytes) → slot_of lists old.posted from ≡ Some m
+  pub take_acts : (a from : ℕ) (m : Outgoing) (old mid new : Progress) → m.to ≡ a → slice_get (calls_at_rank lists a) (slice_index old.next a) ≡ Some (Recv from m.head m.bytes) → slot_of_lists lists old.posted from ≡ Some m
       → mid.next ≡ old.next → mid.posted ≡ set old.posted from None → mid.awake ≡ set old.awake from true → from < length old.posted → from < length old.awake
       → Advances s lists a mid new → Acts s lists (Taking from m) old new
   take_acts a from m old mid new is_to front full next noted woken below awake_below adv = record {
     makes = record {
       proper = tt;
-      calls = subst (λ (x : ℕ). Change (only x) (λ k before after. before ≡ Recv from m.head m.bytes ∷ after) (left_of lists old.next) (left_of lists new.next)) (sym is_to)
+      calls = subst (λ (x : ℕ). Change (only x) (λ k before after. before ≡ Recv from m.head m.bytes ∷ after) (calls_left lists old.next) (calls_left lists new.next)) (sym is_to)
           (alone_calls a (Recv from m.head m.bytes) old new
-          (drop-at (list_at lists a) (slice_index old.next a) _ front ∙ ap (λ (n : ℕ). Recv from m.head m.bytes ∷ drop n (list_at lists a)) (sym (adv.own ∙ ap (λ (l : List ℕ). slice_index l a + 1) next)))
+          (drop-at (calls_at_rank lists a) (slice_index old.next a) _ front ∙ ap (λ (n : ℕ). Recv from m.head m.bytes ∷ drop n (calls_at_rank lists a)) (sym (adv.own ∙ ap (λ (l : List ℕ). slice_index l a + 1) next)))
           (λ j other. adv.others j other ∙ ap (λ (l : List ℕ). slice_index l j) next));
       slots = alone_slot from (Some m) None old new full
-          (ap (λ (l : List (Option ℕ)). slot_of lists l from) (adv.posted ∙ noted) ∙ put_slot)
+          (ap (λ (l : List (Option ℕ)). slot_of_lists lists l from) (adv.posted ∙ noted) ∙ put_slot)
           (λ j other. ap (λ (l : List (Option ℕ)). get_or l j None) (adv.posted ∙ noted) ∙ get_or-set_other old.posted from j None None other);
     };
     kept = λ b asleep. awake_kept old mid from woken awake_below b (adv.kept b asleep);
     woken_callers = λ k within asleep. adv.caller (subst (Sleeps new) (eqb-true k m.to within ∙ is_to) asleep);
-    woken_partners = λ k within asleep. adv.partner (subst (λ (x : ℕ). Sleeps new (partner_of (setup_key s) x (left_of lists new.next x))) (eqb-true k m.to within ∙ is_to) asleep);
+    woken_partners = λ k within asleep. adv.partner (subst (λ (x : ℕ). Sleeps new (partner_of (setup_key s) x (calls_left lists new.next x))) (eqb-true k m.to within ∙ is_to) asleep);
     woken_slot = λ k within asleep. awake_same old mid from woken awake_below (adv.kept from (subst (Sleeps new) (eqb-true k from within) asleep));
     woken_taker = λ t is asleep. absurd cc;
   }
     where
-      put_slot : slot_of lists (set old.posted from None) from ≡ None
+      put_slot : slot_of_lists lists (set old.posted from None) from ≡ None
       put_slot = ap (slot_by from) (get_or-set_same old.posted from None None below)
 
   -- a send meets its receive
-  pub pair_acts : (from : ℕ) (m : Outgoing) (old mid new : Progress) → m.to ≢ from → slice_get (list_at lists from) (slice_index old.next from) ≡ Some (Send m.to m.head m.bytes)
-      → slice_get (list_at lists m.to) (slice_index old.next m.to) ≡ Some (Recv from m.head m.bytes) → slot_of lists old.posted from ≡ None
+  pub pair_acts : (from : ℕ) (m : Outgoing) (old mid new : Progress) → m.to ≢ from → slice_get (calls_at_rank lists from) (slice_index old.next from) ≡ Some (Send m.to m.head m.bytes)
+      → slice_get (calls_at_rank lists m.to) (slice_index old.next m.to) ≡ Some (Recv from m.head m.bytes) → slot_of_lists lists old.posted from ≡ None
       → Advances s lists from old mid → Advances s lists m.to mid new → Acts s lists (Pairing from m) old new
   pair_acts from m old mid new apart front asked empty first second = record {
     makes = record {
       proper = λ same. apart (sym same);
       calls = record { changed = changed; others = others };
-      slots = alone_slot from None None old new empty (ap (λ (l : List (Option ℕ)). slot_of lists l from) (second.posted ∙ first.posted) ∙ empty) (λ j other. ap (λ (l : List (Option ℕ)). get_or l j None) (second.posted ∙ first.posted));
+      slots = alone_slot from None None old new empty (ap (λ (l : List (Option ℕ)). slot_of_lists lists l from) (second.posted ∙ first.posted) ∙ empty) (λ j other. ap (λ (l : List (Option ℕ)). get_or l j None) (second.posted ∙ first.posted));
     };
     kept = λ b asleep. first.kept b (second.kept b asleep);
     woken_callers = λ k within asleep. ⊎_elim (λ (at : (k == from) ≡ true). own_awake k (eqb-true k from at) asleep) (λ (at : (k == m.to) ≡ true). second.caller (subst (Sleeps new) (eqb-true k m.to at) asleep)) (or_cases (k == from) (k == m.to) within);
     woken_partners = λ k within asleep. ⊎_elim
-        (λ (at : (k == from) ≡ true). first.partner (second.kept _ (subst (λ (x : List DataCall). Sleeps new (partner_of (setup_key s) from x)) (sym still) (subst (λ (x : ℕ). Sleeps new (partner_of (setup_key s) x (left_of lists new.next x))) (eqb-true k from at) asleep))))
-        (λ (at : (k == m.to) ≡ true). second.partner (subst (λ (x : ℕ). Sleeps new (partner_of (setup_key s) x (left_of lists new.next x))) (eqb-true k m.to at) asleep))
+        (λ (at : (k == from) ≡ true). first.partner (second.kept _ (subst (λ (x : List DataCall). Sleeps new (partner_of (setup_key s) from x)) (sym still) (subst (λ (x : ℕ). Sleeps new (partner_of (setup_key s) x (calls_left lists new.next x))) (eqb-true k from at) asleep))))
+        (λ (at : (k == m.to) ≡ true). second.partner (subst (λ (x : ℕ). Sleeps new (partner_of (setup_key s) x (calls_left lists new.next x))) (eqb-true k m.to at) asleep))
         (or_cases (k == from) (k == m.to) within);
     woken_slot = λ k within asleep. own_awake k (eqb-true k from within) asleep;
     woken_taker = λ t is asleep. absurd cc;
@@ -131,50 +131,50 @@ module _ (s : SetupView) (lists : List (List DataCall)) where
       own_awake : (k : ℕ) → k ≡ from → Sleeps new k → ⊥
       own_awake k at asleep = first.caller (second.kept from (subst (Sleeps new) at asleep))
 
-      still : left_of lists mid.next from ≡ left_of lists new.next from
+      still : calls_left lists mid.next from ≡ calls_left lists new.next from
       still = left_same lists from mid.next new.next (second.others from (λ same. apart (sym same)))
 
-      sender : left_of lists old.next from ≡ Send m.to m.head m.bytes ∷ left_of lists new.next from
-      sender = drop-at (list_at lists from) (slice_index old.next from) _ front ∙ ap (λ (n : ℕ). Send m.to m.head m.bytes ∷ drop n (list_at lists from)) (sym first.own) ∙ ap (λ (l : List DataCall). Send m.to m.head m.bytes ∷ l) still
+      sender : calls_left lists old.next from ≡ Send m.to m.head m.bytes ∷ calls_left lists new.next from
+      sender = drop-at (calls_at_rank lists from) (slice_index old.next from) _ front ∙ ap (λ (n : ℕ). Send m.to m.head m.bytes ∷ drop n (calls_at_rank lists from)) (sym first.own) ∙ ap (λ (l : List DataCall). Send m.to m.head m.bytes ∷ l) still
 
-      receiver : left_of lists old.next m.to ≡ Recv from m.head m.bytes ∷ left_of lists new.next m.to
+      receiver : calls_left lists old.next m.to ≡ Recv from m.head m.bytes ∷ calls_left lists new.next m.to
       receiver =
-          drop-at (list_at lists m.to) (slice_index old.next m.to) _ asked
-          ∙ ap (λ (n : ℕ). Recv from m.head m.bytes ∷ drop n (list_at lists m.to)) (sym (second.own ∙ ap (λ (n : ℕ). n + 1) (first.others m.to apart)))
+          drop-at (calls_at_rank lists m.to) (slice_index old.next m.to) _ asked
+          ∙ ap (λ (n : ℕ). Recv from m.head m.bytes ∷ drop n (calls_at_rank lists m.to)) (sym (second.own ∙ ap (λ (n : ℕ). n + 1) (first.others m.to apart)))
 
-      at_sender : (b : Bool) → (from == from) ≡ b → b ≡ true → left_of lists old.next from ≡ (if b then Send m.to m.head m.bytes else Recv from m.head m.bytes) ∷ left_of lists new.next from
+      at_sender : (b : Bool) → (from == from) ≡ b → b ≡ true → calls_left lists old.next from ≡ (if b then Send m.to m.head m.bytes else Recv from m.head m.bytes) ∷ calls_left lists new.next from
       at_sender true is t = sender
       at_sender false is t = absurd (true≢false (sym t))
 
-      at_receiver : (b : Bool) → b ≡ false → left_of lists old.next m.to ≡ (if b then Send m.to m.head m.bytes else Recv from m.head m.bytes) ∷ left_of lists new.next m.to
+      at_receiver : (b : Bool) → b ≡ false → calls_left lists old.next m.to ≡ (if b then Send m.to m.head m.bytes else Recv from m.head m.bytes) ∷ calls_left lists new.next m.to
       at_receiver true t = absurd (true≢false t)
       at_receiver false t = receiver
 
-      changed : (k : ℕ) → both from m.to k ≡ true → left_of lists old.next k ≡ call_at (Pairing from m) k ∷ left_of lists new.next k
+      changed : (k : ℕ) → both from m.to k ≡ true → calls_left lists old.next k ≡ call_at (Pairing from m) k ∷ calls_left lists new.next k
       changed k within =
           ⊎_elim
-          (λ (at : (k == from) ≡ true). subst (λ (x : ℕ). left_of lists old.next x ≡ call_at (Pairing from m) x ∷ left_of lists new.next x) (sym (eqb-true k from at)) (at_sender (from == from) refl (itself from)))
-          (λ (at : (k == m.to) ≡ true). subst (λ (x : ℕ). left_of lists old.next x ≡ call_at (Pairing from m) x ∷ left_of lists new.next x) (sym (eqb-true k m.to at)) (at_receiver (m.to == from) (ne_eqb m.to from apart)))
+          (λ (at : (k == from) ≡ true). subst (λ (x : ℕ). calls_left lists old.next x ≡ call_at (Pairing from m) x ∷ calls_left lists new.next x) (sym (eqb-true k from at)) (at_sender (from == from) refl (itself from)))
+          (λ (at : (k == m.to) ≡ true). subst (λ (x : ℕ). calls_left lists old.next x ≡ call_at (Pairing from m) x ∷ calls_left lists new.next x) (sym (eqb-true k m.to at)) (at_receiver (m.to == from) (ne_eqb m.to from apart)))
           (or_cases (k == from) (k == m.to) within)
 
-      others : (k : ℕ) → both from m.to k ≡ false → left_of lists old.next k ≡ left_of lists new.next k
+      others : (k : ℕ) → both from m.to k ≡ false → calls_left lists old.next k ≡ calls_left lists new.next k
       others k without =
           let parts = or_parts (k == from) (k == m.to) without in
           left_same lists k old.next new.next (second.others k (eqb-false k m.to parts.1) ∙ first.others k (eqb-false k from parts.0))
 
   -- the members of a group pass a barrier
   pub meet_acts : (comm root : ℕ) (old new : Progress) → root < s.nue → place_in (setup_key s comm) root ≡ 0 → s.nue ≤ 48
-      → ((k : ℕ) → in_group s.nue (setup_key s) comm root k ≡ true → slice_get (list_at lists k) (slice_index old.next k) ≡ Some (Bar comm))
+      → ((k : ℕ) → in_group s.nue (setup_key s) comm root k ≡ true → slice_get (calls_at_rank lists k) (slice_index old.next k) ≡ Some (Bar comm))
       → ((k : ℕ) → in_group s.nue (setup_key s) comm root k ≡ true → k < 48)
       → Meets s lists (in_group s.nue (setup_key s) comm root) 48 old new → Acts s lists (Meeting comm root) old new
   meet_acts comm root old new below zeroth ranks at within meets = record {
     makes = record {
       proper = record { below = below; zeroth = zeroth };
       calls = record {
-        changed = λ k member. drop-at (list_at lists k) (slice_index old.next k) _ (at k member) ∙ ap (λ (n : ℕ). Bar comm ∷ drop n (list_at lists k)) (sym (meets.own k (within k member) member));
+        changed = λ k member. drop-at (calls_at_rank lists k) (slice_index old.next k) _ (at k member) ∙ ap (λ (n : ℕ). Bar comm ∷ drop n (calls_at_rank lists k)) (sym (meets.own k (within k member) member));
         others = λ k other. left_same lists k old.next new.next (meets.others k other);
       };
-      slots = record { changed = λ k never. absurd (true≢false (sym never)); others = λ k same. ap (λ (l : List (Option ℕ)). slot_of lists l k) (sym meets.posted) };
+      slots = record { changed = λ k never. absurd (true≢false (sym never)); others = λ k same. ap (λ (l : List (Option ℕ)). slot_of_lists lists l k) (sym meets.posted) };
     };
     kept = meets.kept;
     woken_callers = λ k member. meets.callers k (within k member) member;
@@ -183,10 +183,10 @@ module _ (s : SetupView) (lists : List (List DataCall)) where
     woken_taker = λ t is asleep. absurd cc;
   }
 
-  pub no_pair : (from : ℕ) (m : Outgoing) (p : Progress) → (slice_get (list_at lists m.to) (slice_index p.next m.to) ≡ Some (Recv from m.head m.bytes) → ⊥) → (t : Standing) → Makes s.nue (setup_key s) (Pairing from m) (standing_of lists p) t → ⊥
-  no_pair from m p other t makes = other (get-drop (list_at lists m.to) (slice_index p.next m.to) (Recv from m.head m.bytes) (t.calls m.to) asked)
+  pub no_pair : (from : ℕ) (m : Outgoing) (p : Progress) → (slice_get (calls_at_rank lists m.to) (slice_index p.next m.to) ≡ Some (Recv from m.head m.bytes) → ⊥) → (t : Standing) → Makes s.nue (setup_key s) (Pairing from m) (standing_of lists p) t → ⊥
+  no_pair from m p other t makes = other (get-drop (calls_at_rank lists m.to) (slice_index p.next m.to) (Recv from m.head m.bytes) (t.calls m.to) asked)
     where
-      by_test : (b : Bool) → (m.to == from) ≡ b → left_of lists p.next m.to ≡ (if b then Send m.to m.head m.bytes else Recv from m.head m.bytes) ∷ t.calls m.to → left_of lists p.next m.to ≡ Recv from m.head m.bytes ∷ t.calls m.to
+      by_test : (b : Bool) → (m.to == from) ≡ b → calls_left lists p.next m.to ≡ (if b then Send m.to m.head m.bytes else Recv from m.head m.bytes) ∷ t.calls m.to → calls_left lists p.next m.to ≡ Recv from m.head m.bytes ∷ t.calls m.to
       by_test true is e = absurd (makes.proper (sym (eqb-true m.to from is)))
       by_test false is e = e
 
@@ -194,59 +194,59 @@ module _ (s : SetupView) (lists : List (List DataCall)) where
       both_right true b is = refl
       both_right false b is = is
 
-      asked : left_of lists p.next m.to ≡ Recv from m.head m.bytes ∷ t.calls m.to
+      asked : calls_left lists p.next m.to ≡ Recv from m.head m.bytes ∷ t.calls m.to
       asked = by_test (m.to == from) refl (makes.calls.changed m.to (both_right (m.to == from) (m.to == m.to) (itself m.to)))
 
   pub no_meet_root : (comm root : ℕ) (p : Progress) → (place_in (setup_key s comm) root ≡ 0 → ⊥) → (t : Standing) → Makes s.nue (setup_key s) (Meeting comm root) (standing_of lists p) t → ⊥
   no_meet_root comm root p other t makes = other makes.proper.zeroth
 
   pub no_meet : (comm root : ℕ) (p : Progress)
-      → (((k : ℕ) → in_group s.nue (setup_key s) comm root k ≡ true → slice_get (list_at lists k) (slice_index p.next k) ≡ Some (Bar comm)) → ⊥)
+      → (((k : ℕ) → in_group s.nue (setup_key s) comm root k ≡ true → slice_get (calls_at_rank lists k) (slice_index p.next k) ≡ Some (Bar comm)) → ⊥)
       → (t : Standing) → Makes s.nue (setup_key s) (Meeting comm root) (standing_of lists p) t → ⊥
-  no_meet comm root p other t makes = other (λ k member. get-drop (list_at lists k) (slice_index p.next k) (Bar comm) (t.calls k) (makes.calls.changed k member))
+  no_meet comm root p other t makes = other (λ k member. get-drop (calls_at_rank lists k) (slice_index p.next k) (Bar comm) (t.calls k) (makes.calls.changed k member))
 
 -- a fact of each call of a list
 pub all_get : {X : Type 0} (P : X → Type 0) (xs : List X) (n : ℕ) (x : X) → All P xs → slice_get xs n ≡ Some x → P x
 all_get P xs n x all is = subst P (get_or_from_slice_get xs n x x is) (all n x (slice_get_within xs n x is))
 
 -- the call at a place, in other words
-pub front_of : (lists : List (List DataCall)) (next : List ℕ) (r place : ℕ) (x y : DataCall) → place ≡ r → Some x ≡ slice_get (list_at lists place) (slice_index next place) → x ≡ y
-    → slice_get (list_at lists r) (slice_index next r) ≡ Some y
+pub front_of : (lists : List (List DataCall)) (next : List ℕ) (r place : ℕ) (x y : DataCall) → place ≡ r → Some x ≡ slice_get (calls_at_rank lists place) (slice_index next place) → x ≡ y
+    → slice_get (calls_at_rank lists r) (slice_index next r) ≡ Some y
 front_of lists next r place x y at is same =
-    sym (ap (λ (n : ℕ). slice_get (list_at lists n) (slice_index next n)) at) ∙ sym is ∙ ap Some same
+    sym (ap (λ (n : ℕ). slice_get (calls_at_rank lists n) (slice_index next n)) at) ∙ sym is ∙ ap Some same
 
 -- a rank that has a call is one of the run
-pub rank_below : (s : SetupView) (lists : List (List DataCall)) (r n : ℕ) (c : DataCall) → AreLists s lists → slice_get (list_at lists r) n ≡ Some c → r < s.nue
+pub rank_below : (s : SetupView) (lists : List (List DataCall)) (r n : ℕ) (c : DataCall) → AreLists s lists → slice_get (calls_at_rank lists r) n ≡ Some c → r < s.nue
 rank_below s lists r n c are is =
     ⊎_elim
     (λ (below : r < s.nue). below)
-    (λ (above : s.nue ≤ r). let none = are.no_others r above in let within = slice_get_within (list_at lists r) n c is in absurd (omega (arith, within, ap length none)))
+    (λ (above : s.nue ≤ r). let none = are.no_others r above in let within = slice_get_within (calls_at_rank lists r) n c is in absurd (omega (arith, within, ap length none)))
     (cases_lt r s.nue)
 
 module _ (s : SetupView) (lists : List (List DataCall)) where
   -- the same as above, where the code's places are those of the ranks
-  pub post_at : (a place to_place : ℕ) (m : Outgoing) (old mid new : Progress) → place ≡ a → to_place ≡ m.to → slice_get (list_at lists a) (slice_index old.next a) ≡ Some (Post m.to m.head m.bytes) → slot_of lists old.posted place ≡ None
+  pub post_at : (a place to_place : ℕ) (m : Outgoing) (old mid new : Progress) → place ≡ a → to_place ≡ m.to → slice_get (calls_at_rank lists a) (slice_index old.next a) ≡ Some (Post m.to m.head m.bytes) → slot_of_lists lists old.posted place ≡ None
       → mid.next ≡ old.next → mid.posted ≡ set old.posted place (Some (slice_index old.next place)) → mid.awake ≡ set old.awake to_place true → a < length old.posted → m.to < length old.awake
       → Advances s lists place mid new → Acts s lists (Posting a m) old new
   post_at a place to_place m old mid new at to_at front empty next noted woken below to_below adv =
-      post_acts s lists a m old mid new front (subst (λ (x : ℕ). slot_of lists old.posted x ≡ None) at empty) next
+      post_acts s lists a m old mid new front (subst (λ (x : ℕ). slot_of_lists lists old.posted x ≡ None) at empty) next
       (noted ∙ ap (λ (x : ℕ). set old.posted x (Some (slice_index old.next x))) at) (woken ∙ ap (λ (x : ℕ). set old.awake x true) to_at) below to_below
       (subst (λ (x : ℕ). Advances s lists x mid new) at adv)
 
-  pub take_at : (a place from sender : ℕ) (m : Outgoing) (old mid new : Progress) → place ≡ a → sender ≡ from → m.to ≡ a → slice_get (list_at lists a) (slice_index old.next a) ≡ Some (Recv from m.head m.bytes) → slot_of lists old.posted sender ≡ Some m
+  pub take_at : (a place from sender : ℕ) (m : Outgoing) (old mid new : Progress) → place ≡ a → sender ≡ from → m.to ≡ a → slice_get (calls_at_rank lists a) (slice_index old.next a) ≡ Some (Recv from m.head m.bytes) → slot_of_lists lists old.posted sender ≡ Some m
       → mid.next ≡ old.next → mid.posted ≡ set old.posted sender None → mid.awake ≡ set old.awake sender true → from < length old.posted → from < length old.awake
       → Advances s lists place mid new → Acts s lists (Taking from m) old new
   take_at a place from sender m old mid new at from_at is_to front full next noted woken below awake_below adv =
-      take_acts s lists a from m old mid new is_to front (subst (λ (x : ℕ). slot_of lists old.posted x ≡ Some m) from_at full) next
+      take_acts s lists a from m old mid new is_to front (subst (λ (x : ℕ). slot_of_lists lists old.posted x ≡ Some m) from_at full) next
       (noted ∙ ap (λ (x : ℕ). set old.posted x None) from_at) (woken ∙ ap (λ (x : ℕ). set old.awake x true) from_at) below awake_below
       (subst (λ (x : ℕ). Advances s lists x mid new) at adv)
 
-  pub pair_at : (from sender receiver : ℕ) (m : Outgoing) (old mid new : Progress) → sender ≡ from → receiver ≡ m.to → m.to ≢ from → slice_get (list_at lists from) (slice_index old.next from) ≡ Some (Send m.to m.head m.bytes)
-      → slice_get (list_at lists receiver) (slice_index old.next receiver) ≡ Some (Recv from m.head m.bytes) → slot_of lists old.posted sender ≡ None
+  pub pair_at : (from sender receiver : ℕ) (m : Outgoing) (old mid new : Progress) → sender ≡ from → receiver ≡ m.to → m.to ≢ from → slice_get (calls_at_rank lists from) (slice_index old.next from) ≡ Some (Send m.to m.head m.bytes)
+      → slice_get (calls_at_rank lists receiver) (slice_index old.next receiver) ≡ Some (Recv from m.head m.bytes) → slot_of_lists lists old.posted sender ≡ None
       → Advances s lists sender old mid → Advances s lists receiver mid new → Acts s lists (Pairing from m) old new
   pair_at from sender receiver m old mid new at to_at apart front asked empty first second =
-      pair_acts s lists from m old mid new apart front (subst (λ (x : ℕ). slice_get (list_at lists x) (slice_index old.next x) ≡ Some (Recv from m.head m.bytes)) to_at asked)
-      (subst (λ (x : ℕ). slot_of lists old.posted x ≡ None) at empty) (subst (λ (x : ℕ). Advances s lists x old mid) at first) (subst (λ (x : ℕ). Advances s lists x mid new) to_at second)
+      pair_acts s lists from m old mid new apart front (subst (λ (x : ℕ). slice_get (calls_at_rank lists x) (slice_index old.next x) ≡ Some (Recv from m.head m.bytes)) to_at asked)
+      (subst (λ (x : ℕ). slot_of_lists lists old.posted x ≡ None) at empty) (subst (λ (x : ℕ). Advances s lists x old mid) at first) (subst (λ (x : ℕ). Advances s lists x mid new) to_at second)
 
   -- one more rank of a group, or one of another
   pub meets_member : (group : ℕ → Bool) (n : ℕ) (old mid new : Progress) → Meets s lists group n old mid → group n ≡ true → Advances s lists n mid new → Meets s lists group (n + 1) old new
@@ -264,7 +264,7 @@ module _ (s : SetupView) (lists : List (List DataCall)) where
         (λ (other : k ≢ n). meets.callers k (omega (arith, other)) in_group (adv.kept k asleep))
         (cases_eq k n);
     partners = λ k under in_group asleep. ⊎_elim
-        (λ (at : k ≡ n). adv.partner (subst (λ (x : ℕ). Sleeps new (partner_of (setup_key s) x (left_of lists new.next x))) at asleep))
+        (λ (at : k ≡ n). adv.partner (subst (λ (x : ℕ). Sleeps new (partner_of (setup_key s) x (calls_left lists new.next x))) at asleep))
         (λ (other : k ≢ n).
         meets.partners k (omega (arith, other)) in_group
         (adv.kept _ (subst (λ (l : List DataCall). Sleeps new (partner_of (setup_key s) k l)) (sym (left_same lists k mid.next new.next (adv.others k other))) asleep)))
@@ -293,13 +293,13 @@ module _ (s : SetupView) (lists : List (List DataCall)) where
           (cases_eq k n)
 
   -- the step of a first call is the rank's step
-  pub tries_first : (a : ℕ) (call : DataCall) (old new : Progress) (result : Bool) → slice_get (list_at lists a) (slice_index old.next a) ≡ Some call → Tries s lists (own_step a call) old new result → TriesFirst s lists a old new result
+  pub tries_first : (a : ℕ) (call : DataCall) (old new : Progress) (result : Bool) → slice_get (calls_at_rank lists a) (slice_index old.next a) ≡ Some call → Tries s lists (own_step a call) old new result → TriesFirst s lists a old new result
   tries_first a call old new true front acts = (own_step a call, owner_of-own_step a call, acts)
   tries_first a call old new false front (same, never) =
-      (same, no_other_step s.nue (setup_key s) a (standing_of lists old) call (drop (slice_index old.next a + 1) (list_at lists a)) (drop-at (list_at lists a) (slice_index old.next a) call front) never)
+      (same, no_other_step s.nue (setup_key s) a (standing_of lists old) call (drop (slice_index old.next a + 1) (calls_at_rank lists a)) (drop-at (calls_at_rank lists a) (slice_index old.next a) call front) never)
 
-  pub none_first : (a : ℕ) (p : Progress) → slice_get (list_at lists a) (slice_index p.next a) ≡ None → TriesFirst s lists a p p false
-  none_first a p none = (refl, λ t. no_step s.nue (setup_key s) a (standing_of lists p) t (drop-none (list_at lists a) (slice_index p.next a) none))
+  pub none_first : (a : ℕ) (p : Progress) → slice_get (calls_at_rank lists a) (slice_index p.next a) ≡ None → TriesFirst s lists a p p false
+  none_first a p none = (refl, λ t. no_step s.nue (setup_key s) a (standing_of lists p) t (drop-none (calls_at_rank lists a) (slice_index p.next a) none))
 
   -- a rank that has no step falls asleep
   pub sleep_quiet : (a : ℕ) (old new after : Progress) → TriesFirst s lists a old new false → after.next ≡ new.next → after.posted ≡ new.posted → after.awake ≡ set new.awake a false → a < length new.awake
@@ -312,8 +312,8 @@ module _ (s : SetupView) (lists : List (List DataCall)) where
     where
       standing : standing_of lists after ≡ standing_of lists old
       standing =
-          ap (λ (l : List ℕ). record { calls = left_of lists l; slots = slot_of lists after.posted }) next
-          ∙ ap (λ (l : List (Option ℕ)). record { calls = left_of lists new.next; slots = slot_of lists l }) posted
+          ap (λ (l : List ℕ). record { calls = calls_left lists l; slots = slot_of_lists lists after.posted }) next
+          ∙ ap (λ (l : List (Option ℕ)). record { calls = calls_left lists new.next; slots = slot_of_lists lists l }) posted
           ∙ ap (standing_of lists) same
 
       own_old : OwnStep s.nue (setup_key s) b (standing_of lists old) t

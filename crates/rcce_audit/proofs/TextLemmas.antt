@@ -1,10 +1,10 @@
 -- The texts of a log's lines, line by line.
 use Rattle.std.proofs.Common.{◌≡◌, ℕ, ◌+◌, ◌<◌, List, [], ◌∷◌, ◌++◌, codes, length, get_or, map, take, drop, refl, sym, ap, ◌∙◌, append_assoc, arith}
 use Rattle.std.proofs.lemmas.List.{append-nil, take-append-drop, take_more, length-take-le}
-use Rattle.rcce_io.specs.Sending.{joined}
+use Rattle.rcce_io.specs.Sending.{joined_texts}
 use Rattle.rcce_audit.specs.declared.logs.LogCall.{LogCall}
 use Rattle.rcce_audit.specs.Logs.{LogView}
-use Rattle.rcce_audit.specs.Pieces.{call_text, ended}
+use Rattle.rcce_audit.specs.Pieces.{call_text, line_with_feed}
 use Rattle.rcce_audit.specs.Texts.{call_lines, head_words, log_text, rule_lines, table_lines, text_of}
 use Rattle.rcce_audit.specs.Views.{data_list}
 
@@ -42,21 +42,21 @@ table-parts {X} lines xs i d within =
     ∙ append_assoc (text_of (table_lines lines 0 (take i xs))) (text_of (lines i (get_or xs i d))) rest
 
 -- a rank's calls, one line each
-pub calls_text : (rank : ℕ) (calls : List LogCall) → joined (map (call_text rank) calls) ≡ text_of (call_lines rank (data_list calls))
+pub calls_text : (rank : ℕ) (calls : List LogCall) → joined_texts (map (call_text rank) calls) ≡ text_of (call_lines rank (data_list calls))
 calls_text rank [] = refl
 calls_text rank (c ∷ calls) = ap (λ (t : List ℕ). call_text rank c ++ t) (calls_text rank calls)
 
 -- pieces that make a line of words
 pub message_pieces : (r verb peer kind comm len hex : List ℕ) → r ++ (codes " " ++ (verb ++ (codes " " ++ (peer ++ (codes " " ++ (kind ++ (codes " " ++ (comm ++ (codes " " ++ (len ++ (codes " " ++ (hex ++ (codes "\n" ++ [])))))))))))))
-    ≡ ended (r ∷ verb ∷ peer ∷ kind ∷ comm ∷ len ∷ hex ∷ [])
+    ≡ line_with_feed (r ∷ verb ∷ peer ∷ kind ∷ comm ∷ len ∷ hex ∷ [])
 message_pieces r verb peer kind comm len hex = sym (simp append_assoc)
 
-pub barrier_pieces : (r comm : List ℕ) → r ++ (codes " bar " ++ (comm ++ (codes "\n" ++ []))) ≡ ended (r ∷ codes "bar" ∷ comm ∷ [])
+pub barrier_pieces : (r comm : List ℕ) → r ++ (codes " bar " ++ (comm ++ (codes "\n" ++ []))) ≡ line_with_feed (r ∷ codes "bar" ∷ comm ∷ [])
 barrier_pieces r comm = sym (simp append_assoc)
 
-pub split_pieces : (comm parent how k : List ℕ) → codes "comm " ++ (comm ++ (codes " " ++ (parent ++ (codes " " ++ (how ++ (codes " " ++ (k ++ (codes "\n" ++ [])))))))) ≡ ended (codes "comm" ∷ comm ∷ parent ∷ how ∷ k ∷ [])
+pub split_pieces : (comm parent how k : List ℕ) → codes "comm " ++ (comm ++ (codes " " ++ (parent ++ (codes " " ++ (how ++ (codes " " ++ (k ++ (codes "\n" ++ [])))))))) ≡ line_with_feed (codes "comm" ∷ comm ∷ parent ∷ how ∷ k ∷ [])
 split_pieces comm parent how k = sym (simp append_assoc)
 
 -- the text of a log, part by part
-pub log_parts : (log : LogView) → log_text log ≡ ended (head_words log.nue) ++ (text_of (table_lines rule_lines 0 log.comms) ++ text_of (table_lines call_lines 0 log.lists))
-log_parts log = ap (λ (t : List ℕ). ended (head_words log.nue) ++ t) (text_of-append (table_lines rule_lines 0 log.comms) (table_lines call_lines 0 log.lists))
+pub log_parts : (log : LogView) → log_text log ≡ line_with_feed (head_words log.nue) ++ (text_of (table_lines rule_lines 0 log.comms) ++ text_of (table_lines call_lines 0 log.lists))
+log_parts log = ap (λ (t : List ℕ). line_with_feed (head_words log.nue) ++ t) (text_of-append (table_lines rule_lines 0 log.comms) (table_lines call_lines 0 log.lists))

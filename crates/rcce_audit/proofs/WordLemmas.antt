@@ -16,7 +16,7 @@ use Rattle.texts.specs.Numbers.{number_of}
 use Rattle.texts.proofs.DecimalLemmas.{number_of-decimal}
 use Rattle.scc_base.specs.Heads.{kind_text}
 use Rattle.rcce_io.specs.Digits.{hex_text}
-use Rattle.rcce_audit.specs.Words.{◌>>=◌, only_if, spelled, number_said, range_said, kind_said, is_lower, hex_said}
+use Rattle.rcce_audit.specs.Words.{◌>>=◌, only_if, exact_spelling, exact_number_said, exact_range_said, kind_said, is_lower, exact_hex_said}
 
 -- equal texts
 pub same_text : (xs ys : List ℕ) → bytes_eq xs ys ≡ true → xs ≡ ys
@@ -42,9 +42,9 @@ chosen true x y rest is = inl (refl, cc)
 chosen false x y rest is = inr is
 
 -- a number's word is its decimal text
-pub number_word : (word : List ℕ) (n : ℕ) → number_said word ≡ Some n → decimal n ≡ word
+pub number_word : (word : List ℕ) (n : ℕ) → exact_number_said word ≡ Some n → decimal n ≡ word
 number_word word n said =
-    let (m, is, gives) = then_some (number_of word) (spelled word) n said in
+    let (m, is, gives) = then_some (number_of word) (exact_spelling word) n said in
     let (same, value) = only_some (bytes_eq (decimal m) word) m n gives in
     ap decimal (sym value) ∙ same_text (decimal m) word same
 
@@ -54,9 +54,9 @@ pub record IsNumberWord (low high n : ℕ) (word : List ℕ) : Type 0 where
   pub least : low ≤ n
   pub most : n ≤ high
 
-pub range_word : (low high : ℕ) (word : List ℕ) (n : ℕ) → range_said low high word ≡ Some n → IsNumberWord low high n word
+pub range_word : (low high : ℕ) (word : List ℕ) (n : ℕ) → exact_range_said low high word ≡ Some n → IsNumberWord low high n word
 range_word low high word n said =
-    let (m, is, gives) = then_some (number_said word) (λ k. only_if (nat_le low k && nat_le k high) k) n said in
+    let (m, is, gives) = then_some (exact_number_said word) (λ k. only_if (nat_le low k && nat_le k high) k) n said in
     let (within, value) = only_some (nat_le low m && nat_le m high) m n gives in
     let bounds = and_parts (nat_le low m) (nat_le m high) within in
     record {
@@ -66,12 +66,12 @@ range_word low high word n said =
     }
 
 -- and the decimal text of a number says it
-pub number_said-decimal : (n : ℕ) → n ≤ 4294967295 → number_said (decimal n) ≡ Some n
+pub number_said-decimal : (n : ℕ) → n ≤ 4294967295 → exact_number_said (decimal n) ≡ Some n
 number_said-decimal n within =
-    ap (λ (o : Option ℕ). o >>= spelled (decimal n)) (number_of-decimal n within)
+    ap (λ (o : Option ℕ). o >>= exact_spelling (decimal n)) (number_of-decimal n within)
     ∙ cond-true _ _ _ (text_same (decimal n) (decimal n) refl)
 
-pub range_said-decimal : (low high n : ℕ) → low ≤ n → n ≤ high → n ≤ 4294967295 → range_said low high (decimal n) ≡ Some n
+pub range_said-decimal : (low high n : ℕ) → low ≤ n → n ≤ high → n ≤ 4294967295 → exact_range_said low high (decimal n) ≡ Some n
 range_said-decimal low high n least most within =
     ap (λ (o : Option ℕ). o >>= λ k. only_if (nat_le low k && nat_le k high) k) (number_said-decimal n within)
     ∙ cond-true (nat_le low n && nat_le n high) (Some n) None (grind (arith, nat_tests))
@@ -114,7 +114,7 @@ unfolding encode_with
 text_nonempty [] word is some = absurd (some (sym (ap length is)))
 text_nonempty (b ∷ bytes) word is some = is
 
-pub hex_word : (word bytes : List ℕ) → hex_said word ≡ Some bytes → IsHexWord bytes word
+pub hex_word : (word bytes : List ℕ) → exact_hex_said word ≡ Some bytes → IsHexWord bytes word
 hex_word word bytes said =
     ⊎_elim
     (λ (none : (bytes_eq word (codes "-") ≡ true) × ([] ≡ bytes)). record { text = ap hex_text (sym none.1) ∙ sym (same_text word (codes "-") none.0); are_bytes = subst IsBytes none.1 no_bytes })
@@ -130,7 +130,7 @@ hex_word word bytes said =
         record { text = text_nonempty bytes word back.0 some; are_bytes = back.1 }
     digits false is r = absurd cc
 
-pub hex_said-hex_text : (bytes : List ℕ) → IsBytes bytes → hex_said (hex_text bytes) ≡ Some bytes
+pub hex_said-hex_text : (bytes : List ℕ) → IsBytes bytes → exact_hex_said (hex_text bytes) ≡ Some bytes
 unfolding encode_with
 hex_said-hex_text [] are = refl
 hex_said-hex_text (b ∷ bytes) are =

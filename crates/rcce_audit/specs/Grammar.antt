@@ -16,7 +16,7 @@ use Rattle.rcce_audit.specs.declared.faults.LogStop.TheVariants as stop
 use Rattle.rcce_audit.specs.declared.lines.CommSplit.{CommSplit}
 use Rattle.rcce_audit.specs.declared.lines.EndRanks.{EndRanks}
 use Rattle.rcce_audit.specs.Logs.{LogView, most_log_bytes}
-use Rattle.rcce_audit.specs.Words.{◌>>=◌, only_if, words_of, range_said, kind_said, hex_said}
+use Rattle.rcce_audit.specs.Words.{◌>>=◌, only_if, log_words_of, exact_range_said, kind_said, exact_hex_said}
 use Rattle.texts.specs.Cuts.{lines_of}
 
 -- how far a log is read: what its lines so far say, its last communicator, and the rank of its last call
@@ -31,8 +31,8 @@ pub record RankedCall : Type 0 where
   pub call : DataCall
 
 -- a rank of the run
-abbrev pub rank_said : ℕ → List ℕ → Option ℕ
-rank_said nue word = range_said 0 (nue - 1) word
+abbrev pub log_rank_said : ℕ → List ℕ → Option ℕ
+log_rank_said nue word = exact_range_said 0 (nue - 1) word
 
 -- the two ranks of a message, which are not the same
 abbrev pub end_ranks : ℕ → ℕ → Option EndRanks
@@ -40,20 +40,21 @@ end_ranks rank peer = only_if (not (rank == peer)) (record { rank = rank; peer =
 
 -- a rank and its peer, which is another one
 abbrev pub ends_said : ℕ → List ℕ → List ℕ → Option EndRanks
-ends_said nue rank peer = rank_said nue rank >>= λ r. rank_said nue peer >>= end_ranks r
+ends_said nue rank peer = log_rank_said nue rank >>= λ r. log_rank_said nue peer >>= end_ranks r
 
 -- a head is one of the world where its message is plain
-abbrev pub head_of : Kind → ℕ → ℕ → Option MessageHead
-head_of kind comm len =
+abbrev pub log_head_of : Kind → ℕ → ℕ → Option MessageHead
+log_head_of kind comm len =
     only_if (not (kind_number kind == 0 && not (comm == 0))) (record { kind = kind_number kind; comm = comm; len = len })
 
 -- the head that three words say: a kind, a communicator from 0 to 15 and a length up to 65,536
-abbrev pub head_said : List ℕ → List ℕ → List ℕ → Option MessageHead
-head_said kind comm len = kind_said kind >>= λ k. range_said 0 15 comm >>= λ c. range_said 0 most_message len >>= head_of k c
+abbrev pub log_head_said : List ℕ → List ℕ → List ℕ → Option MessageHead
+log_head_said kind comm len =
+    kind_said kind >>= λ k. exact_range_said 0 15 comm >>= λ c. exact_range_said 0 most_message len >>= log_head_of k c
 
 -- as many bytes as the head says
-abbrev pub bytes_said : ℕ → List ℕ → Option (List ℕ)
-bytes_said len word = hex_said word >>= λ bytes. only_if (length bytes == len) bytes
+abbrev pub log_bytes_said : ℕ → List ℕ → Option (List ℕ)
+log_bytes_said len word = exact_hex_said word >>= λ bytes. only_if (length bytes == len) bytes
 
 -- whether a head is one that a post may have
 abbrev pub is_post : MessageHead → Bool
@@ -70,30 +71,31 @@ call_named verb peer head bytes =
 -- the call of a message that a verb and its bytes in hex say
 abbrev pub message_said : EndRanks → MessageHead → (verb hex : List ℕ) → Option RankedCall
 message_said ends head verb hex =
-    bytes_said head.len hex >>= λ bytes. call_named verb ends.peer head bytes >>= λ call. Some (record { rank = ends.rank; call = call })
+    log_bytes_said head.len hex >>= λ bytes. call_named verb ends.peer head bytes
+    >>= λ call. Some (record { rank = ends.rank; call = call })
 
 -- whether a communicator has a rule
-abbrev pub is_present : CommRule → Bool
-is_present Absent = false
-is_present World = true
-is_present (Mod parent k) = true
-is_present (Div parent k) = true
+abbrev pub has_rule : CommRule → Bool
+has_rule Absent = false
+has_rule World = true
+has_rule (Mod parent k) = true
+has_rule (Div parent k) = true
 
 -- the barrier that three words say: a rank, `bar` and a communicator that has a rule
-abbrev pub barrier_said : ℕ → List CommRule → (rank verb comm : List ℕ) → Option RankedCall
-barrier_said nue comms rank verb comm =
-    rank_said nue rank >>= λ r. range_said 0 15 comm >>= λ c.
-    only_if (bytes_eq verb (codes "bar") && is_present (rule_of comms c)) (record { rank = r; call = Bar c })
+abbrev pub log_barrier_said : ℕ → List CommRule → (rank verb comm : List ℕ) → Option RankedCall
+log_barrier_said nue comms rank verb comm =
+    log_rank_said nue rank >>= λ r. exact_range_said 0 15 comm >>= λ c.
+    only_if (bytes_eq verb (codes "bar") && has_rule (rule_of comms c)) (record { rank = r; call = Bar c })
 
 -- the call of a line of seven words: a message
 abbrev pub long_said : ℕ → List (List ℕ) → Option RankedCall
 long_said nue (rank ∷ verb ∷ peer ∷ kind ∷ comm ∷ len ∷ hex ∷ []) =
-    ends_said nue rank peer >>= λ ends. head_said kind comm len >>= λ head. message_said ends head verb hex
+    ends_said nue rank peer >>= λ ends. log_head_said kind comm len >>= λ head. message_said ends head verb hex
 long_said nue words = None
 
 -- the call of a line of three words: a barrier
 abbrev pub short_said : ℕ → List CommRule → List (List ℕ) → Option RankedCall
-short_said nue comms (rank ∷ verb ∷ comm ∷ []) = barrier_said nue comms rank verb comm
+short_said nue comms (rank ∷ verb ∷ comm ∷ []) = log_barrier_said nue comms rank verb comm
 short_said nue comms words = None
 
 -- the call of a line
@@ -110,15 +112,15 @@ rule_named how parent k =
 -- the split that a line's words say, of a communicator past `last` and a parent that has a rule. Seven parameters: what was
 -- read so far (the last communicator that was split, the rules), and the line's five words behind its number's, each by what
 -- it says.
-abbrev pub split_said : ℕ → List CommRule → (word comm parent how k : List ℕ) → Option CommSplit
-split_said last comms word comm parent how k =
-    range_said (last + 1) 15 comm >>= λ c. range_said 0 15 parent >>= λ p. range_said 1 48 k >>= λ parts.
+abbrev pub log_split_said : ℕ → List CommRule → (word comm parent how k : List ℕ) → Option CommSplit
+log_split_said last comms word comm parent how k =
+    exact_range_said (last + 1) 15 comm >>= λ c. exact_range_said 0 15 parent >>= λ p. exact_range_said 1 48 k >>= λ parts.
     rule_named how p parts >>= λ rule.
-    only_if (bytes_eq word (codes "comm") && is_present (rule_of comms p)) (record { comm = c; rule = rule })
+    only_if (bytes_eq word (codes "comm") && has_rule (rule_of comms p)) (record { comm = c; rule = rule })
 
 -- the communicator of a line, by its words: above the last one, with a parent that has a rule
 abbrev pub comm_said : ℕ → List CommRule → List (List ℕ) → Option CommSplit
-comm_said last comms (word ∷ comm ∷ parent ∷ how ∷ k ∷ []) = split_said last comms word comm parent how k
+comm_said last comms (word ∷ comm ∷ parent ∷ how ∷ k ∷ []) = log_split_said last comms word comm parent how k
 comm_said last comms words = None
 
 -- a communicator stands before all calls
@@ -157,7 +159,7 @@ take_call reading words = call_said reading.log.nue reading.log.comms words >>= 
 -- the reading after one more line, if the line is of its form and in its place
 abbrev pub line_said : Reading → List ℕ → Option Reading
 line_said reading line =
-    if begins_comm line then take_comm reading (words_of line) else take_call reading (words_of line)
+    if begins_comm line then take_comm reading (log_words_of line) else take_call reading (log_words_of line)
 
 -- what is wrong with a line that is not
 abbrev pub kind_of : List ℕ → LogKind
@@ -187,12 +189,13 @@ TakesLine reading line next false = line_said reading line ≡ None
 
 -- the number of ranks, by the words of the first line
 abbrev pub nue_of : List (List ℕ) → Option ℕ
-nue_of (first ∷ second ∷ nue ∷ []) = range_said 1 48 nue >>= λ n. only_if (bytes_eq first (codes "rcce") && bytes_eq second (codes "log")) n
+nue_of (first ∷ second ∷ nue ∷ []) =
+    exact_range_said 1 48 nue >>= λ n. only_if (bytes_eq first (codes "rcce") && bytes_eq second (codes "log")) n
 nue_of words = None
 
 -- the rules where the world alone stands
-abbrev pub world_alone : List CommRule
-world_alone = World ∷ Absent ∷ Absent ∷ Absent ∷ Absent ∷ Absent ∷ Absent ∷ Absent ∷ Absent ∷ Absent ∷ Absent ∷ Absent ∷ Absent ∷ Absent
+abbrev pub first_rules : List CommRule
+first_rules = World ∷ Absent ∷ Absent ∷ Absent ∷ Absent ∷ Absent ∷ Absent ∷ Absent ∷ Absent ∷ Absent ∷ Absent ∷ Absent ∷ Absent ∷ Absent
     ∷ Absent ∷ Absent ∷ []
 
 -- the lists where no rank has a call
@@ -201,11 +204,11 @@ no_calls = replicate 48 []
 
 -- the reading behind the first line, which says the number of ranks
 abbrev pub reading_start : ℕ → Reading
-reading_start nue = record { log = record { nue = nue; comms = world_alone; lists = no_calls }; comm = 0; rank = None }
+reading_start nue = record { log = record { nue = nue; comms = first_rules; lists = no_calls }; comm = 0; rank = None }
 
 -- what the first line says, or BadHead
 abbrev pub first_said : List ℕ → Result Reading LogFault
-first_said line = ok_or (option_map reading_start (nue_of (words_of line))) (record { line = 1; kind = kind.BadHead })
+first_said line = ok_or (option_map reading_start (nue_of (log_words_of line))) (record { line = 1; kind = kind.BadHead })
 
 -- what these lines say, each with its line feed, and what stands behind the last line feed
 abbrev pub all_said : List (List ℕ) → List ℕ → Result LogView LogFault
@@ -224,7 +227,7 @@ log_of bytes =
     else parts_said (lines_of bytes)
 
 -- a reading gives what the grammar says, seen through a view: its value or its fault. It may end for want of memory
-abbrev pub Gives : {A X : Type 0} → (X → A) → Result X LogStop → Result A LogFault → Type 0
-Gives view (Ok x) said = said ≡ Ok (view x)
-Gives view (Err (stop.Fault fault)) said = said ≡ Err fault
-Gives view (Err stop.Memory) said = Unit {0}
+abbrev pub LogGives : {A X : Type 0} → (X → A) → Result X LogStop → Result A LogFault → Type 0
+LogGives view (Ok x) said = said ≡ Ok (view x)
+LogGives view (Err (stop.Fault fault)) said = said ≡ Err fault
+LogGives view (Err stop.Memory) said = Unit {0}

@@ -18,8 +18,8 @@ pub record LogView : Type 0 where
   pub lists : List (List DataCall)
 
 -- the calls of a rank
-abbrev pub calls_of : LogView → ℕ → List DataCall
-calls_of log r = slice_index_or log.lists r []
+abbrev pub calls_in_log : LogView → ℕ → List DataCall
+calls_in_log log r = slice_index_or log.lists r []
 
 -- a message between rank r and another rank of the run
 pub record IsMessage (nue r peer : ℕ) (head : MessageHead) (bytes : List ℕ) : Type 0 where
@@ -44,5 +44,5 @@ pub record IsLog (log : LogView) : Type 0 where
   pub sixteen : length log.comms ≡ 16
   pub rules : AreRules log.comms
   pub ranks : length log.lists ≡ 48
-  pub no_others : (r : ℕ) → log.nue ≤ r → calls_of log r ≡ []
-  pub calls : (r : ℕ) → All (IsLogCall log.nue log.comms r) (calls_of log r)
+  pub no_others : (r : ℕ) → log.nue ≤ r → calls_in_log log r ≡ []
+  pub calls : (r : ℕ) → All (IsLogCall log.nue log.comms r) (calls_in_log log r)

@@ -6,12 +6,12 @@ use Rattle.rcce_audit.specs.Texts.{call_words, line_of}
 use Rattle.rcce_audit.specs.Views.{data_of}
 
 -- a line of words with its line feed
-abbrev pub ended : List (List ℕ) → List ℕ
-ended words = line_of words ++ 10 ∷ []
+abbrev pub line_with_feed : List (List ℕ) → List ℕ
+line_with_feed words = line_of words ++ 10 ∷ []
 
 -- the line of a rank's call
 abbrev pub line_by : ℕ → DataCall → List ℕ
-line_by rank call = ended (call_words rank call)
+line_by rank call = line_with_feed (call_words rank call)
 
 -- the line of a rank's call, as the call is held
 abbrev pub call_text : ℕ → LogCall → List ℕ

@@ -4,21 +4,21 @@ use Rattle.scc_base.specs.Calls.{DataCall, Send, Recv, Post, Bar}
 use Rattle.scc_base.specs.Groups.{root_in}
 use Rattle.scc_base.specs.Runs.{Runs}
 use Rattle.scc_base.specs.Setups.{SetupView, setup_key}
-use Rattle.scc_proto.specs.Legality.{Outgoing, Standing, CallStep, callers, owner_of, slot_at, slot_after, Makes, OwnStep}
+use Rattle.scc_proto.specs.Legality.{Outgoing, Standing, CallStep, callers, owner_of, looks_at_slot, slot_after, Makes, OwnStep}
 use Rattle.rcce_audit.specs.declared.progress.Progress.{Progress}
 use Rattle.rcce_audit.specs.Logs.{IsLogCall}
 
 -- the list of a rank
-abbrev pub list_at : List (List DataCall) → ℕ → List DataCall
-list_at lists k = slice_index_or lists k []
+abbrev pub calls_at_rank : List (List DataCall) → ℕ → List DataCall
+calls_at_rank lists k = slice_index_or lists k []
 
 -- lists that an audit can go through
 pub record AreLists (s : SetupView) (lists : List (List DataCall)) : Type 0 where
   pub ranks : length lists ≡ 48
   pub ranks_within : s.nue ≤ 48
-  pub few : (r : ℕ) → length (list_at lists r) < 4294967295
-  pub no_others : (r : ℕ) → s.nue ≤ r → list_at lists r ≡ []
-  pub calls : (r : ℕ) → All (IsLogCall s.nue s.comms r) (list_at lists r)
+  pub few : (r : ℕ) → length (calls_at_rank lists r) < 4294967295
+  pub no_others : (r : ℕ) → s.nue ≤ r → calls_at_rank lists r ≡ []
+  pub calls : (r : ℕ) → All (IsLogCall s.nue s.comms r) (calls_at_rank lists r)
 
 -- the message of a post
 abbrev pub outgoing_of : DataCall → Option Outgoing
@@ -32,16 +32,16 @@ abbrev pub outgoing_at : List DataCall → ℕ → Option Outgoing
 outgoing_at calls i = option_and_then outgoing_of (slice_get calls i)
 
 -- the calls of rank k that are left
-abbrev pub left_of : List (List DataCall) → List ℕ → ℕ → List DataCall
-left_of lists next k = drop (slice_index next k) (list_at lists k)
+abbrev pub calls_left : List (List DataCall) → List ℕ → ℕ → List DataCall
+calls_left lists next k = drop (slice_index next k) (calls_at_rank lists k)
 
 -- the posted message in the slot of rank k, if there is one
-abbrev pub slot_of : List (List DataCall) → List (Option ℕ) → ℕ → Option Outgoing
-slot_of lists posted k = option_and_then (outgoing_at (list_at lists k)) (slice_index_or posted k None)
+abbrev pub slot_of_lists : List (List DataCall) → List (Option ℕ) → ℕ → Option Outgoing
+slot_of_lists lists posted k = option_and_then (outgoing_at (calls_at_rank lists k)) (slice_index_or posted k None)
 
 -- the calls that are left, and the posted messages in the slots
 abbrev pub standing_of : List (List DataCall) → Progress → Standing
-standing_of lists p = record { calls = left_of lists p.next; slots = slot_of lists p.posted }
+standing_of lists p = record { calls = calls_left lists p.next; slots = slot_of_lists lists p.posted }
 
 -- a rank was looked at and had no step, and nothing has changed since that could give it one
 abbrev pub Sleeps : Progress → ℕ → Type 0
@@ -66,7 +66,7 @@ pub record Advances (s : SetupView) (lists : List (List DataCall)) (k : ℕ) (ol
   pub posted : new.posted ≡ old.posted
   pub kept : (b : ℕ) → Sleeps new b → Sleeps old b
   pub caller : Sleeps new k → ⊥
-  pub partner : Sleeps new (partner_of (setup_key s) k (left_of lists new.next k)) → ⊥
+  pub partner : Sleeps new (partner_of (setup_key s) k (calls_left lists new.next k)) → ⊥
 
 -- a step is made, and all are awake to whom it may give a step
 pub record Acts (s : SetupView) (lists : List (List DataCall)) (step : CallStep) (old new : Progress) : Type 0 where
@@ -74,8 +74,8 @@ pub record Acts (s : SetupView) (lists : List (List DataCall)) (step : CallStep)
   pub kept : (b : ℕ) → Sleeps new b → Sleeps old b
   pub woken_callers : (k : ℕ) → callers s.nue (setup_key s) step k ≡ true → Sleeps new k → ⊥
   pub woken_partners : (k : ℕ) → callers s.nue (setup_key s) step k ≡ true
-      → Sleeps new (partner_of (setup_key s) k (left_of lists new.next k)) → ⊥
-  pub woken_slot : (k : ℕ) → slot_at step k ≡ true → Sleeps new k → ⊥
+      → Sleeps new (partner_of (setup_key s) k (calls_left lists new.next k)) → ⊥
+  pub woken_slot : (k : ℕ) → looks_at_slot step k ≡ true → Sleeps new k → ⊥
   pub woken_taker : (m : Outgoing) → slot_after step ≡ Some m → Sleeps new m.to → ⊥
 
 -- a step is tried: it is made, or it cannot be made
@@ -96,7 +96,7 @@ pub record Meets (s : SetupView) (lists : List (List DataCall)) (group : ℕ →
   pub posted : new.posted ≡ old.posted
   pub kept : (b : ℕ) → Sleeps new b → Sleeps old b
   pub callers : (k : ℕ) → k < n → group k ≡ true → Sleeps new k → ⊥
-  pub partners : (k : ℕ) → k < n → group k ≡ true → Sleeps new (partner_of (setup_key s) k (left_of lists new.next k)) → ⊥
+  pub partners : (k : ℕ) → k < n → group k ≡ true → Sleeps new (partner_of (setup_key s) k (calls_left lists new.next k)) → ⊥
 
 -- some steps lead from one standing to another
 abbrev pub Leads : SetupView → Standing → Standing → Type 0

@@ -19,20 +19,20 @@ abbrev pub only_if : {A : Type 0} → Bool → A → Option A
 only_if test value = if test then Some value else None
 
 -- the words of a line: what stands between its blanks
-abbrev pub words_of : List ℕ → List (List ℕ)
-words_of line = cut_by 32 line
+abbrev pub log_words_of : List ℕ → List (List ℕ)
+log_words_of line = cut_by 32 line
 
 -- a number is said by its own decimal digits, without leading zeros
-abbrev pub spelled : List ℕ → ℕ → Option ℕ
-spelled word n = only_if (bytes_eq (decimal n) word) n
+abbrev pub exact_spelling : List ℕ → ℕ → Option ℕ
+exact_spelling word n = only_if (bytes_eq (decimal n) word) n
 
 -- a word as a number, in decimal without leading zeros
-abbrev pub number_said : List ℕ → Option ℕ
-number_said word = number_of word >>= spelled word
+abbrev pub exact_number_said : List ℕ → Option ℕ
+exact_number_said word = number_of word >>= exact_spelling word
 
 -- a number from a range
-abbrev pub range_said : ℕ → ℕ → List ℕ → Option ℕ
-range_said low high word = number_said word >>= λ n. only_if (nat_le low n && nat_le n high) n
+abbrev pub exact_range_said : ℕ → ℕ → List ℕ → Option ℕ
+exact_range_said low high word = exact_number_said word >>= λ n. only_if (nat_le low n && nat_le n high) n
 
 -- a kind of message, by its name
 abbrev pub kind_said : List ℕ → Option Kind
@@ -49,8 +49,8 @@ abbrev pub is_lower : List ℕ → Bool
 is_lower word = list_all (λ b. nat_le b 57 || nat_le 97 b) word
 
 -- bytes: none for `-`, else two hex digits each, in lower case
-abbrev pub hex_said : List ℕ → Option (List ℕ)
-hex_said word =
+abbrev pub exact_hex_said : List ℕ → Option (List ℕ)
+exact_hex_said word =
     if bytes_eq word (codes "-") then Some []
     else if not (length word == 0) && is_lower word then result_ok (decode_of word)
     else None

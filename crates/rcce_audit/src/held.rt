@@ -1,7 +1,7 @@
 //! Writing a log whose calls are held elsewhere. No memory is taken.
 
 ghost use Rattle.std.specs.Prelude.{◌≡◌, ◌+◌, ◌≤◌, drop, length, map, take};
-ghost use Rattle.rcce_io.specs.Sending.{Sends, joined};
+ghost use Rattle.rcce_io.specs.Sending.{Sends, joined_texts};
 ghost use Rattle.rcce_audit.specs.Held.{bytes_in, call_with_bytes, held_calls, calls_with_bytes};
 ghost use Rattle.rcce_audit.specs.Pieces.{line_by};
 ghost use Rattle.rcce_audit.specs.Texts.{call_lines, table_lines, text_of};
@@ -70,7 +70,7 @@ fn write_list<S: Sink>(
     calls: &[Call],
     bytes: &[u8],
 ) -> Result<(), WriteFault>
-    ensures { Sends (joined (map (line_by rank) (calls_with_bytes calls.now bytes.now))) (S.seen sink.old) (S.seen sink.new) result }
+    ensures { Sends (joined_texts (map (line_by rank) (calls_with_bytes calls.now bytes.now))) (S.seen sink.old) (S.seen sink.new) result }
 {
     let mut at = 0usize;
     for call in calls {

@@ -1,8 +1,8 @@
 //! The audit of a log.
 
 ghost use Rattle.std.specs.Prelude.{◌≡◌, ◌<◌, ◌↔◌, ℕ, length};
-ghost use Rattle.rcce_audit.specs.Standings.{AreLists, IsQuiet, Leads, Sleeps, SweepDoes, VisitDoes, list_at, standing_of};
-ghost use Rattle.rcce_audit.specs.Verdicts.{IsLegalLog, IsVerdict, Tells};
+ghost use Rattle.rcce_audit.specs.Standings.{AreLists, IsQuiet, Leads, Sleeps, SweepDoes, VisitDoes, calls_at_rank, standing_of};
+ghost use Rattle.rcce_audit.specs.Verdicts.{IsLegalLog, IsVerdict, VerdictTells};
 ghost use Rattle.rcce_audit.specs.Views.{data_lists};
 
 use crate::logs::{Log, LogCall};
@@ -63,8 +63,8 @@ fn use_up(lists: &[Vec<LogCall>], setup: &Setup, progress: &mut Progress)
 /// What is left, as a verdict.
 fn verdict_of(lists: &[Vec<LogCall>], progress: &Progress) -> Verdict
     requires ranks { length lists.now ≡ 48 }
-    requires few { (r : ℕ) → length (list_at (data_lists lists.now) r) < 4294967295 }
-    ensures { Tells (list_at (data_lists lists.now)) result (standing_of (data_lists lists.now) progress.now) }
+    requires few { (r : ℕ) → length (calls_at_rank (data_lists lists.now) r) < 4294967295 }
+    ensures { VerdictTells (calls_at_rank (data_lists lists.now)) result (standing_of (data_lists lists.now) progress.now) }
 {
     for number in 0..48 {
         let place = number as usize;

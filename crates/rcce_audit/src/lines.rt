@@ -1,7 +1,7 @@
 //! The lines of a log, each by its words.
 
 ghost use Rattle.std.specs.Prelude.{◌≡◌, ◌<◌, ◌≤◌, IfOk, IfSome, length, map, option_map};
-ghost use Rattle.rcce_audit.specs.Grammar.{begins_comm, bytes_said, call_named, call_said, barrier_said, comm_said, ends_said, head_said, is_present, long_said, message_said, nue_of, rank_said, rule_named, short_said, split_said};
+ghost use Rattle.rcce_audit.specs.Grammar.{begins_comm, log_bytes_said, call_named, call_said, log_barrier_said, comm_said, ends_said, log_head_said, has_rule, long_said, message_said, nue_of, log_rank_said, rule_named, short_said, log_split_said};
 ghost use Rattle.rcce_audit.specs.Views.{data_of, ranked_of};
 
 use crate::logs::LogCall;
@@ -35,7 +35,7 @@ pub(crate) struct EndRanks {
 pub fn rank_said(word: &[u8], nue: u8) -> Option<Rank>
     requires some { 1 ≤ nue }
     requires most { nue ≤ 48 }
-    ensures { result ≡ rank_said nue word.now }
+    ensures { result ≡ log_rank_said nue word.now }
 {
     match range_said(word, 0, nue as u32 - 1) {
         Some(n) => Some(Rank::of(n as u8)),
@@ -58,7 +58,7 @@ fn ends_said(nue: u8, rank: &[u8], peer: &[u8]) -> Option<EndRanks>
 }
 
 fn head_said(kind: &[u8], comm: &[u8], len: &[u8]) -> Option<Head>
-    ensures { result ≡ head_said kind.now comm.now len.now }
+    ensures { result ≡ log_head_said kind.now comm.now len.now }
 {
     let kind = kind_said(kind)?;
     let comm = range_said(comm, 0, 15)?;
@@ -67,7 +67,7 @@ fn head_said(kind: &[u8], comm: &[u8], len: &[u8]) -> Option<Head>
 }
 
 fn bytes_said(alloc: Global, len: u32, word: &[u8]) -> Result<Option<Bytes>, AllocError>
-    ensures { IfOk result (λ said. said ≡ bytes_said len word.now) }
+    ensures { IfOk result (λ said. said ≡ log_bytes_said len word.now) }
 {
     match hex_said(alloc, word)? {
         Some(bytes) => {
@@ -132,7 +132,7 @@ fn message_said(
 }
 
 fn is_present(rule: CommRule) -> bool
-    ensures { result ≡ is_present rule }
+    ensures { result ≡ has_rule rule }
 {
     rule != CommRule::Absent
 }
@@ -146,7 +146,7 @@ fn barrier_said(
 ) -> Option<RankCall>
     requires some { 1 ≤ nue }
     requires most { nue ≤ 48 }
-    ensures { option_map ranked_of result ≡ barrier_said nue comms.now rank.now verb.now comm.now }
+    ensures { option_map ranked_of result ≡ log_barrier_said nue comms.now rank.now verb.now comm.now }
 {
     let rank = rank_said(rank, nue)?;
     let comm = range_said(comm, 0, 15)?;
@@ -232,7 +232,7 @@ fn split_said(
     k: &[u8],
 ) -> Option<CommSplit>
     requires { last < 16 }
-    ensures gives { result ≡ split_said last comms.now word.now comm.now parent.now how.now k.now }
+    ensures gives { result ≡ log_split_said last comms.now word.now comm.now parent.now how.now k.now }
     ensures below { IfSome result (λ split. split.comm < 16) }
 {
     let comm = range_said(comm, last as u32 + 1, 15)?;

@@ -3,7 +3,7 @@
 ghost use Rattle.std.specs.Prelude.{◌≡◌, ◌<◌, ◌↔◌, ℕ, IsTrue, None, Some, length, option_and_then, option_map, slice_get, slice_index, slice_index_or};
 ghost use Rattle.scc_base.specs.Calls.{Bar, Recv};
 ghost use Rattle.scc_base.specs.Setups.{setup_key};
-ghost use Rattle.rcce_audit.specs.Standings.{Advances, AreLists, Sleeps, left_of, list_at, outgoing_of, partner_of, slot_of};
+ghost use Rattle.rcce_audit.specs.Standings.{Advances, AreLists, Sleeps, calls_left, calls_at_rank, outgoing_of, partner_of, slot_of_lists};
 ghost use Rattle.rcce_audit.specs.Views.{data_lists, data_of};
 
 use crate::logs::LogCall;
@@ -36,7 +36,7 @@ impl Progress {
 /// The call of a rank at a place of its list.
 pub(crate) fn call_at(lists: &[Vec<LogCall>], rank: usize, i: usize) -> Option<&LogCall>
     requires { rank < length lists.now }
-    ensures { option_map (λ call. data_of call.now) result ≡ slice_get (list_at (data_lists lists.now) rank) i }
+    ensures { option_map (λ call. data_of call.now) result ≡ slice_get (calls_at_rank (data_lists lists.now) rank) i }
 {
     lists[rank].get(i)
 }
@@ -50,7 +50,7 @@ pub(crate) fn first<'a>(
     requires ranks { length lists.now ≡ 48 }
     requires below { rank < 48 }
     ensures { option_map (λ call. data_of call.now) result
-        ≡ slice_get (list_at (data_lists lists.now) rank) (slice_index progress.now.next rank) }
+        ≡ slice_get (calls_at_rank (data_lists lists.now) rank) (slice_index progress.now.next rank) }
 {
     call_at(lists, rank, progress.next[rank])
 }
@@ -64,7 +64,7 @@ pub(crate) fn posted<'a>(
     requires ranks { length lists.now ≡ 48 }
     requires below { rank < 48 }
     ensures { option_and_then (λ call. outgoing_of (data_of call.now)) result
-        ≡ slot_of (data_lists lists.now) progress.now.posted rank }
+        ≡ slot_of_lists (data_lists lists.now) progress.now.posted rank }
 {
     match progress.posted[rank] {
         Some(i) => call_at(lists, rank, i),
@@ -76,7 +76,7 @@ pub(crate) fn posted<'a>(
 pub(crate) fn is_slot_empty(lists: &[Vec<LogCall>], progress: &Progress, rank: usize) -> bool
     requires ranks { length lists.now ≡ 48 }
     requires below { rank < 48 }
-    ensures { IsTrue result ↔ (slot_of (data_lists lists.now) progress.now.posted rank ≡ None) }
+    ensures { IsTrue result ↔ (slot_of_lists (data_lists lists.now) progress.now.posted rank ≡ None) }
 {
     !matches!(posted(lists, progress, rank), Some(LogCall::Post { .. }))
 }
@@ -99,7 +99,7 @@ pub(crate) fn is_posted(
 ) -> bool
     requires ranks { length lists.now ≡ 48 }
     requires below { rank < 48 }
-    ensures { IsTrue result ↔ (slot_of (data_lists lists.now) progress.now.posted rank
+    ensures { IsTrue result ↔ (slot_of_lists (data_lists lists.now) progress.now.posted rank
         ≡ Some (record { to = target; head = head; bytes = bytes.now })) }
 {
     match posted(lists, progress, rank) {
@@ -125,7 +125,7 @@ pub(crate) fn is_receiving(
 ) -> bool
     requires ranks { length lists.now ≡ 48 }
     requires below { rank < 48 }
-    ensures { IsTrue result ↔ (slice_get (list_at (data_lists lists.now) rank) (slice_index progress.now.next rank)
+    ensures { IsTrue result ↔ (slice_get (calls_at_rank (data_lists lists.now) rank) (slice_index progress.now.next rank)
         ≡ Some (Recv sender head bytes.now)) }
 {
     match first(lists, progress, rank) {
@@ -149,7 +149,7 @@ pub(crate) fn is_at_barrier(
 ) -> bool
     requires ranks { length lists.now ≡ 48 }
     requires below { rank < 48 }
-    ensures { IsTrue result ↔ (slice_get (list_at (data_lists lists.now) rank) (slice_index progress.now.next rank)
+    ensures { IsTrue result ↔ (slice_get (calls_at_rank (data_lists lists.now) rank) (slice_index progress.now.next rank)
         ≡ Some (Bar comm)) }
 {
     match first(lists, progress, rank) {
@@ -162,7 +162,7 @@ pub(crate) fn is_at_barrier(
 fn partner(lists: &[Vec<LogCall>], setup: &Setup, progress: &Progress, rank: usize) -> usize
     requires lists { AreLists setup.now (data_lists lists.now) }
     requires below { rank < 48 }
-    ensures gives { result ≡ partner_of (setup_key setup.now) rank (left_of (data_lists lists.now) progress.now.next rank) }
+    ensures gives { result ≡ partner_of (setup_key setup.now) rank (calls_left (data_lists lists.now) progress.now.next rank) }
     ensures within { result < 48 }
 {
     match first(lists, progress, rank) {
@@ -178,7 +178,7 @@ fn partner(lists: &[Vec<LogCall>], setup: &Setup, progress: &Progress, rank: usi
 pub(crate) fn advance(lists: &[Vec<LogCall>], setup: &Setup, progress: &mut Progress, rank: usize)
     requires lists { AreLists setup.now (data_lists lists.now) }
     requires below { rank < 48 }
-    requires left { slice_index progress.old.next rank < length (list_at (data_lists lists.now) rank) }
+    requires left { slice_index progress.old.next rank < length (calls_at_rank (data_lists lists.now) rank) }
     ensures { Advances setup.now (data_lists lists.now) rank progress.old progress.new }
 {
     progress.next[rank] += 1;

@@ -1,7 +1,7 @@
 //! What the lines of a log say, one after another.
 
 ghost use Rattle.std.specs.Prelude.{◌≡◌, ◌+◌, ◌<◌, ◌^◌, length, map};
-ghost use Rattle.rcce_audit.specs.Grammar.{Gives, all_said, first_said, kind_of, lines_said, log_of, parts_said};
+ghost use Rattle.rcce_audit.specs.Grammar.{LogGives, all_said, first_said, kind_of, lines_said, log_of, parts_said};
 ghost use Rattle.rcce_audit.specs.Reading.{reading_of};
 
 use crate::faults::{LogFault, LogKind, LogStop};
@@ -29,7 +29,7 @@ fn kind_of(line: &[u8]) -> LogKind
 /// Takes lines, the first of which has this number.
 fn read_lines(alloc: Global, reader: &mut Reader, lines: &[&[u8]]) -> Result<(), LogStop>
     requires few { length lines.now + 2 < 2 ^ 32 }
-    ensures { Gives (λ _. reading_of reader.new) result (lines_said 2 (reading_of reader.old) (map (λ line. line.now) lines.now)) }
+    ensures { LogGives (λ _. reading_of reader.new) result (lines_said 2 (reading_of reader.old) (map (λ line. line.now) lines.now)) }
 {
     let mut number: u32 = 2;
     for line in lines {
@@ -44,7 +44,7 @@ fn read_lines(alloc: Global, reader: &mut Reader, lines: &[&[u8]]) -> Result<(),
 
 /// The reader behind the first line.
 fn read_first(alloc: Global, line: &[u8]) -> Result<Reader, LogStop>
-    ensures { Gives reading_of result (first_said line.now) }
+    ensures { LogGives reading_of result (first_said line.now) }
 {
     let words = words(alloc, line)?;
     match nue_of(words.as_slice()) {
@@ -59,7 +59,7 @@ fn read_first(alloc: Global, line: &[u8]) -> Result<Reader, LogStop>
 /// What lines say, each with its line feed, and what stands behind the last line feed.
 fn read_all(alloc: Global, lines: &[&[u8]], last: &[u8]) -> Result<Reader, LogStop>
     requires few { length lines.now + 2 < 2 ^ 32 }
-    ensures { Gives (λ reader. (reading_of reader).log) result (all_said (map (λ line. line.now) lines.now) last.now) }
+    ensures { LogGives (λ reader. (reading_of reader).log) result (all_said (map (λ line. line.now) lines.now) last.now) }
 {
     match lines {
         [] => Err(LogStop::Fault(LogFault {
@@ -84,7 +84,7 @@ fn read_all(alloc: Global, lines: &[&[u8]], last: &[u8]) -> Result<Reader, LogSt
 fn read_parts(alloc: Global, parts: &[&[u8]]) -> Result<Reader, LogStop>
     requires some { 0 < length parts.now }
     requires few { length parts.now + 2 < 2 ^ 32 }
-    ensures { Gives (λ reader. (reading_of reader).log) result (parts_said (map (λ part. part.now) parts.now)) }
+    ensures { LogGives (λ reader. (reading_of reader).log) result (parts_said (map (λ part. part.now) parts.now)) }
 {
     let count = parts.len() - 1;
     read_all(alloc, &parts[..count], parts[count])
@@ -92,7 +92,7 @@ fn read_parts(alloc: Global, parts: &[&[u8]]) -> Result<Reader, LogStop>
 
 /// Reads a log, or tells its first fault with its line and kind.
 pub fn read_log(alloc: Global, bytes: &[u8]) -> Result<Log, LogStop>
-    ensures { Gives (λ log. log) result (log_of bytes.now) }
+    ensures { LogGives (λ log. log) result (log_of bytes.now) }
 {
     if bytes.len() > MOST_LOG_BYTES {
         return Err(LogStop::Fault(LogFault {

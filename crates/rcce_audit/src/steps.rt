@@ -7,7 +7,7 @@ ghost use Rattle.scc_base.specs.declared.communicators.CommRule.TheVariants.{Abs
 ghost use Rattle.scc_base.specs.Setups.{setup_key};
 ghost use Rattle.scc_base.specs.Heads.{MessageHead};
 ghost use Rattle.scc_proto.specs.Legality.{Meeting, Pairing, Posting, Taking, in_group};
-ghost use Rattle.rcce_audit.specs.Standings.{AreLists, Meets, Tries, TriesFirst, list_at};
+ghost use Rattle.rcce_audit.specs.Standings.{AreLists, Meets, Tries, TriesFirst, calls_at_rank};
 ghost use Rattle.rcce_audit.specs.Views.{data_lists};
 
 use crate::logs::LogCall;
@@ -25,9 +25,9 @@ fn try_post(
     to: Rank,
 ) -> bool
     requires lists { AreLists setup.now (data_lists lists.now) }
-    requires left { slice_index progress.old.next rank < length (list_at (data_lists lists.now) rank) }
+    requires left { slice_index progress.old.next rank < length (calls_at_rank (data_lists lists.now) rank) }
     ensures { (head : MessageHead) (bytes : List ℕ)
-        → slice_get (list_at (data_lists lists.now) rank) (slice_index progress.old.next rank) ≡ Some (Post to head bytes)
+        → slice_get (calls_at_rank (data_lists lists.now) rank) (slice_index progress.old.next rank) ≡ Some (Post to head bytes)
         → Tries setup.now (data_lists lists.now) (Posting rank (record { to = to; head = head; bytes = bytes })) progress.old
         progress.new result }
 {
@@ -52,7 +52,7 @@ fn try_take(
     bytes: &[u8],
 ) -> bool
     requires lists { AreLists setup.now (data_lists lists.now) }
-    requires front { slice_get (list_at (data_lists lists.now) rank) (slice_index progress.old.next rank)
+    requires front { slice_get (calls_at_rank (data_lists lists.now) rank) (slice_index progress.old.next rank)
         ≡ Some (Recv from head bytes.now) }
     ensures { Tries setup.now (data_lists lists.now) (Taking from (record { to = rank; head = head; bytes = bytes.now })) progress.old
         progress.new result }
@@ -78,7 +78,8 @@ fn try_pair(
     bytes: &[u8],
 ) -> bool
     requires lists { AreLists setup.now (data_lists lists.now) }
-    requires front { slice_get (list_at (data_lists lists.now) rank) (slice_index progress.old.next rank) ≡ Some (Send to head bytes.now) }
+    requires front { slice_get (calls_at_rank (data_lists lists.now) rank) (slice_index progress.old.next rank)
+        ≡ Some (Send to head bytes.now) }
     ensures { Tries setup.now (data_lists lists.now) (Pairing rank (record { to = to; head = head; bytes = bytes.now })) progress.old
         progress.new result }
 {
@@ -112,7 +113,7 @@ fn are_met(lists: &[Vec<LogCall>], setup: &Setup, progress: &Progress, rank: Ran
     requires present { rule_of setup.now.comms comm ≢ Absent }
     requires below { rank < setup.now.nue }
     ensures { IsTrue result ↔ ((k : ℕ) → in_group setup.now.nue (setup_key setup.now) comm rank k ≡ true
-        → slice_get (list_at (data_lists lists.now) k) (slice_index progress.now.next k) ≡ Some (Bar comm)) }
+        → slice_get (calls_at_rank (data_lists lists.now) k) (slice_index progress.now.next k) ≡ Some (Bar comm)) }
 {
     for other in 0..48 {
         if is_in_group(setup, comm, rank, other)
@@ -131,7 +132,7 @@ fn meet(lists: &[Vec<LogCall>], setup: &Setup, progress: &mut Progress, rank: Ra
     requires present { rule_of setup.now.comms comm ≢ Absent }
     requires below { rank < setup.now.nue }
     requires met { (k : ℕ) → in_group setup.now.nue (setup_key setup.now) comm rank k ≡ true
-        → slice_get (list_at (data_lists lists.now) k) (slice_index progress.old.next k) ≡ Some (Bar comm) }
+        → slice_get (calls_at_rank (data_lists lists.now) k) (slice_index progress.old.next k) ≡ Some (Bar comm) }
     ensures { Meets setup.now (data_lists lists.now) (in_group setup.now.nue (setup_key setup.now) comm rank) 48 progress.old progress.new }
 {
     for other in 0..48 {
@@ -150,7 +151,7 @@ fn try_meet(
     comm: u8,
 ) -> bool
     requires lists { AreLists setup.now (data_lists lists.now) }
-    requires front { slice_get (list_at (data_lists lists.now) rank) (slice_index progress.old.next rank) ≡ Some (Bar comm) }
+    requires front { slice_get (calls_at_rank (data_lists lists.now) rank) (slice_index progress.old.next rank) ≡ Some (Bar comm) }
     ensures { Tries setup.now (data_lists lists.now) (Meeting comm rank) progress.old progress.new result }
 {
     if setup.place(comm, rank) != 0 || !are_met(lists, setup, progress, rank, comm) {

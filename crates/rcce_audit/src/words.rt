@@ -1,7 +1,7 @@
 //! The words of a log's lines: numbers, kinds and bytes.
 
 ghost use Rattle.std.specs.Prelude.{◌≡◌, ◌≤◌, IfOk, IfSome, map};
-ghost use Rattle.rcce_audit.specs.Words.{hex_said, is_lower, kind_said, number_said, range_said, words_of};
+ghost use Rattle.rcce_audit.specs.Words.{exact_hex_said, is_lower, kind_said, exact_number_said, exact_range_said, log_words_of};
 
 use hex::FromHexError;
 use scc_base::Kind;
@@ -10,14 +10,14 @@ use texts::{Bytes, number, parts};
 
 /// The words of a line.
 pub fn words(alloc: Global, line: &[u8]) -> Result<Vec<&[u8]>, AllocError>
-    ensures { IfOk result (λ v. map (λ word. word.now) v.items ≡ words_of line.now) }
+    ensures { IfOk result (λ v. map (λ word. word.now) v.items ≡ log_words_of line.now) }
 {
     parts(alloc, line, b' ')
 }
 
 /// The number that a word spells: its decimal digits without leading zeros.
 pub(crate) fn number_said(word: &[u8]) -> Option<u32>
-    ensures { result ≡ number_said word.now }
+    ensures { result ≡ exact_number_said word.now }
 {
     match number(word) {
         Some(value) => {
@@ -34,7 +34,7 @@ pub(crate) fn number_said(word: &[u8]) -> Option<u32>
 
 /// A number from a range.
 pub fn range_said(word: &[u8], low: u32, high: u32) -> Option<u32>
-    ensures gives { result ≡ range_said low high word.now }
+    ensures gives { result ≡ exact_range_said low high word.now }
     ensures least { IfSome result (λ n. low ≤ n) }
     ensures most { IfSome result (λ n. n ≤ high) }
 {
@@ -72,7 +72,7 @@ pub fn is_lower(word: &[u8]) -> bool
 
 /// Bytes: none for `-`, else two hex digits each, in lower case.
 pub(crate) fn hex_said(alloc: Global, word: &[u8]) -> Result<Option<Bytes>, AllocError>
-    ensures { IfOk result (λ said. said ≡ hex_said word.now) }
+    ensures { IfOk result (λ said. said ≡ exact_hex_said word.now) }
 {
     if word == b"-".as_slice() {
         return Ok(Some(Bytes::from_vec(Vec::new(alloc))));

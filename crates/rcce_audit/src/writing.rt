@@ -1,8 +1,8 @@
 //! Writing a log, line by line. No memory is taken.
 
 ghost use Rattle.std.specs.Prelude.{◌≡◌, ◌≤◌, ◌∷◌, [], codes, decimal, length, map};
-ghost use Rattle.rcce_io.specs.Sending.{Sends, joined};
-ghost use Rattle.rcce_audit.specs.Pieces.{call_text, ended};
+ghost use Rattle.rcce_io.specs.Sending.{Sends, joined_texts};
+ghost use Rattle.rcce_audit.specs.Pieces.{call_text, line_with_feed};
 ghost use Rattle.rcce_audit.specs.Texts.{call_lines, head_words, message_words, rule_lines, split_words, table_lines, text_of};
 ghost use Rattle.rcce_audit.specs.Views.{data_lists};
 
@@ -19,7 +19,7 @@ pub(crate) fn write_message<'a, S: Sink>(
     head: Head,
     bytes: &'a [u8],
 ) -> Result<(), WriteFault>
-    ensures { Sends (ended (message_words rank verb.now peer head bytes.now)) (S.seen sink.old) (S.seen sink.new) result }
+    ensures { Sends (line_with_feed (message_words rank verb.now peer head bytes.now)) (S.seen sink.old) (S.seen sink.new) result }
 {
     write_texts(
         sink,
@@ -43,7 +43,7 @@ pub(crate) fn write_message<'a, S: Sink>(
 }
 
 pub(crate) fn write_barrier<S: Sink>(sink: &mut S, rank: u8, comm: u8) -> Result<(), WriteFault>
-    ensures { Sends (ended (decimal rank ∷ codes "bar" ∷ decimal comm ∷ [])) (S.seen sink.old) (S.seen sink.new) result }
+    ensures { Sends (line_with_feed (decimal rank ∷ codes "bar" ∷ decimal comm ∷ [])) (S.seen sink.old) (S.seen sink.new) result }
 {
     write_texts(
         sink,
@@ -76,7 +76,7 @@ fn write_call<S: Sink>(sink: &mut S, rank: u8, call: &LogCall) -> Result<(), Wri
 
 /// Writes the lines of a rank's calls.
 fn write_calls<S: Sink>(sink: &mut S, rank: u8, calls: &[LogCall]) -> Result<(), WriteFault>
-    ensures { Sends (joined (map (call_text rank) calls.now)) (S.seen sink.old) (S.seen sink.new) result }
+    ensures { Sends (joined_texts (map (call_text rank) calls.now)) (S.seen sink.old) (S.seen sink.new) result }
 {
     for call in calls {
         write_call(sink, rank, call)?;
@@ -102,7 +102,7 @@ fn write_split<S: Sink>(
     how: &str,
     k: u8,
 ) -> Result<(), WriteFault>
-    ensures { Sends (ended (split_words comm parent how.now k)) (S.seen sink.old) (S.seen sink.new) result }
+    ensures { Sends (line_with_feed (split_words comm parent how.now k)) (S.seen sink.old) (S.seen sink.new) result }
 {
     write_texts(
         sink,
@@ -142,7 +142,7 @@ pub(crate) fn write_rules<S: Sink>(sink: &mut S, comms: &[CommRule; 16]) -> Resu
 }
 
 pub(crate) fn write_head<S: Sink>(sink: &mut S, nue: u8) -> Result<(), WriteFault>
-    ensures { Sends (ended (head_words nue)) (S.seen sink.old) (S.seen sink.new) result }
+    ensures { Sends (line_with_feed (head_words nue)) (S.seen sink.old) (S.seen sink.new) result }
 {
     write_texts(sink, &[Text("rcce log "), Number(nue as u64), Text("\n")])
 }

@@ -7,7 +7,7 @@ use Rattle.std.specs.Str.{bytes_eq}
 use Rattle.std.proofs.lemmas.Iterator.Adapters.{position_from-zero}
 use Rattle.rcce_io.specs.declared.memory_files.MemFile.{MemFile}
 use Rattle.rcce_io.specs.Files.{contents_of}
-use Rattle.rcce_io.specs.MemoryFiles.{named, contents_at}
+use Rattle.rcce_io.specs.MemoryFiles.{named_file, contents_at}
 
 position_from-next : (test : MemFile → Bool) (i : ℕ) (files : List MemFile) →
     position_from test (i + 1) files ≡ option_map (λ k. k + 1) (position_from test i files)
@@ -23,12 +23,12 @@ contents_at-next file files None = refl
 contents_at-next file files (Some k) = rw add-one refl
 
 contents_of-position_from : (name : List ℕ) (files : List MemFile) →
-    option_map (contents_at files) (position_from (λ file. bytes_eq (string_bytes file.name) name) 0 files) ≡ contents_of name (map named files)
+    option_map (contents_at files) (position_from (λ file. bytes_eq (string_bytes file.name) name) 0 files) ≡ contents_of name (map named_file files)
 contents_of-position_from name [] = refl
 contents_of-position_from name (file ∷ files) =
     elim (bytes_eq (string_bytes file.name) name) as (λ b.
     option_map (contents_at (file ∷ files)) (cond b (Some 0) (position_from (λ f. bytes_eq (string_bytes f.name) name) (0 + 1) files))
-    ≡ cond b (Some file.contents.items) (contents_of name (map named files))) [
+    ≡ cond b (Some file.contents.items) (contents_of name (map named_file files))) [
       | true ↦ refl
       | false ↦ ap (option_map (contents_at (file ∷ files))) (position_from-next (λ f. bytes_eq (string_bytes f.name) name) 0 files)
           ∙ contents_at-next file files (position_from (λ f. bytes_eq (string_bytes f.name) name) 0 files)
@@ -37,7 +37,7 @@ contents_of-position_from name (file ∷ files) =
 
 -- the file at the first place of a name has the contents of that name
 pub contents_of-position : (name : List ℕ) (files : List MemFile) →
-    option_map (contents_at files) (position (λ file. bytes_eq (string_bytes file.name) name) files) ≡ contents_of name (map named files)
+    option_map (contents_at files) (position (λ file. bytes_eq (string_bytes file.name) name) files) ≡ contents_of name (map named_file files)
 contents_of-position name files =
     ap (option_map (contents_at files)) (position_from-zero (λ file. bytes_eq (string_bytes file.name) name) files)
     ∙ contents_of-position_from name files

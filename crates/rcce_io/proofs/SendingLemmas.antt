@@ -5,7 +5,7 @@ use Rattle.std.proofs.lemmas.Bool.{false≢true}
 use Rattle.std.proofs.lemmas.List.{append-nil, map-append, take-append-drop, take_all, take_more}
 use Rattle.std.specs.Result.{IsErr}
 use Rattle.rcce_io.specs.declared.writing.WriteFault.{WriteFault}
-use Rattle.rcce_io.specs.Sending.{SinkView, with_text, with_fault, CutShort, Sends, Waits, Gathers, joined}
+use Rattle.rcce_io.specs.Sending.{SinkView, with_text, with_fault, CutShort, Sends, RestWaits, Gathers, joined_texts}
 
 -- to take nothing is to take the empty text
 taken-none : (taken : Option (List ℕ)) → option_map (λ t. t ++ []) taken ≡ taken
@@ -74,7 +74,7 @@ cut_within before between after a b rest text parts first second =
     rw parts (cut_after before between after a (b ++ rest) first (cut_then between after b rest second))
 
 -- nothing was written yet, and nothing waits
-pub waits_none : (sink : SinkView) → Waits [] [] sink sink
+pub waits_none : (sink : SinkView) → RestWaits [] [] sink sink
 waits_none sink = record { gone = []; whole = refl; left = sym (text_none sink) }
 
 -- what was taken of the first text, and then of what waited
@@ -83,7 +83,7 @@ gone_before gone waited a b parts = ap (λ t. t ++ b) parts ∙ append_assoc gon
 
 -- a text behind one of which the rest waits
 pub waits_after : (before between after : SinkView) (a b waited waiting : List ℕ) →
-    Waits a waited before between → Waits (waited ++ b) waiting between after → Waits (a ++ b) waiting before after
+    RestWaits a waited before between → RestWaits (waited ++ b) waiting between after → RestWaits (a ++ b) waiting before after
 waits_after before between after a b waited waiting first second = record {
   gone = first.gone ++ second.gone;
   whole = gone_before first.gone waited a b first.whole ∙ ap (λ t. first.gone ++ t) second.whole ∙ sym (append_assoc first.gone second.gone waiting);
@@ -92,25 +92,25 @@ waits_after before between after a b waited waiting first second = record {
 
 -- a text behind one of which the rest waited, when both were cut short
 pub cut_waiting : (before between after : SinkView) (a b waited : List ℕ) →
-    Waits a waited before between → CutShort (waited ++ b) between after → CutShort (a ++ b) before after
+    RestWaits a waited before between → CutShort (waited ++ b) between after → CutShort (a ++ b) before after
 cut_waiting before between after a b waited first second =
     rw (gone_before first.gone waited a b first.whole) (cut_after before between after first.gone (waited ++ b) first.left second)
 
 -- a text of which the rest waits, and then its next piece
 pub waits_within : (before between after : SinkView) (a b waited waiting text : List ℕ) →
-    text ≡ a ++ b → Waits a waited before between → Waits (waited ++ b) waiting between after → Waits text waiting before after
+    text ≡ a ++ b → RestWaits a waited before between → RestWaits (waited ++ b) waiting between after → RestWaits text waiting before after
 waits_within before between after a b waited waiting text parts first second =
     rw parts (waits_after before between after a b waited waiting first second)
 
 -- a text of which the rest waited, when that and the next piece were cut short
 pub cut_gathered : (before between after : SinkView) (a b waited rest text : List ℕ) →
-    text ≡ a ++ (b ++ rest) → Waits a waited before between → CutShort (waited ++ b) between after → CutShort text before after
+    text ≡ a ++ (b ++ rest) → RestWaits a waited before between → CutShort (waited ++ b) between after → CutShort text before after
 cut_gathered before between after a b waited rest text parts first second =
     rw (parts ∙ sym (append_assoc a b rest)) (cut_then before after (a ++ b) rest (cut_waiting before between after a b waited first second))
 
 -- the rest of a text is sent
 pub sends_waiting : (before between after : SinkView) (a waited : List ℕ) (r : Result (Unit {0}) WriteFault) →
-    Waits a waited before between → Sends waited between after r → Sends a before after r
+    RestWaits a waited before between → Sends waited between after r → Sends a before after r
 sends_waiting before between after a waited (Ok _) first second = rw first.whole (text_after before between after first.gone waited first.left second)
 sends_waiting before between after a waited (Err _) first second = rw first.whole (cut_after before between after first.gone waited first.left second)
 
@@ -142,37 +142,37 @@ gathers_through before between after text waited waiting (Ok _) none first secon
 gathers_through before between after text waited waiting (Err _) none first second = cut_after before between after waited text first second
 
 -- the texts of two lists
-joined-append : (a b : List (List ℕ)) → joined (a ++ b) ≡ joined a ++ joined b
+joined-append : (a b : List (List ℕ)) → joined_texts (a ++ b) ≡ joined_texts a ++ joined_texts b
 joined-append [] b = refl
-joined-append (x ∷ a) b = ap (λ t. x ++ t) (joined-append a b) ∙ sym (append_assoc x (joined a) (joined b))
+joined-append (x ∷ a) b = ap (λ t. x ++ t) (joined-append a b) ∙ sym (append_assoc x (joined_texts a) (joined_texts b))
 
 -- the first texts and the next one
 pub joined-more : {P : Type 0} (f : P → List ℕ) (ps : List P) (i : ℕ) (d : P) → i < length ps →
-    joined (map f (take (i + 1) ps)) ≡ joined (map f (take i ps)) ++ f (get_or ps i d)
+    joined_texts (map f (take (i + 1) ps)) ≡ joined_texts (map f (take i ps)) ++ f (get_or ps i d)
 joined-more f ps i d within =
-    ap (λ l. joined (map f l)) (take_more ps i d within) ∙ ap joined (map-append f (take i ps) (get_or ps i d ∷ []))
-    ∙ joined-append (map f (take i ps)) (f (get_or ps i d) ∷ []) ∙ ap (λ t. joined (map f (take i ps)) ++ t) (append-nil (f (get_or ps i d)))
+    ap (λ l. joined_texts (map f l)) (take_more ps i d within) ∙ ap joined_texts (map-append f (take i ps) (get_or ps i d ∷ []))
+    ∙ joined-append (map f (take i ps)) (f (get_or ps i d) ∷ []) ∙ ap (λ t. joined_texts (map f (take i ps)) ++ t) (append-nil (f (get_or ps i d)))
 
 -- the first texts, the next one and the rest
 pub joined-parts : {P : Type 0} (f : P → List ℕ) (ps : List P) (i : ℕ) (d : P) → i < length ps →
-    joined (map f ps) ≡ joined (map f (take i ps)) ++ (f (get_or ps i d) ++ joined (map f (drop (i + 1) ps)))
+    joined_texts (map f ps) ≡ joined_texts (map f (take i ps)) ++ (f (get_or ps i d) ++ joined_texts (map f (drop (i + 1) ps)))
 joined-parts f ps i d within =
-    ap (λ l. joined (map f l)) (sym (take-append-drop (i + 1) ps)) ∙ ap joined (map-append f (take (i + 1) ps) (drop (i + 1) ps))
+    ap (λ l. joined_texts (map f l)) (sym (take-append-drop (i + 1) ps)) ∙ ap joined_texts (map-append f (take (i + 1) ps) (drop (i + 1) ps))
     ∙ joined-append (map f (take (i + 1) ps)) (map f (drop (i + 1) ps))
-    ∙ ap (λ t. t ++ joined (map f (drop (i + 1) ps))) (joined-more f ps i d within)
-    ∙ append_assoc (joined (map f (take i ps))) (f (get_or ps i d)) _
+    ∙ ap (λ t. t ++ joined_texts (map f (drop (i + 1) ps))) (joined-more f ps i d within)
+    ∙ append_assoc (joined_texts (map f (take i ps))) (f (get_or ps i d)) _
 
 -- the first texts and this next one
 pub joined-next : {P : Type 0} (f : P → List ℕ) (ps : List P) (i : ℕ) (x : P) → i < length ps → x ≡ get_or ps i x →
-    joined (map f (take (i + 1) ps)) ≡ joined (map f (take i ps)) ++ f x
-joined-next f ps i x within is = joined-more f ps i x within ∙ ap (λ y. joined (map f (take i ps)) ++ f y) (sym is)
+    joined_texts (map f (take (i + 1) ps)) ≡ joined_texts (map f (take i ps)) ++ f x
+joined-next f ps i x within is = joined-more f ps i x within ∙ ap (λ y. joined_texts (map f (take i ps)) ++ f y) (sym is)
 
 -- the first texts, this next one and the rest
 pub joined-around : {P : Type 0} (f : P → List ℕ) (ps : List P) (i : ℕ) (x : P) → i < length ps → x ≡ get_or ps i x →
-    joined (map f ps) ≡ joined (map f (take i ps)) ++ (f x ++ joined (map f (drop (i + 1) ps)))
+    joined_texts (map f ps) ≡ joined_texts (map f (take i ps)) ++ (f x ++ joined_texts (map f (drop (i + 1) ps)))
 joined-around f ps i x within is =
-    joined-parts f ps i x within ∙ ap (λ y. joined (map f (take i ps)) ++ (f y ++ joined (map f (drop (i + 1) ps)))) (sym is)
+    joined-parts f ps i x within ∙ ap (λ y. joined_texts (map f (take i ps)) ++ (f y ++ joined_texts (map f (drop (i + 1) ps)))) (sym is)
 
 -- all texts
-pub joined-all : {P : Type 0} (f : P → List ℕ) (ps : List P) (i : ℕ) → length ps ≤ i → joined (map f (take i ps)) ≡ joined (map f ps)
-joined-all f ps i past = ap (λ l. joined (map f l)) (take_all i ps past)
+pub joined-all : {P : Type 0} (f : P → List ℕ) (ps : List P) (i : ℕ) → length ps ≤ i → joined_texts (map f (take i ps)) ≡ joined_texts (map f ps)
+joined-all f ps i past = ap (λ l. joined_texts (map f l)) (take_all i ps past)

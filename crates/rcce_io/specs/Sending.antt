@@ -38,7 +38,7 @@ Sends text before after (Ok _) = after ≡ with_text text before
 Sends text before after (Err _) = CutShort text before after
 
 -- so much of the text was taken, with no fault, and the rest of it waits
-pub record Waits (text waiting : List ℕ) (before after : SinkView) : Type 0 where
+pub record RestWaits (text waiting : List ℕ) (before after : SinkView) : Type 0 where
   pub gone : List ℕ
   pub whole : text ≡ gone ++ waiting
   pub left : after ≡ with_text gone before
@@ -46,10 +46,10 @@ pub record Waits (text waiting : List ℕ) (before after : SinkView) : Type 0 wh
 -- A text was put behind what waited: of both so much was taken and the rest of them waits, or they were cut short by a
 -- fault.
 abbrev pub Gathers : List ℕ → List ℕ → List ℕ → SinkView → SinkView → Result (Unit {0}) WriteFault → Type 0
-Gathers text waited waiting before after (Ok _) = Waits (waited ++ text) waiting before after
+Gathers text waited waiting before after (Ok _) = RestWaits (waited ++ text) waiting before after
 Gathers text waited waiting before after (Err _) = CutShort (waited ++ text) before after
 
 -- texts, one behind the other
-abbrev pub joined : List (List ℕ) → List ℕ
-joined [] = []
-joined (text ∷ texts) = text ++ joined texts
+abbrev pub joined_texts : List (List ℕ) → List ℕ
+joined_texts [] = []
+joined_texts (text ∷ texts) = text ++ joined_texts texts

@@ -1,6 +1,6 @@
 ghost use Rattle.std.specs.Prelude.{◌≡◌, ◌<◌, Some, None, length, map, OnOk, OnErr, IsTrue, IfSome, is_some, option_map};
 ghost use Rattle.rcce_io.specs.Files.{Opens, Reads, contents_of};
-ghost use Rattle.rcce_io.specs.MemoryFiles.{named, contents_at};
+ghost use Rattle.rcce_io.specs.MemoryFiles.{named_file, contents_at};
 
 use crate::calls::CallCounter;
 use crate::{Files, Got, Opened};
@@ -37,11 +37,11 @@ impl Model for MemFiles {
 
     ghost use Rattle.std.specs.Prelude.{◌<◌};
     ghost use Rattle.std.specs.Option.{ForSome};
-    ghost use Rattle.rcce_io.specs.MemoryFiles.{files_state_of, IsWithin};
+    ghost use Rattle.rcce_io.specs.MemoryFiles.{files_state_of, IsPlaceWithin};
 
     ghost view = { files_state_of };
 
-    ghost invariant = { λ m. ForSome m.place (IsWithin m.files.items) × (0 < m.most) };
+    ghost invariant = { λ m. ForSome m.place (IsPlaceWithin m.files.items) × (0 < m.most) };
 }
 
 impl MemFiles {
@@ -164,7 +164,7 @@ impl Files for MemFiles {
 
 fn place_of(files: &[MemFile], name: &str) -> Option<usize>
     ensures within { IfSome result (λ file. file < length files.now) }
-    ensures contents { option_map (contents_at files.now) result ≡ contents_of name.now (map named files.now) }
+    ensures contents { option_map (contents_at files.now) result ≡ contents_of name.now (map named_file files.now) }
 {
     files.iter().position(|file| file.name.as_str() == name)
 }

@@ -1,5 +1,5 @@
 ghost use Rattle.std.specs.Prelude.{map};
-ghost use Rattle.rcce_io.specs.Sending.{Sends, joined};
+ghost use Rattle.rcce_io.specs.Sending.{Sends, joined_texts};
 
 use crate::{Put, Sink, TextSource};
 
@@ -23,7 +23,7 @@ pub fn write_all<S: Sink>(sink: &mut S, bytes: &[u8]) -> Result<(), WriteFault>
 
 /// Writes texts, one behind the other, until all are taken or a write fails.
 pub fn write_texts<S: Sink, T: TextSource>(sink: &mut S, texts: &[T]) -> Result<(), WriteFault>
-    ensures { Sends (joined (map T.text texts.now)) (S.seen sink.old) (S.seen sink.new) result }
+    ensures { Sends (joined_texts (map T.text texts.now)) (S.seen sink.old) (S.seen sink.new) result }
 {
     for text in texts {
         text.write_to(sink)?;

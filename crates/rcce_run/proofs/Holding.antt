@@ -4,15 +4,15 @@ use Rattle.std.specs.Option.{option_map, option_map_or, unwrap_or}
 use Rattle.std.proofs.lemmas.Bool.Decides.{nat_tests}
 use Rattle.std.proofs.lemmas.Option.{same_Some, unwrap_or-slice_get}
 use Rattle.scc_proto.specs.Legality.{Outgoing}
-use Rattle.scc_proto.specs.Tables.{put}
+use Rattle.scc_proto.specs.Tables.{table_with}
 use Rattle.scc_proto.proofs.Tests.{same_or_other}
 use Rattle.script_machine.specs.declared.posts.Posted.{Posted}
 use Rattle.script_machine.specs.Next.{Next}
 use Rattle.script_machine.specs.Next.Next.{Ends}
-use Rattle.script_plain.specs.Step.{Configuration, next_at, slot_at, with_cell, with_slot, by_rank}
+use Rattle.script_plain.specs.Step.{Configuration, next_at, slot_at, with_cell, configuration_with_slot, by_rank}
 use Rattle.script_plain.proofs.Orders.OrderLaws.{get_set}
 use Rattle.script_plain.proofs.Runs.RunLaws.{get-by_rank}
-use Rattle.rcce_run.specs.Sweep.{outgoing, at_rank, Holds}
+use Rattle.rcce_run.specs.Sweep.{outgoing, at_rank, HoldsStates}
 
 pub lt_true : (a b : ℕ) → a < b → nat_lt a b ≡ true
 lt_true a b below = grind (arith, nat_tests)
@@ -53,15 +53,15 @@ at_map {A} f nue k x = by (nat_lt k nue)
     by false = refl
 
 -- what holds of one written entry and of all others holds of all
-pub put_each : {A : Type 0} (Q : ℕ → A → Type 0) (f : ℕ → A) (i : ℕ) (x : A) → Q i x → ((k : ℕ) → k ≢ i → Q k (f k)) → (k : ℕ) → Q k (put f i x k)
-put_each {A} Q f i x here there k = same_or_other (Q k (put f i x k)) k i
+pub put_each : {A : Type 0} (Q : ℕ → A → Type 0) (f : ℕ → A) (i : ℕ) (x : A) → Q i x → ((k : ℕ) → k ≢ i → Q k (f k)) → (k : ℕ) → Q k (table_with f i x k)
+put_each {A} Q f i x here there k = same_or_other (Q k (table_with f i x k)) k i
     (λ t e. subst (λ (b : Bool). Q k (if b then x else f k)) (sym t) (subst (λ (j : ℕ). Q j x) (sym e) here))
     (λ t ne. subst (λ (b : Bool). Q k (if b then x else f k)) (sym t) (there k ne))
 
 -- the same of two families that are written at one place
 pub put_both : {A B : Type 0} (Q : ℕ → A → B → Type 0) (f : ℕ → A) (g : ℕ → B) (i : ℕ) (x : A) (y : B) → Q i x y → ((k : ℕ) → k ≢ i → Q k (f k) (g k))
-    → (k : ℕ) → Q k (put f i x k) (put g i y k)
-put_both {A} {B} Q f g i x y here there k = same_or_other (Q k (put f i x k) (put g i y k)) k i
+    → (k : ℕ) → Q k (table_with f i x k) (table_with g i y k)
+put_both {A} {B} Q f g i x y here there k = same_or_other (Q k (table_with f i x k) (table_with g i y k)) k i
     (λ t e. subst (λ (b : Bool). Q k (if b then x else f k) (if b then y else g k)) (sym t) (subst (λ (j : ℕ). Q j x y) (sym e) here))
     (λ t ne. subst (λ (b : Bool). Q k (if b then x else f k) (if b then y else g k)) (sym t) (there k ne))
 
@@ -77,8 +77,8 @@ mixed heads cells n k = if nat_lt k n then heads k else cells k
 pub mixed_here : {U : Type 0} (heads cells : ℕ → U) (n : ℕ) → mixed heads cells n n ≡ cells n
 mixed_here heads cells n = ap (λ (b : Bool). if b then heads n else cells n) (lt_false n n (omega arith))
 
-pub mixed_next : {U : Type 0} (heads cells : ℕ → U) (n k : ℕ) → put (mixed heads cells n) n (heads n) k ≡ mixed heads cells (suc n) k
-mixed_next heads cells n k = same_or_other (put (mixed heads cells n) n (heads n) k ≡ mixed heads cells (suc n) k) k n
+pub mixed_next : {U : Type 0} (heads cells : ℕ → U) (n k : ℕ) → table_with (mixed heads cells n) n (heads n) k ≡ mixed heads cells (suc n) k
+mixed_next heads cells n k = same_or_other (table_with (mixed heads cells n) n (heads n) k ≡ mixed heads cells (suc n) k) k n
     (λ t e. ap (λ (b : Bool). if b then heads n else mixed heads cells n k) t ∙ ap heads (sym e)
     ∙ sym (ap (λ (b : Bool). if b then heads k else cells k) (lt_true k (suc n) (omega (arith, e)))))
     (λ t ne. ap (λ (b : Bool). if b then heads n else mixed heads cells n k) t ∙ ap (λ (b : Bool). if b then heads k else cells k) (same_test n k ne))
@@ -88,14 +88,14 @@ mixed_next heads cells n k = same_or_other (put (mixed heads cells n) n (heads n
 
 module _ {U : Type 0} (nue : ℕ) where
   -- the same states and slots of the ranks
-  pub holds_same : (c : Configuration U) (cells others : ℕ → U) (slots more : ℕ → Option Posted) → Holds nue c cells slots
-      → ((k : ℕ) → k < nue → cells k ≡ others k) → ((k : ℕ) → k < nue → slots k ≡ more k) → Holds nue c others more
+  pub holds_same : (c : Configuration U) (cells others : ℕ → U) (slots more : ℕ → Option Posted) → HoldsStates nue c cells slots
+      → ((k : ℕ) → k < nue → cells k ≡ others k) → ((k : ℕ) → k < nue → slots k ≡ more k) → HoldsStates nue c others more
   holds_same c cells others slots more holds same_cells same_slots = record {
     cells_at = λ k. holds.cells_at k ∙ at_same nue k (cells k) (others k) (same_cells k);
     slots_at = λ k. holds.slots_at k ∙ at_same nue k (slots k) (more k) (same_slots k);
   }
 
-  pub holds_cell : (c : Configuration U) (cells : ℕ → U) (slots : ℕ → Option Posted) (i : ℕ) (v : U) → Holds nue c cells slots → Holds nue (with_cell c i v) (put cells i v) slots
+  pub holds_cell : (c : Configuration U) (cells : ℕ → U) (slots : ℕ → Option Posted) (i : ℕ) (v : U) → HoldsStates nue c cells slots → HoldsStates nue (with_cell c i v) (table_with cells i v) slots
   holds_cell c cells slots i v holds = record {
     cells_at = λ k.
         get_set c.cells i v k ∙ ap (option_map (λ u. if k == i then v else u)) (holds.cells_at k)
@@ -103,7 +103,7 @@ module _ {U : Type 0} (nue : ℕ) where
     slots_at = holds.slots_at;
   }
 
-  pub holds_slot : (c : Configuration U) (cells : ℕ → U) (slots : ℕ → Option Posted) (i : ℕ) (m : Option Posted) → Holds nue c cells slots → Holds nue (with_slot c i m) cells (put slots i m)
+  pub holds_slot : (c : Configuration U) (cells : ℕ → U) (slots : ℕ → Option Posted) (i : ℕ) (m : Option Posted) → HoldsStates nue c cells slots → HoldsStates nue (configuration_with_slot c i m) cells (table_with slots i m)
   holds_slot c cells slots i m holds = record {
     cells_at = holds.cells_at;
     slots_at = λ k.
@@ -111,14 +111,14 @@ module _ {U : Type 0} (nue : ℕ) where
         ∙ at_map (λ o. if k == i then m else o) nue k (slots k);
   }
 
-  pub holds_all : (c : Configuration U) (cells : ℕ → U) (slots : ℕ → Option Posted) (change : ℕ → U → U) → Holds nue c cells slots
-      → Holds nue (record c { cells = by_rank change c.cells }) (λ k. change k (cells k)) slots
+  pub holds_all : (c : Configuration U) (cells : ℕ → U) (slots : ℕ → Option Posted) (change : ℕ → U → U) → HoldsStates nue c cells slots
+      → HoldsStates nue (record c { cells = by_rank change c.cells }) (λ k. change k (cells k)) slots
   holds_all c cells slots change holds = record {
     cells_at = λ k. get-by_rank change c.cells k ∙ ap (option_map (change k)) (holds.cells_at k) ∙ at_map (change k) nue k (cells k);
     slots_at = holds.slots_at;
   }
 
-  module _ (next : U → Next U) (c : Configuration U) (cells : ℕ → U) (slots : ℕ → Option Posted) (holds : Holds nue c cells slots) where
+  module _ (next : U → Next U) (c : Configuration U) (cells : ℕ → U) (slots : ℕ → Option Posted) (holds : HoldsStates nue c cells slots) where
     -- what stands next at a rank, and what stands in its slot
     pub next_held : (k : ℕ) → k < nue → next_at next c k ≡ next (cells k)
     next_held k below = ap (λ (o : Option U). option_map_or next o Ends) (holds.cells_at k ∙ at_below nue k (cells k) below)
@@ -146,15 +146,15 @@ module _ {U : Type 0} (nue : ℕ) where
 
 -- what is shown rank after rank, seen from its end
 module _ {U : Type 0} (nue : ℕ) (P : Configuration U → Type 0) (cells heads : ℕ → U) (slots : ℕ → Option Posted)
-    (one : (n : ℕ) → n < nue → (c : Configuration U) → Holds nue c (mixed heads cells n) slots → ((d : Configuration U) → Holds nue d (mixed heads cells (suc n)) slots → P d) → P c) where
-  ranks_from : (m n : ℕ) → m + n ≡ nue → (c : Configuration U) → Holds nue c (mixed heads cells n) slots → ((d : Configuration U) → Holds nue d heads slots → P d) → P c
+    (one : (n : ℕ) → n < nue → (c : Configuration U) → HoldsStates nue c (mixed heads cells n) slots → ((d : Configuration U) → HoldsStates nue d (mixed heads cells (suc n)) slots → P d) → P c) where
+  ranks_from : (m n : ℕ) → m + n ≡ nue → (c : Configuration U) → HoldsStates nue c (mixed heads cells n) slots → ((d : Configuration U) → HoldsStates nue d heads slots → P d) → P c
   ranks_from zero n all c holds finish =
       finish c (holds_same nue c (mixed heads cells n) heads slots slots holds
       (λ k low. ap (λ (b : Bool). if b then heads k else cells k) (lt_true k n (omega (arith, all, low)))) (λ k low. refl))
   ranks_from (suc m) n all c holds finish =
       one n (omega (arith, all)) c holds (λ d held. ranks_from m (suc n) (omega (arith, all)) d held finish)
 
-  pub rank_after_rank : (c : Configuration U) → Holds nue c cells slots → ((d : Configuration U) → Holds nue d heads slots → P d) → P c
+  pub rank_after_rank : (c : Configuration U) → HoldsStates nue c cells slots → ((d : Configuration U) → HoldsStates nue d heads slots → P d) → P c
   rank_after_rank c holds finish =
       ranks_from nue 0 (omega arith) c
       (holds_same nue c cells (mixed heads cells 0) slots slots holds

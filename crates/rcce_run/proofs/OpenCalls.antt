@@ -6,9 +6,9 @@ use Rattle.scc_base.specs.Calls as calls
 use Rattle.scc_base.specs.Setups.{SetupView}
 use Rattle.scc_base.specs.declared.signals.Signal.TheVariants.{Ready}
 use Rattle.scc_base.specs.declared.calls.Call.TheVariants as call
-use Rattle.scc_proto.specs.Messages.{Notes, Progress, begun, is_last, with_chunk}
+use Rattle.scc_proto.specs.Messages.{Notes, Progress, fresh_message, is_last, with_chunk}
 use Rattle.scc_proto.specs.Pairs.{Resting, Offering, Awaiting, side_of_part, side_of_post, sending_side, taking_side, HasArrived, Pair, pair_of, Phase, InRest, InRaised, InTaken, InReady}
-use Rattle.scc_proto.specs.Passed.{open_of, open_call}
+use Rattle.scc_proto.specs.Passed.{call_in_stage, open_call}
 use Rattle.scc_proto.specs.Records.{chunk_of}
 use Rattle.scc_proto.specs.Stages.{Part, Filling, Raised, Answered, Stage, Idle, Drafting, Sending, Between, Taking, Barrier, OnItsWay, Record}
 use Rattle.scc_proto.specs.Views.{view_of}
@@ -18,7 +18,7 @@ use Rattle.scc_proto.proofs.Pairs.PhaseFacts.{sending_here, sending_there, post_
 use Rattle.scc_proto.proofs.Legality.StepLaws.{itself}
 use Rattle.scc_proto.proofs.Tests.{same_or_other, peers_are}
 use Rattle.script_machine.specs.declared.posts.Posted.{Posted}
-use Rattle.script_machine.specs.Next.{Next, call_of}
+use Rattle.script_machine.specs.Next.{Next, call_next}
 use Rattle.script_machine.specs.Next.Next.{Ends, Goes, Posts, Sends, Recvs, Bars}
 use Rattle.chip_run.specs.Waiting.{NoneDrafts}
 use Rattle.chip_run.specs.Waiting.{TakeWaits, IsLooking, BarWaits, AtRoot, AtMember}
@@ -58,7 +58,7 @@ refilling_part Answered message chunk m is = absurd (cc (is))
 no_post_rests : (to : ℕ) (m : Progress) (o : Option OnItsWay) → side_of_post to o ≡ Resting (Some m) → ⊥
 no_post_rests to m None is = cc (is)
 no_post_rests to m (Some post) is = same_or_other ⊥ post.to to
-    (λ t e. let side : Offering post.is_answered true (begun post.head) post.chunk ≡ Resting (Some m) = sym (post_here to post t) ∙ is in cc (side))
+    (λ t e. let side : Offering post.is_answered true (fresh_message post.head) post.chunk ≡ Resting (Some m) = sym (post_here to post t) ∙ is in cc (side))
     (λ t ne. let side : Resting None ≡ Resting (Some m) = sym (post_there to post t) ∙ is in cc (side))
 
 abbrev IsRefilling : ℕ → Stage → Type 0
@@ -120,16 +120,16 @@ module _ {U : Type 0} (next : U → Next U) (s : SetupView) (memory : Memory) (r
           (raised_by from k part m chunk below is).1 flag
       by (Lies a m w last side) =
           let on = posting k a m w (records from).stage (records from).post side in
-          let single : is_last (chunk_of s) (begun on.post.head) ≡ true = posted_last s from (records from) (sw.agrees.singles.0 from below) on.post on.is_posted in
-          let same : is_last (chunk_of s) (begun on.post.head) ≡ is_last (chunk_of s) m = ap (is_last (chunk_of s)) on.message_is in
+          let single : is_last (chunk_of s) (fresh_message on.post.head) ≡ true = posted_last s from (records from) (sw.agrees.singles.0 from below) on.post on.is_posted in
+          let same : is_last (chunk_of s) (fresh_message on.post.head) ≡ is_last (chunk_of s) m = ap (is_last (chunk_of s)) on.message_is in
           cc (single, same, last)
 
   -- an open call is the one that stands next
-  pub open_is_next : (k : ℕ) → k < s.nue → (c : DataCall) → open_call s (records k) ≡ Some c → call_of (next (states k)) ≡ Some (calls.call_of c)
+  pub open_is_next : (k : ℕ) → k < s.nue → (c : DataCall) → open_call s (records k) ≡ Some c → call_next (next (states k)) ≡ Some (calls.call_of c)
   open_is_next k low c is = by (next (states k)) (sw.vain k low)
     where
-      closed : (st : Stage) → (records k).stage ≡ st → open_of (chunk_of s) st ≡ Some c
-      closed st at = ap (open_of (chunk_of s)) (sym at) ∙ is
+      closed : (st : Stage) → (records k).stage ≡ st → call_in_stage (chunk_of s) st ≡ Some c
+      closed st at = ap (call_in_stage (chunk_of s)) (sym at) ∙ is
 
       idle_none : (P : Type 0) → (records k).stage ≡ Idle → P
       idle_none P at = absurd (let none = closed Idle at in cc (none))
@@ -148,7 +148,7 @@ module _ {U : Type 0} (next : U → Next U) (s : SetupView) (memory : Memory) (r
       by_bar comm (AtMember present other bar vain) =
           ap (λ (x : DataCall). Some (calls.call_of x)) (same_Some (DataCall.Bar comm) c (closed (Barrier comm 0 0) bar))
 
-      by : (n : Next U) → Vain s (view_of s memory) k (records k) n → call_of n ≡ Some (calls.call_of c)
+      by : (n : Next U) → Vain s (view_of s memory) k (records k) n → call_next n ≡ Some (calls.call_of c)
       by Ends vain = idle_none _ vain
       by (Goes after) vain = absurd vain
       by (Posts message after) vain = idle_none _ vain.stage
@@ -163,8 +163,8 @@ module _ {U : Type 0} (next : U → Next U) (s : SetupView) (memory : Memory) (r
   pub none_drafts : NoneDrafts s records
   none_drafts k low none = by (next (states k)) (sw.vain k low)
     where
-      closed : (st : Stage) → (records k).stage ≡ st → open_of (chunk_of s) st ≡ None
-      closed st at = ap (open_of (chunk_of s)) (sym at) ∙ none
+      closed : (st : Stage) → (records k).stage ≡ st → call_in_stage (chunk_of s) st ≡ None
+      closed st at = ap (call_in_stage (chunk_of s)) (sym at) ∙ none
 
       by_looking : (from : ℕ) (st : Stage) → (records k).stage ≡ st → IsLooking from st → (records k).stage ≡ Idle
       by_looking from Idle at looks = at

@@ -10,14 +10,14 @@ use Rattle.script_machine.specs.declared.ends.UeEnd.TheVariants as ue_end
 use Rattle.script_machine.specs.declared.posts.Posted.{Posted}
 use Rattle.script_machine.specs.declared.prims.Standing.{Standing}
 use Rattle.script_machine.specs.declared.prims.Standing.TheVariants as standing
-use Rattle.script_plain.specs.Ends.{Ended, ended, ended_at, nothing_ended}
-use Rattle.script_machine.specs.Local.{Local, end_by_prim, end_by_slot, end_by_standing, end_of, local_at, local_next, next_by_act, next_by_prim, nobody, prim_by_standing, waits_at}
+use Rattle.script_plain.specs.Ends.{Ended, end_of_rank, ended_at, nothing_ended}
+use Rattle.script_machine.specs.Local.{Local, end_by_prim, end_by_slot, end_by_standing, end_of, local_at, local_next, next_by_act, next_by_prim, nobody, prim_by_standing, end_waiting_at}
 use Rattle.script_plain.specs.Meaning.{State, locals_of, plain_end, plain_ends}
 use Rattle.script_machine.specs.Moves.{is_stopped, is_stopped_by}
-use Rattle.script_machine.specs.Next.{call_of, is_going}
+use Rattle.script_machine.specs.Next.{call_next, is_going}
 use Rattle.script_machine.specs.Next.Next.{Ends}
 use Rattle.script_machine.specs.Program.{Act, Prim}
-use Rattle.rcce_run.specs.Sweep.{Holds}
+use Rattle.rcce_run.specs.Sweep.{HoldsStates}
 use Rattle.rcce_run.proofs.Holding.{at_below}
 
 -- no primitive ends a program
@@ -54,7 +54,7 @@ stopped_end u slot stopped = by u.standing refl
     by (standing.Mismatched line from sent asked) is end = let at : end_of slot u ≡ ue_end.Mismatch line from sent asked = ap (end_by_standing slot u) is in cc (at, end)
 
 -- a call that stands next, or a statement of the rank's own
-at_call : (u : Local) (line : ℕ) (a : Act) → is_going (next_by_act u line a) ≡ false → waits_at line (call_of (next_by_act u line a)) ≢ ue_end.Finished
+at_call : (u : Local) (line : ℕ) (a : Act) → is_going (next_by_act u line a) ≡ false → end_waiting_at line (call_next (next_by_act u line a)) ≢ ue_end.Finished
 at_call u line (Act.Send to head source) goes end = cc (end)
 at_call u line (Act.Post to reg) goes end = cc (end)
 at_call u line (Act.Recv from reg head) goes end = cc (end)
@@ -74,7 +74,7 @@ waiting_end u slot stays full = by u.standing refl
         cc (is_end, end)
     by_left is (Some prim) at end =
         let next : local_next u ≡ next_by_act u prim.line prim.act = next_is u standing.Running is ∙ ap (next_by_prim u) at in
-        let is_end : end_of slot u ≡ waits_at prim.line (call_of (next_by_act u prim.line prim.act)) =
+        let is_end : end_of slot u ≡ end_waiting_at prim.line (call_next (next_by_act u prim.line prim.act)) =
         ap (end_by_standing slot u) is ∙ ap (end_by_prim slot u) at in
         at_call u prim.line prim.act (sym (ap is_going next) ∙ stays) (sym is_end ∙ end)
 
@@ -83,8 +83,8 @@ waiting_end u slot stays full = by u.standing refl
     by (standing.Mismatched line from sent asked) is end = let at : end_of slot u ≡ ue_end.Mismatch line from sent asked = ap (end_by_standing slot u) is in cc (at, end)
 
 -- what a rank of a script leaves behind, by its state and slot at the plain end
-pub plain_ended_at : (script : Script) (states : ℕ → State) (slots : ℕ → Option Posted) → Holds script.nue (plain_end script) states slots → (k : ℕ) → k < script.nue
-    → ended_at (plain_ends script) k ≡ ended (slots k) (states k).local
+pub plain_ended_at : (script : Script) (states : ℕ → State) (slots : ℕ → Option Posted) → HoldsStates script.nue (plain_end script) states slots → (k : ℕ) → k < script.nue
+    → ended_at (plain_ends script) k ≡ end_of_rank (slots k) (states k).local
 plain_ended_at script states slots holds k low =
     let c = plain_end script in
     let here : slice_get c.cells k ≡ Some (states k) = holds.cells_at k ∙ at_below script.nue k (states k) low in
@@ -93,10 +93,10 @@ plain_ended_at script states slots holds k low =
     sym (unwrap_or-slice_get (locals_of c) k nobody) ∙ ap (λ (o : Option Local). unwrap_or o nobody) (slice_get-map (λ (u : State). u.local) c.cells k ∙ ap (option_map (λ (u : State). u.local)) here) in
     let slot_is : slice_index_or c.slots k None ≡ slots k =
     sym (unwrap_or-slice_get c.slots k None) ∙ ap (λ (o : Option (Option Posted)). unwrap_or o None) (holds.slots_at k ∙ at_below script.nue k (slots k) low) in
-    get_or-map-range_with_len (λ (rank : ℕ). ended (slice_index_or c.slots rank None) (local_at (locals_of c) rank)) 0 (length (locals_of c)) k k nothing_ended within (omega arith)
-    ∙ (λ i. ended (slot_is i) (local_is i))
+    get_or-map-range_with_len (λ (rank : ℕ). end_of_rank (slice_index_or c.slots rank None) (local_at (locals_of c) rank)) 0 (length (locals_of c)) k k nothing_ended within (omega arith)
+    ∙ (λ i. end_of_rank (slot_is i) (local_is i))
 
-pub plain_end_at : (script : Script) (states : ℕ → State) (slots : ℕ → Option Posted) → Holds script.nue (plain_end script) states slots → (k : ℕ) → k < script.nue
+pub plain_end_at : (script : Script) (states : ℕ → State) (slots : ℕ → Option Posted) → HoldsStates script.nue (plain_end script) states slots → (k : ℕ) → k < script.nue
     → (ended_at (plain_ends script) k).end ≡ end_of (slots k) (states k).local
 plain_end_at script states slots holds k low = ap (λ (e : Ended). e.end) (plain_ended_at script states slots holds k low)
 
@@ -109,7 +109,7 @@ end_same u one other same = by u.standing refl
         let next : local_next u ≡ Ends = next_is u standing.Running is ∙ ap (next_by_prim u) at in
         ap (λ (slot : Option Posted). end_of slot u) (same next (ap is_stopped_by is))
     by_left is (Some prim) at =
-        let here : (slot : Option Posted) → end_of slot u ≡ waits_at prim.line (call_of (next_by_act u prim.line prim.act)) = λ slot. ap (end_by_standing slot u) is ∙ ap (end_by_prim slot u) at in
+        let here : (slot : Option Posted) → end_of slot u ≡ end_waiting_at prim.line (call_next (next_by_act u prim.line prim.act)) = λ slot. ap (end_by_standing slot u) is ∙ ap (end_by_prim slot u) at in
         here one ∙ sym (here other)
 
     by : (st : Standing) → u.standing ≡ st → end_of one u ≡ end_of other u
@@ -117,15 +117,15 @@ end_same u one other same = by u.standing refl
     by (standing.Mismatched line from sent asked) is = ap (end_by_standing one u) is ∙ sym (ap (end_by_standing other u) is)
 
 -- a rank at which a call stands next waits at it, at the line of its statement
-pub call_waits : (u : Local) (slot : Option Posted) (call : Call) → call_of (local_next u) ≡ Some call → (line : ℕ) × (end_of slot u ≡ ue_end.Waits line call)
+pub call_waits : (u : Local) (slot : Option Posted) (call : Call) → call_next (local_next u) ≡ Some call → (line : ℕ) × (end_of slot u ≡ ue_end.Waits line call)
 call_waits u slot call there = by u.standing refl
   where
     by_left : u.standing ≡ standing.Running → (o : Option Prim) → slice_get u.left 0 ≡ o → (line : ℕ) × (end_of slot u ≡ ue_end.Waits line call)
-    by_left is None at = absurd (let none = ap call_of (next_is u standing.Running is ∙ ap (next_by_prim u) at) in cc (none, there))
+    by_left is None at = absurd (let none = ap call_next (next_is u standing.Running is ∙ ap (next_by_prim u) at) in cc (none, there))
     by_left is (Some prim) at =
-        let call_is : call_of (next_by_act u prim.line prim.act) ≡ Some call = sym (ap call_of (next_is u standing.Running is ∙ ap (next_by_prim u) at)) ∙ there in
-        (prim.line, ap (end_by_standing slot u) is ∙ ap (end_by_prim slot u) at ∙ ap (waits_at prim.line) call_is)
+        let call_is : call_next (next_by_act u prim.line prim.act) ≡ Some call = sym (ap call_next (next_is u standing.Running is ∙ ap (next_by_prim u) at)) ∙ there in
+        (prim.line, ap (end_by_standing slot u) is ∙ ap (end_by_prim slot u) at ∙ ap (end_waiting_at prim.line) call_is)
 
     by : (st : Standing) → u.standing ≡ st → (line : ℕ) × (end_of slot u ≡ ue_end.Waits line call)
     by standing.Running is = by_left is (slice_get u.left 0) refl
-    by (standing.Mismatched line from sent asked) is = absurd (let none = ap call_of (next_is u (standing.Mismatched line from sent asked) is) in cc (none, there))
+    by (standing.Mismatched line from sent asked) is = absurd (let none = ap call_next (next_is u (standing.Mismatched line from sent asked) is) in cc (none, there))

@@ -8,13 +8,13 @@ use Rattle.scc_base.specs.Setups.{SetupView, setup_key}
 use Rattle.scc_base.proofs.ChangeLaws.{true_or_false}
 use Rattle.scc_base.proofs.Confluence.{in_some_order}
 use Rattle.scc_proto.specs.Legality.{Outgoing, OwnStep, IsUsedUp, no_slots}
-use Rattle.scc_proto.specs.Messages.{Notes, StandsIn, Progress, begun, head_of, sent_messages, received_messages}
-use Rattle.scc_proto.specs.Pairs.{Resting, Offering, side_of_part, side_of_post, sending_side, resumed, pending, NotesStand, pair_of}
+use Rattle.scc_proto.specs.Messages.{Notes, StandsIn, Progress, fresh_message, head_of, sent_messages, received_messages}
+use Rattle.scc_proto.specs.Pairs.{Resting, Offering, side_of_part, side_of_post, sending_side, message_so_far, pending, NotesStand, pair_of}
 use Rattle.scc_proto.specs.Passed.{passed_open, passed_calls, slot_by, slot_of}
 use Rattle.scc_proto.specs.Records.{chunk_of}
 use Rattle.scc_proto.specs.Singles.{IsPosted, is_free}
 use Rattle.scc_proto.specs.Stages.{Part, Filling, Raised, Answered, Stage, Idle, Drafting, Sending, Between, Taking, Barrier, OnItsWay, Record}
-use Rattle.scc_proto.specs.Tables.{put}
+use Rattle.scc_proto.specs.Tables.{table_with}
 use Rattle.scc_proto.specs.Views.{view_of}
 use Rattle.scc_proto.specs.Words.{Memory}
 use Rattle.scc_proto.proofs.Words.NoteFacts.{head_is}
@@ -24,14 +24,14 @@ use Rattle.scc_proto.proofs.Tests.{same_or_other, peers_are}
 use Rattle.script_machine.specs.declared.posts.Posted.{Posted}
 use Rattle.script_machine.specs.Next.{Next}
 use Rattle.script_machine.specs.Next.Next.{Ends, Goes, Posts, Sends, Recvs, Bars}
-use Rattle.script_plain.specs.Paths.{Did}
-use Rattle.script_plain.specs.Paths.Did.{Here}
-use Rattle.script_plain.specs.Step.{Configuration, IsStep, next_at, slot_at, same_head, with_cell}
+use Rattle.script_plain.specs.Paths.{DidCalls}
+use Rattle.script_plain.specs.Paths.DidCalls.{Here}
+use Rattle.script_plain.specs.Step.{Configuration, IsStepOf, next_at, slot_at, same_head, with_cell}
 use Rattle.script_plain.proofs.Messages.MessageLaws.{same_heads}
 use Rattle.script_plain.proofs.Runs.StepLaws as steps
 use Rattle.script_plain.proofs.Runs.StepLaws.Takes.{RefusedPost, RefusedSend}
 use Rattle.chip_run.specs.Waiting.{IsLooking, BarWaits, AtRoot, AtMember}
-use Rattle.rcce_run.specs.Sweep.{Refused, Stood, Running, Stopped, Vain, Swept, keep, slots_by, outgoing, Holds}
+use Rattle.rcce_run.specs.Sweep.{Refused, IsStateOfRecord, Running, Stopped, Vain, Swept, keep, slots_by, outgoing, HoldsStates}
 use Rattle.rcce_run.proofs.Holding.{posted_there, mixed, mixed_here, mixed_next, rank_after_rank, holds_same, holds_cell, next_held, slot_held}
 use Rattle.rcce_run.proofs.Reach.{Leads, reach}
 use Rattle.chip_run.proofs.Offers.{message_on, one_ahead, slot_full}
@@ -47,12 +47,12 @@ pub record Posting (to : ℕ) (m : Progress) (o : Option OnItsWay) : Type 0 wher
   pub post : OnItsWay
   pub is_posted : o ≡ Some post
   pub to_is : post.to ≡ to
-  pub message_is : begun post.head ≡ m
+  pub message_is : fresh_message post.head ≡ m
 
 offered_post : (to : ℕ) (a : Bool) (m : Progress) (c : Notes) (o : Option OnItsWay) → side_of_post to o ≡ Offering a true m c → Posting to m o
 offered_post to a m c None is = absurd (cc (is))
 offered_post to a m c (Some post) is = same_or_other (Posting to m (Some post)) post.to to
-    (λ t e. let side : Offering post.is_answered true (begun post.head) post.chunk ≡ Offering a true m c = sym (post_here to post t) ∙ is in
+    (λ t e. let side : Offering post.is_answered true (fresh_message post.head) post.chunk ≡ Offering a true m c = sym (post_here to post t) ∙ is in
     record { post = post; is_posted = refl; to_is = e; message_is = cc (side) })
     (λ t ne. absurd (let side : Resting None ≡ Offering a true m c = sym (post_there to post t) ∙ is in cc (side)))
 
@@ -80,7 +80,7 @@ same_part a p m c Answered message chunk is = cc (is)
 no_post : (to : ℕ) (a : Bool) (m : Progress) (c : Notes) (o : Option OnItsWay) → side_of_post to o ≡ Offering a false m c → ⊥
 no_post to a m c None is = cc (is)
 no_post to a m c (Some post) is = same_or_other ⊥ post.to to
-    (λ t e. let side : Offering post.is_answered true (begun post.head) post.chunk ≡ Offering a false m c = sym (post_here to post t) ∙ is in cc (side))
+    (λ t e. let side : Offering post.is_answered true (fresh_message post.head) post.chunk ≡ Offering a false m c = sym (post_here to post t) ∙ is in cc (side))
     (λ t ne. let side : Resting None ≡ Offering a false m c = sym (post_there to post t) ∙ is in cc (side))
 
 pub sending : (to : ℕ) (a : Bool) (m : Progress) (c : Notes) (st : Stage) (o : Option OnItsWay) → sending_side to st o ≡ Offering a false m c → (part : Part) × (chunk : Notes) × (st ≡ Sending to part m chunk)
@@ -103,7 +103,7 @@ module _ {U : Type 0} (next : U → Next U) (s : SetupView) (memory : Memory) (r
   record First (k : ℕ) : Type 0 where
     before : U
     end : Option Posted
-    did : Did next before end (starts k) None (passed_calls s records k)
+    did : DidCalls next before end (starts k) None (passed_calls s records k)
     after : k < s.nue → (before ≡ states k) ⊎ Refused next s k (records k) before (states k)
     last : k < s.nue → end ≡ lasts k
 
@@ -113,18 +113,18 @@ module _ {U : Type 0} (next : U → Next U) (s : SetupView) (memory : Memory) (r
   slot_past : (k : ℕ) → s.nue ≤ k → slot_of s records k ≡ None
   slot_past k past = ap (λ (r : Record). slot_by (chunk_of s) k r.post records) (sw.agrees.singles.1 k past)
 
-  first_stood : (k : ℕ) → k < s.nue → Stood next s k (starts k) (records k) (states k) (lasts k) → First k
+  first_stood : (k : ℕ) → k < s.nue → IsStateOfRecord next s k (starts k) (records k) (states k) (lasts k) → First k
   first_stood k low (Running did) = record {
     before = states k;
     end = lasts k;
-    did = subst (Did next (states k) (lasts k) (starts k) None) (sym (none_passed next s memory records starts states lasts sw k low)) did;
+    did = subst (DidCalls next (states k) (lasts k) (starts k) None) (sym (none_passed next s memory records starts states lasts sw k low)) did;
     after = λ below. inl refl;
     last = λ below. refl;
   }
   first_stood k low (Stopped before did refused) = record {
     before = before;
     end = lasts k;
-    did = subst (Did next before (lasts k) (starts k) None) (sym (none_passed next s memory records starts states lasts sw k low)) did;
+    did = subst (DidCalls next before (lasts k) (starts k) None) (sym (none_passed next s memory records starts states lasts sw k low)) did;
     after = λ below. inr refused;
     last = λ below. refl;
   }
@@ -134,7 +134,7 @@ module _ {U : Type 0} (next : U → Next U) (s : SetupView) (memory : Memory) (r
   first_by k (inr past) = record {
     before = starts k;
     end = None;
-    did = subst (Did next (starts k) None (starts k) None) (sym (passed_past k past)) Here;
+    did = subst (DidCalls next (starts k) None (starts k) None) (sym (passed_past k past)) Here;
     after = λ low. absurd (omega (arith, low, past));
     last = λ low. absurd (omega (arith, low, past));
   }
@@ -150,17 +150,17 @@ module _ {U : Type 0} (next : U → Next U) (s : SetupView) (memory : Memory) (r
 
   -- plain steps lead to a configuration that holds these states
   abbrev pub LeadsTo : (ℕ → U) → Configuration U → Type 0
-  LeadsTo cells c = (f : Configuration U) × (n : ℕ) × Runs (IsStep (setup_key s) next) (λ d. d ≡ f) n c × Holds s.nue f cells (slots_by s records lasts)
+  LeadsTo cells c = (f : Configuration U) × (n : ℕ) × Runs (IsStepOf (setup_key s) next) (λ d. d ≡ f) n c × HoldsStates s.nue f cells (slots_by s records lasts)
 
-  leads_step : (cells : ℕ → U) (a : ℕ) (c d : Configuration U) → IsStep (setup_key s) next a c d → LeadsTo cells d → LeadsTo cells c
+  leads_step : (cells : ℕ → U) (a : ℕ) (c d : Configuration U) → IsStepOf (setup_key s) next a c d → LeadsTo cells d → LeadsTo cells c
   leads_step cells a c d step (f, n, run, holds) = (f, suc n, (a, d, step, run), holds)
 
-  leads_on : (cells others : ℕ → U) → ((d : Configuration U) → Holds s.nue d cells Slots → LeadsTo others d) → (n : ℕ) (c f : Configuration U) → Runs (IsStep (setup_key s) next) (λ d. d ≡ f) n c
-      → Holds s.nue f cells Slots → LeadsTo others c
-  leads_on cells others finish zero c f same holds = finish c (subst (λ (d : Configuration U). Holds s.nue d cells Slots) (sym same) holds)
+  leads_on : (cells others : ℕ → U) → ((d : Configuration U) → HoldsStates s.nue d cells Slots → LeadsTo others d) → (n : ℕ) (c f : Configuration U) → Runs (IsStepOf (setup_key s) next) (λ d. d ≡ f) n c
+      → HoldsStates s.nue f cells Slots → LeadsTo others c
+  leads_on cells others finish zero c f same holds = finish c (subst (λ (d : Configuration U). HoldsStates s.nue d cells Slots) (sym same) holds)
   leads_on cells others finish (suc n) c f (a, d, step, run) holds = leads_step others a c d step (leads_on cells others finish n d f run holds)
 
-  by_reach : (c : Configuration U) → Holds s.nue c starts (λ k. None) → Leads s.nue (setup_key s) next befores (λ k. (first k).end) (slot_of s records) c
+  by_reach : (c : Configuration U) → HoldsStates s.nue c starts (λ k. None) → Leads s.nue (setup_key s) next befores (λ k. (first k).end) (slot_of s records) c
   by_reach c holds =
       let (n, run) = sw.agrees.calls in
       let used : IsUsedUp (slot_of s records) ≡ IsUsedUp (slot_of s records) = refl in
@@ -182,7 +182,7 @@ module _ {U : Type 0} (next : U → Next U) (s : SetupView) (memory : Memory) (r
   same_slots k low = ap (keep (slot_of s records k)) ((first k).last low)
 
   -- the slots, told by the records
-  told_by : (c : Configuration U) → Holds s.nue c starts (λ k. None) → (k : ℕ) → option_map outgoing (slots_by s records lasts k) ≡ slot_of s records k
+  told_by : (c : Configuration U) → HoldsStates s.nue c starts (λ k. None) → (k : ℕ) → option_map outgoing (slots_by s records lasts k) ≡ slot_of s records k
   told_by c holds k =
       let (f, n, run, held, told) = by_reach c holds in
       ⊎_elim
@@ -222,7 +222,7 @@ module _ {U : Type 0} (next : U → Next U) (s : SetupView) (memory : Memory) (r
         (theirs : next (states refused.from) ≢ Ends → next_at next c refused.from ≡ next (states refused.from)) where
       -- the mismatch of one rank is a plain step to the state where it is stopped
       abbrev IsRefusal : Type 0
-      IsRefusal = IsStep (setup_key s) next k c (with_cell c k (states k))
+      IsRefusal = IsStepOf (setup_key s) next k c (with_cell c k (states k))
 
       below : refused.from < s.nue
       below = (peers_are s refused.from k refused.peers).one
@@ -259,14 +259,14 @@ module _ {U : Type 0} (next : U → Next U) (s : SetupView) (memory : Memory) (r
       refusal =
           let i = refused.from in
           let raise = when_seen (chunk_of s) (pair_of i k (view_of s memory) (records i) (records k)) refused.header refused.seen (sw.agrees.pairs i k refused.peers) in
-          let m : Progress = resumed raise.through raise.head in
+          let m : Progress = message_so_far raise.through raise.head in
           let stands : StandsIn refused.header ((view_of s memory).header i) = subst (λ (o : Option Notes). NotesStand o ((view_of s memory).header i)) refused.seen raise.is.notes in
           by_kind raise m refl
           (head_is refused.header m.head raise.is_post ((view_of s memory).header i) refused.noted stands
           (offers s i k false raise.is_post m raise.chunk ((view_of s memory).header i) ((view_of s memory).chunk i) (records i) (sw.agrees.singles.0 i below) (sw.agrees.senders i below) raise.is.sending).line)
           raise.is_post refl
         where
-          by_kind : (raise : Raise (chunk_of s) (pair_of refused.from k (view_of s memory) (records refused.from) (records k))) (m : Progress) → resumed raise.through raise.head ≡ m
+          by_kind : (raise : Raise (chunk_of s) (pair_of refused.from k (view_of s memory) (records refused.from) (records k))) (m : Progress) → message_so_far raise.through raise.head ≡ m
               → head_of refused.header ≡ m.head → (b : Bool) → raise.is_post ≡ b → IsRefusal
           by_kind raise m is head true post =
               let side : sending_side k (records refused.from).stage (records refused.from).post ≡ Offering false true m raise.chunk =
@@ -291,7 +291,7 @@ module _ {U : Type 0} (next : U → Next U) (s : SetupView) (memory : Memory) (r
         by true = refl
         by false = same
 
-    refuse_one : (n : ℕ) → n < s.nue → (c : Configuration U) → Holds s.nue c (mixed states befores n) Slots → ((d : Configuration U) → Holds s.nue d (mixed states befores (suc n)) Slots → LeadsTo states d) → LeadsTo states c
+    refuse_one : (n : ℕ) → n < s.nue → (c : Configuration U) → HoldsStates s.nue c (mixed states befores n) Slots → ((d : Configuration U) → HoldsStates s.nue d (mixed states befores (suc n)) Slots → LeadsTo states d) → LeadsTo states c
     refuse_one n low c holds finish =
         ⊎_elim
         (λ (same : befores n ≡ states n).
@@ -304,23 +304,23 @@ module _ {U : Type 0} (next : U → Next U) (s : SetupView) (memory : Memory) (r
         (λ goes. let below = (peers_are s refused.from n refused.peers).one in
         next_held s.nue next c (mixed states befores n) Slots holds refused.from below ∙ ap next (unmoved n refused.from below goes)))
         (finish (with_cell c n (states n))
-        (holds_same s.nue (with_cell c n (states n)) (put (mixed states befores n) n (states n)) (mixed states befores (suc n)) Slots Slots
+        (holds_same s.nue (with_cell c n (states n)) (table_with (mixed states befores n) n (states n)) (mixed states befores (suc n)) Slots Slots
         (holds_cell s.nue c (mixed states befores n) Slots n (states n) holds) (λ k below. mixed_next states befores n k) (λ k below. refl))))
         ((first n).after low)
       where
-        kept : befores n ≡ states n → (k : ℕ) → mixed states befores n k ≡ put (mixed states befores n) n (states n) k
-        kept same k = same_or_other (mixed states befores n k ≡ put (mixed states befores n) n (states n) k) k n
+        kept : befores n ≡ states n → (k : ℕ) → mixed states befores n k ≡ table_with (mixed states befores n) n (states n) k
+        kept same k = same_or_other (mixed states befores n k ≡ table_with (mixed states befores n) n (states n) k) k n
             (λ t e. ap (mixed states befores n) e ∙ mixed_here states befores n ∙ same ∙ sym (ap (λ (b : Bool). if b then states n else mixed states befores n k) t))
             (λ t ne. sym (ap (λ (b : Bool). if b then states n else mixed states befores n k) t))
 
-    refusals : (c : Configuration U) → Holds s.nue c befores Slots → LeadsTo states c
+    refusals : (c : Configuration U) → HoldsStates s.nue c befores Slots → LeadsTo states c
     refusals c holds = rank_after_rank s.nue (LeadsTo states) befores states Slots refuse_one c holds (λ d held. (d, 0, refl, held))
 
-  pub leads : (c : Configuration U) → Holds s.nue c starts (λ k. None) → LeadsTo states c
+  pub leads : (c : Configuration U) → HoldsStates s.nue c starts (λ k. None) → LeadsTo states c
   leads c holds =
       let (f, n, run, held, told) = by_reach c holds in
       leads_on befores states (refusals (told_by c holds)) n c f run
       (holds_same s.nue f befores befores (λ k. keep (slot_of s records k) (first k).end) Slots held (λ k low. refl) same_slots)
 
-  pub told : (c : Configuration U) → Holds s.nue c starts (λ k. None) → (k : ℕ) → option_map outgoing (slots_by s records lasts k) ≡ slot_of s records k
+  pub told : (c : Configuration U) → HoldsStates s.nue c starts (λ k. None) → (k : ℕ) → option_map outgoing (slots_by s records lasts k) ≡ slot_of s records k
   told c holds = told_by c holds

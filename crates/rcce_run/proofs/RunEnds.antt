@@ -10,11 +10,11 @@ use Rattle.scc_proto.specs.Words.{Memory}
 use Rattle.scc_mesh.specs.Scenes.{ChipView, about_in, events_in, records_in}
 use Rattle.script_reader.specs.Script.{Script, rules_of}
 use Rattle.script_machine.specs.declared.posts.Posted.{Posted}
-use Rattle.script_plain.specs.Collectives.{started}
+use Rattle.script_plain.specs.Collectives.{start_of_rank}
 use Rattle.script_machine.specs.declared.ends.UeEnd.TheVariants as ue_end
 use Rattle.script_plain.specs.Ends.{ended_at}
 use Rattle.script_machine.specs.Local.{Local, end_of, local_next}
-use Rattle.script_plain.specs.Meaning.{State, next_of, plain_ends, recorded}
+use Rattle.script_plain.specs.Meaning.{State, next_of, plain_ends, next_with_calls}
 use Rattle.script_machine.specs.Next.{Next}
 use Rattle.script_machine.specs.Next.Next.{Ends}
 use Rattle.rcce_ue.specs.Standing.{Tied}
@@ -23,15 +23,15 @@ use Rattle.chip_run.specs.declared.ends.RunEnd.{RunEnd}
 use Rattle.chip_run.specs.declared.ends.RunEnd.TheVariants as run_end
 use Rattle.chip_run.specs.Conducts.{Conduct, Later, WorkerView}
 use Rattle.chip_run.specs.Crews.{AllRest, RunEndedAs, CrewGoesOn, IsCrew}
-use Rattle.chip_run.specs.Turns.{HasFinished, IsOver, RestsAt}
+use Rattle.chip_run.specs.Turns.{HasFinished, WantsNothing, RestsAt}
 use Rattle.chip_run.specs.Waiting.{SlotWaits, Waits}
 use Rattle.chip_run.proofs.LaterLaws.{later_keeps}
 use Rattle.chip_run.proofs.WaitsLike.{slot_like, waits_like}
 use Rattle.rcce_run.specs.Crews.{AllRun, EndsAs, IsAtEnd, crew_locals}
 use Rattle.rcce_run.specs.Scripts.{IsSwept}
-use Rattle.rcce_run.specs.Sweep.{Stood, Vain, slots_by}
+use Rattle.rcce_run.specs.Sweep.{IsStateOfRecord, Vain, slots_by}
 use Rattle.rcce_ue.specs.Workers.{UeStands, slot_awaited, ue_seen, ue_want, want_at_end}
-use Rattle.rcce_run.specs.Ues.{Fits, state_of}
+use Rattle.rcce_run.specs.Ues.{FitsRecord, state_of}
 use Rattle.rcce_run.proofs.UeFits.{some_sight, tied_fits, tied_slot}
 use Rattle.rcce_run.proofs.OpenCalls.{open_is_next}
 use Rattle.rcce_run.proofs.PlainEnds.{finished_end, plain_end_at, stopped_end, waiting_end}
@@ -52,7 +52,7 @@ still_run {A} c ue runs script chip now crew later goes all k d low =
     later_keeps c (λ (x : A). (ue x).machine.script) runs.moved runs.stayed (slice_index_or crew k d) (slice_index_or later k d) (goes.each k d within) ∙ all k d within
 
 -- a UE that is over has nothing left
-pub over_ends : (u : UeView) (rec : Record) → IsOver rec (ue_seen u) → local_next u.machine.local ≡ Ends
+pub over_ends : (u : UeView) (rec : Record) → WantsNothing rec (ue_seen u) → local_next u.machine.local ≡ Ends
 over_ends u rec over = nothing_ends (want_at_end (slot_awaited u)) (local_next u.machine.local) over.ends
 
 none_posted : (o : Option OnItsWay) → option_map (λ (post : OnItsWay). post.to) o ≡ None → o ≡ None
@@ -85,7 +85,7 @@ module _ {A : Type 0} (c : Conduct A) (ue : A → UeView) (runs : RunsUes c ue) 
   abbrev tied_at : (k : ℕ) → k < s.nue → Tied (ue_at k) (some_sight s k (events_in chip k))
   tied_at k low = (runs.stands (slice_index_or crew k d) s k (events_in chip k) (is_crew.ties k d (within k low))).tied (some_sight s k (events_in chip k)) refl refl refl
 
-  pub fit : (k : ℕ) → k < s.nue → Fits (ue_at k) s k (events_in chip k)
+  pub fit : (k : ℕ) → k < s.nue → FitsRecord (ue_at k) s k (events_in chip k)
   fit k low = tied_fits (ue_at k) s k (events_in chip k) (tied_at k low)
 
   abbrev last_by : (k : ℕ) → (k < s.nue) ⊎ (s.nue ≤ k) → Option Posted
@@ -95,18 +95,18 @@ module _ {A : Type 0} (c : Conduct A) (ue : A → UeView) (runs : RunsUes c ue) 
   abbrev lasts : ℕ → Option Posted
   lasts k = last_by k (cases_lt k s.nue)
 
-  stood_by : (k : ℕ) (o : (k < s.nue) ⊎ (s.nue ≤ k)) → k < s.nue → Stood next_of s k (started script k) (records k) (states k) (last_by k o)
+  stood_by : (k : ℕ) (o : (k < s.nue) ⊎ (s.nue ≤ k)) → k < s.nue → IsStateOfRecord next_of s k (start_of_rank script k) (records k) (states k) (last_by k o)
   stood_by k (inl below) low =
-      subst (λ (x : Script). Stood next_of s k (started x k) (records k) (states k) (fit k below).last) (all_run k d (within k low)) (fit k below).stood
+      subst (λ (x : Script). IsStateOfRecord next_of s k (start_of_rank x k) (records k) (states k) (fit k below).last) (all_run k d (within k low)) (fit k below).stood
   stood_by k (inr past) low = absurd (omega (arith, low, past))
 
   -- what a UE wants and has
   pub rests_as : (b : Bool) (k : ℕ) → RestsAt b s records k (c.seen s k (slice_index_or crew k d)) → RestsAt b s records k (ue_seen (ue_at k))
   rests_as b k rests = subst (λ (w : WorkerView). RestsAt b s records k w) (runs.shows s k (slice_index_or crew k d)) rests
 
-  over_vain : (k : ℕ) → IsOver (records k) (ue_seen (ue_at k)) → Vain s (view_of s memory) k (records k) (next_of (states k))
+  over_vain : (k : ℕ) → WantsNothing (records k) (ue_seen (ue_at k)) → Vain s (view_of s memory) k (records k) (next_of (states k))
   over_vain k over =
-      subst (λ (n : Next Local). Vain s (view_of s memory) k (records k) (recorded (records k).calls n)) (sym (over_ends (ue_at k) (records k) over)) over.idle
+      subst (λ (n : Next Local). Vain s (view_of s memory) k (records k) (next_with_calls (records k).calls n)) (sym (over_ends (ue_at k) (records k) over)) over.idle
 
   vain_by : (b : Bool) (k : ℕ) → k < s.nue → RestsAt b s records k (ue_seen (ue_at k)) → Vain s (view_of s memory) k (records k) (next_of (states k))
   vain_by true k low rests = over_vain k rests.over
@@ -134,7 +134,7 @@ module _ {A : Type 0} (c : Conduct A) (ue : A → UeView) (runs : RunsUes c ue) 
     at_end = record {
       lasts = lasts;
       ends = script_ends script s memory records states lasts is_swept;
-      opened = open_is_next next_of s memory records (started script) states lasts is_swept.swept;
+      opened = open_is_next next_of s memory records (start_of_rank script) states lasts is_swept.swept;
     }
 
     end_at : (k : ℕ) → k < script.nue → (ended_at (plain_ends script) k).end ≡ end_of (slots_by s records lasts k) (crew_locals ue crew d k)

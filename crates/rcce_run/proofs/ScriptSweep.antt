@@ -17,38 +17,38 @@ use Rattle.scc_proto.specs.Views.{view_of}
 use Rattle.scc_proto.specs.Words.{Memory}
 use Rattle.script_reader.specs.Script.{Script}
 use Rattle.script_machine.specs.declared.posts.Posted.{Posted}
-use Rattle.script_plain.specs.Collectives.{started}
+use Rattle.script_plain.specs.Collectives.{start_of_rank}
 use Rattle.script_plain.specs.Meaning.{IsPlainStep, State, keys_of, next_of, plain_end, start_of, steps_left}
 use Rattle.script_machine.specs.Next.Next.{Recvs}
-use Rattle.script_plain.specs.Step.{IsStep}
+use Rattle.script_plain.specs.Step.{IsStepOf}
 use Rattle.script_plain.proofs.OwnWays.CameDid.{did_matched, logged}
 use Rattle.script_plain.proofs.Orders.EndLaws.{is_still, reached}
 use Rattle.script_plain.proofs.Runs.PlainLaws.{plain_end_still}
 use Rattle.rcce_run.specs.Scripts.{IsSwept}
 use Rattle.chip_run.specs.Waiting.{SlotWaits}
-use Rattle.rcce_run.specs.Sweep.{Stood, Running, Stopped, keep, slots_by, outgoing, at_rank, Holds}
+use Rattle.rcce_run.specs.Sweep.{IsStateOfRecord, Running, Stopped, keep, slots_by, outgoing, at_rank, HoldsStates}
 use Rattle.rcce_run.proofs.Holding.{at_below, at_past, posted_there}
 use Rattle.rcce_run.proofs.Refusals.{told}
 use Rattle.chip_run.proofs.Offers.{message_on, post_in_slot}
 use Rattle.rcce_run.proofs.SweepLaw.{swept_ends}
 
 -- the start of a script, read by rank
-pub start_holds : (script : Script) → Holds script.nue (start_of script) (started script) (λ k. None)
+pub start_holds : (script : Script) → HoldsStates script.nue (start_of script) (start_of_rank script) (λ k. None)
 start_holds script = record { cells_at = cell; slots_at = slot }
   where
     cells : List State
-    cells = map (λ (rank : ℕ). started script rank) (range_with_len 0 script.nue)
+    cells = map (λ (rank : ℕ). start_of_rank script rank) (range_with_len 0 script.nue)
 
-    cell : (k : ℕ) → slice_get (start_of script).cells k ≡ at_rank script.nue k (started script k)
+    cell : (k : ℕ) → slice_get (start_of script).cells k ≡ at_rank script.nue k (start_of_rank script k)
     cell k =
         ⊎_elim
         (λ (low : k < script.nue).
-        slice_get-get_or (start_of script).cells k (started script k) (subst (λ (n : ℕ). k < n) (sym (length-map-range_with_len (started script) 0 script.nue)) low)
-        ∙ ap Some (get_or-map-range_with_len (started script) 0 script.nue k k (started script k) low (omega arith))
-        ∙ sym (at_below script.nue k (started script k) low))
+        slice_get-get_or (start_of script).cells k (start_of_rank script k) (subst (λ (n : ℕ). k < n) (sym (length-map-range_with_len (start_of_rank script) 0 script.nue)) low)
+        ∙ ap Some (get_or-map-range_with_len (start_of_rank script) 0 script.nue k k (start_of_rank script k) low (omega arith))
+        ∙ sym (at_below script.nue k (start_of_rank script k) low))
         (λ (past : script.nue ≤ k).
-        slice_get_past (start_of script).cells k (subst (λ (n : ℕ). n ≤ k) (sym (length-map-range_with_len (started script) 0 script.nue)) past)
-        ∙ sym (at_past script.nue k (started script k) past))
+        slice_get_past (start_of script).cells k (subst (λ (n : ℕ). n ≤ k) (sym (length-map-range_with_len (start_of_rank script) 0 script.nue)) past)
+        ∙ sym (at_past script.nue k (start_of_rank script k) past))
         (cases_lt k script.nue)
 
     slot : (k : ℕ) → slice_get (start_of script).slots k ≡ at_rank script.nue k None
@@ -67,22 +67,22 @@ module _ (script : Script) (s : SetupView) (memory : Memory) (records : ℕ → 
   same_keys : setup_key s ≡ keys_of script
   same_keys = ap key_of sw.comms
 
-  start : Holds s.nue (start_of script) (started script) (λ k. None)
-  start = subst (λ (n : ℕ). Holds n (start_of script) (started script) (λ k. None)) (sym sw.ranks) (start_holds script)
+  start : HoldsStates s.nue (start_of script) (start_of_rank script) (λ k. None)
+  start = subst (λ (n : ℕ). HoldsStates n (start_of script) (start_of_rank script) (λ k. None)) (sym sw.ranks) (start_holds script)
 
-  pub script_ends : Holds script.nue (plain_end script) states (slots_by s records lasts)
+  pub script_ends : HoldsStates script.nue (plain_end script) states (slots_by s records lasts)
   script_ends =
       let (n, run) = reached (keys_of script) next_of (steps_left (start_of script)) (start_of script) (plain_end_still script) in
-      let here : Runs (IsStep (setup_key s) next_of) (EndsAt (IsStep (setup_key s) next_of) (plain_end script)) n (start_of script) =
-      subst (λ (keys : ℕ → ℕ → ℕ). Runs (IsStep keys next_of) (EndsAt (IsStep keys next_of) (plain_end script)) n (start_of script)) (sym same_keys) run in
-      subst (λ (m : ℕ). Holds m (plain_end script) states (slots_by s records lasts)) sw.ranks
-      (swept_ends next_of s memory records (started script) states lasts sw.swept n (start_of script) (plain_end script) start here)
+      let here : Runs (IsStepOf (setup_key s) next_of) (EndsAt (IsStepOf (setup_key s) next_of) (plain_end script)) n (start_of script) =
+      subst (λ (keys : ℕ → ℕ → ℕ). Runs (IsStepOf keys next_of) (EndsAt (IsStepOf keys next_of) (plain_end script)) n (start_of script)) (sym same_keys) run in
+      subst (λ (m : ℕ). HoldsStates m (plain_end script) states (slots_by s records lasts)) sw.ranks
+      (swept_ends next_of s memory records (start_of_rank script) states lasts sw.swept n (start_of script) (plain_end script) start here)
 
   pub script_still : IsStill (IsPlainStep (keys_of script)) (plain_end script)
   script_still = is_still (keys_of script) next_of (plain_end script) (plain_end_still script)
 
   pub script_slots : (k : ℕ) → option_map outgoing (slots_by s records lasts k) ≡ slot_of s records k
-  script_slots k = told next_of s memory records (started script) states lasts sw.swept (start_of script) start k
+  script_slots k = told next_of s memory records (start_of_rank script) states lasts sw.swept (start_of script) start k
 
   pub script_waits : (k : ℕ) → k < s.nue → SlotWaits (view_of s memory) k (records k) → (message : Posted) × (lasts k ≡ Some message) × (slots_by s records lasts k ≡ Some message)
   script_waits k low waits =
@@ -93,13 +93,13 @@ module _ (script : Script) (s : SetupView) (memory : Memory) (records : ℕ → 
   pub script_empty : (k : ℕ) → (records k).post ≡ None → slots_by s records lasts k ≡ None
   script_empty k none = ap (λ (o : Option OnItsWay). keep (slot_by (chunk_of s) k o records) (lasts k)) none
 
-  calls_by : (k : ℕ) → Stood next_of s k (started script k) (records k) (states k) (lasts k) → (records k).calls ≡ (states k).matched
-  calls_by k (Running did) = sym (did_matched (states k) (lasts k) (started script k) None (records k).calls did)
+  calls_by : (k : ℕ) → IsStateOfRecord next_of s k (start_of_rank script k) (records k) (states k) (lasts k) → (records k).calls ≡ (states k).matched
+  calls_by k (Running did) = sym (did_matched (states k) (lasts k) (start_of_rank script k) None (records k).calls did)
   calls_by k (Stopped before did refused) =
       let same : (states k).matched ≡ before.matched =
       ap (λ (u : State). u.matched) refused.stopped
       ∙ (logged before (Recvs refused.from refused.asked refused.take refused.refuse) refused.stands).1 _ in
-      sym (same ∙ did_matched before (lasts k) (started script k) None (records k).calls did)
+      sym (same ∙ did_matched before (lasts k) (start_of_rank script k) None (records k).calls did)
 
   pub script_calls : (k : ℕ) → k < s.nue → (records k).calls ≡ (states k).matched
   script_calls k low = calls_by k (sw.swept.stands k low)

@@ -11,23 +11,23 @@ use Rattle.scc_proto.specs.Records.{record_of}
 use Rattle.scc_proto.specs.Stages.{Record}
 use Rattle.scc_mesh.specs.Scenes.{ChipView, about_in, events_in, records_in}
 use Rattle.script_reader.specs.Script.{Script}
-use Rattle.script_reader.specs.Settled.{IsWhole}
+use Rattle.script_reader.specs.Settled.{IsWholeScript}
 use Rattle.script_machine.specs.declared.posts.Posted.{Posted}
-use Rattle.script_plain.specs.Collectives.{started}
-use Rattle.script_machine.specs.Local.{Local, cost_of, local_next, local_start}
-use Rattle.script_plain.specs.Meaning.{State, next_of, recorded}
+use Rattle.script_plain.specs.Collectives.{start_of_rank}
+use Rattle.script_machine.specs.Local.{Local, most_steps_left, local_next, local_start}
+use Rattle.script_plain.specs.Meaning.{State, next_of, next_with_calls}
 use Rattle.script_machine.specs.Next.{Next}
 use Rattle.script_machine.specs.Next.Next.{Ends, Goes, Posts, Sends, Recvs, Bars}
 use Rattle.script_plain.specs.Paths.{Came}
 use Rattle.script_plain.specs.Paths.Came.{Began, Went, Leaves, Passed, Took, Joined}
-use Rattle.script_plain.specs.Ready.{IsReady}
+use Rattle.script_plain.specs.Ready.{CanMakeNext}
 use Rattle.script_plain.proofs.OwnWays.CameDid.{logged}
 use Rattle.script_plain.proofs.Runs.Costs.{Lowers}
 use Rattle.script_plain.proofs.Runs.PlainLaws.{state_lowers}
 use Rattle.script_plain.proofs.ProgramLengths.ReadyLemmas.{ready-law}
 use Rattle.rcce_ue.specs.Standing as ue
 use Rattle.rcce_ue.specs.Standing.{Tied, bytes_sent}
-use Rattle.rcce_ue.specs.Ues.{UeView, is_sending}
+use Rattle.rcce_ue.specs.Ues.{UeView, is_send_call}
 use Rattle.chip_run.specs.declared.members.Member.{Member}
 use Rattle.chip_run.specs.Crews.{IsCrew}
 use Rattle.rcce_run.specs.Crews.{AllRun}
@@ -36,46 +36,46 @@ use Rattle.rcce_run.specs.UeRuns.{ue_members, member_ue}
 use Rattle.rcce_run.proofs.UeFits.{some_sight}
 
 -- the sends and posts among calls, and their bytes, with one call more
-count_more : (calls : List DataCall) (call : DataCall) → count_by is_sending (calls ++ call ∷ []) ≡ count_by is_sending calls + cond (is_sending call) 1 0
-count_more calls call = let added = sum_by-append (λ (x : DataCall). cond (is_sending x) 1 0) calls (call ∷ []) in omega (arith, added)
+count_more : (calls : List DataCall) (call : DataCall) → count_by is_send_call (calls ++ call ∷ []) ≡ count_by is_send_call calls + cond (is_send_call call) 1 0
+count_more calls call = let added = sum_by-append (λ (x : DataCall). cond (is_send_call x) 1 0) calls (call ∷ []) in omega (arith, added)
 
 bytes_more : (calls : List DataCall) (call : DataCall) → sum_by bytes_sent (calls ++ call ∷ []) ≡ sum_by bytes_sent calls + bytes_sent call
 bytes_more calls call = let added = sum_by-append bytes_sent calls (call ∷ []) in omega (arith, added)
 
 -- few messages, and short ones
 record AreFew (calls : List DataCall) (left most : ℕ) : Type 0 where
-  few : count_by is_sending calls + left ≤ most
-  short : sum_by bytes_sent calls ≤ 65536 * count_by is_sending calls
+  few : count_by is_send_call calls + left ≤ most
+  short : sum_by bytes_sent calls ≤ 65536 * count_by is_send_call calls
 
 -- fewer steps are left, and nothing is sent, or one message
 few_same : (calls now : List DataCall) (left less most : ℕ) → now ≡ calls → less < left → AreFew calls left most → AreFew now less most
 few_same calls now left less most same low few =
     subst (λ (l : List DataCall). AreFew l less most) (sym same) (record { few = omega (arith, few.few, low); short = few.short })
 
-few_quiet : (calls now : List DataCall) (call : DataCall) (left less most : ℕ) → now ≡ calls ++ call ∷ [] → is_sending call ≡ false → bytes_sent call ≡ 0 → less < left → AreFew calls left most → AreFew now less most
+few_quiet : (calls now : List DataCall) (call : DataCall) (left less most : ℕ) → now ≡ calls ++ call ∷ [] → is_send_call call ≡ false → bytes_sent call ≡ 0 → less < left → AreFew calls left most → AreFew now less most
 few_quiet calls now call left less most same quiet none low few =
-    let count : count_by is_sending (calls ++ call ∷ []) ≡ count_by is_sending calls = count_more calls call ∙ ap (λ (b : Bool). count_by is_sending calls + cond b 1 0) quiet ∙ omega arith in
+    let count : count_by is_send_call (calls ++ call ∷ []) ≡ count_by is_send_call calls = count_more calls call ∙ ap (λ (b : Bool). count_by is_send_call calls + cond b 1 0) quiet ∙ omega arith in
     let bytes = bytes_more calls call in
     subst (λ (l : List DataCall). AreFew l less most) (sym same) (record {
       few = omega (arith, few.few, low, count);
       short = omega (arith, few.short, count, bytes, none);
     })
 
-few_more : (calls now : List DataCall) (call : DataCall) (left less most : ℕ) → now ≡ calls ++ call ∷ [] → is_sending call ≡ true → bytes_sent call ≤ 65536 → less < left → AreFew calls left most → AreFew now less most
+few_more : (calls now : List DataCall) (call : DataCall) (left less most : ℕ) → now ≡ calls ++ call ∷ [] → is_send_call call ≡ true → bytes_sent call ≤ 65536 → less < left → AreFew calls left most → AreFew now less most
 few_more calls now call left less most same sends short low few =
-    let count : count_by is_sending (calls ++ call ∷ []) ≡ count_by is_sending calls + 1 = count_more calls call ∙ ap (λ (b : Bool). count_by is_sending calls + cond b 1 0) sends in
+    let count : count_by is_send_call (calls ++ call ∷ []) ≡ count_by is_send_call calls + 1 = count_more calls call ∙ ap (λ (b : Bool). count_by is_send_call calls + cond b 1 0) sends in
     let bytes = bytes_more calls call in
     subst (λ (l : List DataCall). AreFew l less most) (sym same) (record {
       few = omega (arith, few.few, low, count);
       short = omega (arith, few.short, count, bytes, short);
     })
 
-module _ (script : Script) (rank : ℕ) (whole : IsWhole script.nue script.items) (within : rank < script.nue) where
-  lowered : (u : State) (n : Next State) → next_of u ≡ n → Lowers (λ (v : State). cost_of v.local) (cost_of u.local) n
-  lowered u n is = subst (Lowers (λ (v : State). cost_of v.local) (cost_of u.local)) is (state_lowers u)
+module _ (script : Script) (rank : ℕ) (whole : IsWholeScript script.nue script.items) (within : rank < script.nue) where
+  lowered : (u : State) (n : Next State) → next_of u ≡ n → Lowers (λ (v : State). most_steps_left v.local) (most_steps_left u.local) n
+  lowered u n is = subst (Lowers (λ (v : State). most_steps_left v.local) (most_steps_left u.local)) is (state_lowers u)
 
   -- the call that stands next can be made
-  recorded_ready : (calls : List DataCall) (n : Next Local) → IsReady script rank n → IsReady script rank (recorded calls n)
+  recorded_ready : (calls : List DataCall) (n : Next Local) → CanMakeNext script rank n → CanMakeNext script rank (next_with_calls calls n)
   recorded_ready calls Ends ready = tt
   recorded_ready calls (Goes after) ready = tt
   recorded_ready calls (Posts message after) ready = ready
@@ -83,38 +83,38 @@ module _ (script : Script) (rank : ℕ) (whole : IsWhole script.nue script.items
   recorded_ready calls (Recvs from head take refuse) ready = ready
   recorded_ready calls (Bars comm after) ready = ready
 
-  ready : (u : State) (n : Next State) (last : Option Posted) → Came next_of (started script rank) u last → next_of u ≡ n → IsReady script rank n
-  ready u n last came is = subst (IsReady script rank) is (recorded_ready u.matched (local_next u.local) (ready-law script rank whole within u last came))
+  ready : (u : State) (n : Next State) (last : Option Posted) → Came next_of (start_of_rank script rank) u last → next_of u ≡ n → CanMakeNext script rank n
+  ready u n last came is = subst (CanMakeNext script rank) is (recorded_ready u.matched (local_next u.local) (ready-law script rank whole within u last came))
 
   abbrev Few : State → Type 0
-  Few u = AreFew u.matched (cost_of u.local) (cost_of (local_start script rank))
+  Few u = AreFew u.matched (most_steps_left u.local) (most_steps_left (local_start script rank))
 
   -- a rank that has come to a state by itself
-  few_came : (u : State) (last : Option Posted) → Came next_of (started script rank) u last → Few u
+  few_came : (u : State) (last : Option Posted) → Came next_of (start_of_rank script rank) u last → Few u
   few_came u last Began = record { few = omega arith; short = omega arith }
   few_came w end (Went u v last came is) =
-      few_same u.matched v.matched (cost_of u.local) (cost_of v.local) (cost_of (local_start script rank)) (logged u (Goes v) is) (lowered u (Goes v) is) (few_came u last came)
+      few_same u.matched v.matched (most_steps_left u.local) (most_steps_left v.local) (most_steps_left (local_start script rank)) (logged u (Goes v) is) (lowered u (Goes v) is) (few_came u last came)
   few_came w end (Leaves u v last message came is) =
       let can = ready u (Posts message v) last came is in
       let fits = can.1.len_within in
       let long = can.2 in
-      few_more u.matched v.matched (Post message.to message.head message.bytes) (cost_of u.local) (cost_of v.local) (cost_of (local_start script rank)) (logged u (Posts message v) is) refl
+      few_more u.matched v.matched (Post message.to message.head message.bytes) (most_steps_left u.local) (most_steps_left v.local) (most_steps_left (local_start script rank)) (logged u (Posts message v) is) refl
       (omega (arith, fits, long)) (lowered u (Posts message v) is) (few_came u last came)
   few_came w end (Passed u v last to head bytes came is) =
       let can = ready u (Sends to head bytes v) last came is in
       let fits = can.1.len_within in
       let long = can.2 in
-      few_more u.matched v.matched (Send to head bytes) (cost_of u.local) (cost_of v.local) (cost_of (local_start script rank)) (logged u (Sends to head bytes v) is) refl
+      few_more u.matched v.matched (Send to head bytes) (most_steps_left u.local) (most_steps_left v.local) (most_steps_left (local_start script rank)) (logged u (Sends to head bytes v) is) refl
       (omega (arith, fits, long)) (lowered u (Sends to head bytes v) is) (few_came u last came)
   few_came w end (Took u last from head bytes take refuse even came is) =
-      few_quiet u.matched (take bytes).matched (Recv from head bytes) (cost_of u.local) (cost_of (take bytes).local) (cost_of (local_start script rank)) ((logged u (Recvs from head take refuse) is).0 bytes) refl refl
+      few_quiet u.matched (take bytes).matched (Recv from head bytes) (most_steps_left u.local) (most_steps_left (take bytes).local) (most_steps_left (local_start script rank)) ((logged u (Recvs from head take refuse) is).0 bytes) refl refl
       ((lowered u (Recvs from head take refuse) is).0 bytes) (few_came u last came)
   few_came w end (Joined u v last comm came is) =
-      few_quiet u.matched v.matched (Bar comm) (cost_of u.local) (cost_of v.local) (cost_of (local_start script rank)) (logged u (Bars comm v) is) refl refl
+      few_quiet u.matched v.matched (Bar comm) (most_steps_left u.local) (most_steps_left v.local) (most_steps_left (local_start script rank)) (logged u (Bars comm v) is) refl refl
       (lowered u (Bars comm v) is) (few_came u last came)
 
   -- and one that a mismatch stopped there
-  few_stood : (rec : Record) (u : Local) (last : Option Posted) → ue.Stood (started script rank) rec u last → (v : Local) × Few (ue.state_at v rec.calls)
+  few_stood : (rec : Record) (u : Local) (last : Option Posted) → ue.Stood (start_of_rank script rank) rec u last → (v : Local) × Few (ue.state_at v rec.calls)
   few_stood rec u last (ue.Runs came) = (u, few_came (ue.state_at u rec.calls) last came)
   few_stood rec u last (ue.Refused v from head sent take refuse header came is other noted says at stopped) = (v, few_came (ue.state_at v rec.calls) last came)
 
@@ -124,7 +124,7 @@ unfolding record_in
 counts_tied x s rank events tied =
     let script = x.machine.script in
     let within : rank < script.nue = subst (λ (k : ℕ). k < script.nue) (sym tied.rank_is) tied.begun.within in
-    let stood : ue.Stood (started script rank) (record_of s rank events) x.machine.local tied.last = subst (λ (k : ℕ). ue.Stood (started script k) (record_of s rank events) x.machine.local tied.last) (sym tied.rank_is) tied.stood in
+    let stood : ue.Stood (start_of_rank script rank) (record_of s rank events) x.machine.local tied.last = subst (λ (k : ℕ). ue.Stood (start_of_rank script k) (record_of s rank events) x.machine.local tied.last) (sym tied.rank_is) tied.stood in
     let few = few_stood script rank tied.begun.whole within (record_of s rank events) x.machine.local tied.last stood in
     record { sent = tied.sent_is; bytes = tied.bytes_are; few = omega (arith, few.1.few); short = few.1.short }
 

@@ -8,7 +8,7 @@ use Rattle.script_reader.specs.Script.{Script}
 use Rattle.script_reader.specs.declared.script.Stmt.{Stmt}
 use Rattle.script_reader.specs.declared.script.Stmt.TheVariants as stmt
 use Rattle.script_machine.specs.declared.posts.Posted.{Posted}
-use Rattle.script_plain.specs.Collectives.{AllGive, Casts, CollectivesHold, Gives, Tells}
+use Rattle.script_plain.specs.Collectives.{AllGive, Casts, CollectivesHold, GivesPart, TellsFold}
 use Rattle.script_machine.specs.Local.{register_at}
 use Rattle.script_plain.specs.Meaning.{State}
 use Rattle.script_plain.specs.Step.{Configuration}
@@ -22,7 +22,7 @@ module _ (script : Script) (cells : List State) where
     casts comm place root rank before bytes at = record { reg = at.reg; len = at.len; now = at.now; begun = at.begun; there = at.there; came = at.came; same = at.same; given = at.given }
 
     gives : (call : Op → Ty → ℕ → ℕ → Stmt) (k : Kind) (comm root : ℕ) (begun : State) (rank : ℕ) (bytes : List ℕ)
-        → Gives script (with_slots one) call k comm root begun rank bytes → Gives script (with_slots other) call k comm root begun rank bytes
+        → GivesPart script (with_slots one) call k comm root begun rank bytes → GivesPart script (with_slots other) call k comm root begun rank bytes
     gives call k comm root begun rank bytes at =
         record { op = at.op; ty = at.ty; dst = at.dst; src = at.src; now = at.now; before = at.before; there = at.there; came = at.came; same = at.same; given = at.given }
 
@@ -30,7 +30,7 @@ module _ (script : Script) (cells : List State) where
         → AllGive script (with_slots one) call k comm place root begun bytes → AllGive script (with_slots other) call k comm place root begun bytes
     all_give call k comm place root begun bytes all rank apart = gives call k comm root begun rank (bytes rank) (all rank apart)
 
-    tells : (comm root rank : ℕ) (before : State) (own told : List ℕ) → Tells script (with_slots one) comm root rank before own told → Tells script (with_slots other) comm root rank before own told
+    tells : (comm root rank : ℕ) (before : State) (own told : List ℕ) → TellsFold script (with_slots one) comm root rank before own told → TellsFold script (with_slots other) comm root rank before own told
     tells comm root rank before own told at = record {
       op = at.op;
       ty = at.ty;

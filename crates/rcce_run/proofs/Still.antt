@@ -9,9 +9,9 @@ use Rattle.scc_base.proofs.GroupFacts.{root_is, root_place, root_with, root_with
 use Rattle.scc_proto.specs.Agreement.{Agrees}
 use Rattle.scc_proto.specs.Groups.{holds_back, releases, InStep}
 use Rattle.scc_proto.specs.Legality.{Outgoing}
-use Rattle.scc_proto.specs.Messages.{Notes, Message, Progress, begun, is_last, with_chunk, sent_messages, received_messages, barriers_of}
-use Rattle.scc_proto.specs.Pairs.{Offering, Receiving, sending_side, taking_side, resumed, pending, settling, HasArrived, Pair, pair_of, Phase, InRest, InRaised, InTaken, InReady}
-use Rattle.scc_proto.specs.Passed.{is_gathering, gathered, is_gathered, is_received, passed_open, passed_calls, slot_by, slot_of}
+use Rattle.scc_proto.specs.Messages.{Notes, Message, Progress, fresh_message, is_last, with_chunk, sent_messages, received_messages, barriers_of}
+use Rattle.scc_proto.specs.Pairs.{Offering, Receiving, sending_side, taking_side, message_so_far, pending, settling, HasArrived, Pair, pair_of, Phase, InRest, InRaised, InTaken, InReady}
+use Rattle.scc_proto.specs.Passed.{is_gathering, gathered_barriers, is_gathered, is_received_ahead, passed_open, passed_calls, slot_by, slot_of}
 use Rattle.scc_proto.specs.Records.{chunk_of, last_of}
 use Rattle.scc_proto.specs.Singles.{is_free, IsPosted, IsOnItsWay, open_barriers}
 use Rattle.scc_proto.specs.Stages.{Raised, Stage, Idle, Drafting, Sending, Between, Taking, Barrier, OnItsWay, Record}
@@ -39,12 +39,12 @@ no_two : (big small gather release low : ℕ) → gather ≡ small % 2 → gathe
 no_two big small gather release low shows vain says waits is some entered ahead = omega (arith, shows, vain, says, waits, is, some, entered, ahead)
 
 -- a root that waits for a member has not seen all
-gathering_waits : (comm seen released last : ℕ) (rec : Record) → rec.stage ≡ Barrier comm seen released → seen < last → gathered comm last rec ≡ rec.flips comm - 1
+gathering_waits : (comm seen released last : ℕ) (rec : Record) → rec.stage ≡ Barrier comm seen released → seen < last → gathered_barriers comm last rec ≡ rec.flips comm - 1
 gathering_waits comm seen released last rec stage low =
     ap (λ (b : Bool). if b then rec.flips comm - 1 else rec.flips comm)
     (ap (is_gathering comm last) stage ∙ and_of (comm == comm) (nat_lt seen last) (itself comm) (lt_true seen last low))
 
-gathered_most : (comm last : ℕ) (rec : Record) → gathered comm last rec ≤ rec.flips comm
+gathered_most : (comm last : ℕ) (rec : Record) → gathered_barriers comm last rec ≤ rec.flips comm
 gathered_most comm last rec = by (is_gathering comm last rec.stage)
   where
     by : (b : Bool) → (if b then rec.flips comm - 1 else rec.flips comm) ≤ rec.flips comm
@@ -107,8 +107,8 @@ module _ (s : SetupView) (memory : Memory) (records : ℕ → Record) (agrees : 
   root_waits : (comm k : ℕ) (seen : ℕ) → k < s.nue → place_of s comm k ≡ 0 → (records k).stage ≡ Barrier comm seen 0 → seen < last_of s comm k → is_gathered s comm k records ≡ false
   root_waits comm k seen low zeroth stage less =
       let root : root_of s comm k ≡ k = sym (root_is (setup_key s comm) k k refl zeroth) in
-      let count : gathered comm (last_of s comm k) (records (root_of s comm k)) ≡ (records k).flips comm - 1 =
-      ap (λ (r : ℕ). gathered comm (last_of s comm k) (records r)) root ∙ gathering_waits comm seen 0 (last_of s comm k) (records k) stage less in
+      let count : gathered_barriers comm (last_of s comm k) (records (root_of s comm k)) ≡ (records k).flips comm - 1 =
+      ap (λ (r : ℕ). gathered_barriers comm (last_of s comm k) (records r)) root ∙ gathering_waits comm seen 0 (last_of s comm k) (records k) stage less in
       ap (nat_le ((records k).flips comm)) count ∙ above ((records k).flips comm) (some_flip k comm seen 0 low stage)
     where
       above : (n : ℕ) → 1 ≤ n → nat_le n (n - 1) ≡ false
@@ -119,7 +119,7 @@ module _ (s : SetupView) (memory : Memory) (records : ℕ → Record) (agrees : 
       → ((seen released : ℕ) → (records (root_of s comm k)).stage ≡ Barrier comm seen released → BarWaits s (view_of s memory) (root_of s comm k) comm (records (root_of s comm k)))
       → is_gathered s comm k records ≡ false
   behind comm k low present other vain roots =
-      less ((records k).flips comm) (gathered comm (last_of s comm k) (records root)) (by (holds_back comm (place_of s comm k) (records root).stage) refl)
+      less ((records k).flips comm) (gathered_barriers comm (last_of s comm k) (records root)) (by (holds_back comm (place_of s comm k) (records root).stage) refl)
     where
       root : ℕ
       root = root_of s comm k
@@ -136,12 +136,12 @@ module _ (s : SetupView) (memory : Memory) (records : ℕ → Record) (agrees : 
       same_last : last_of s comm (root_of s comm k) ≡ last_of s comm k
       same_last = ap (λ (n : ℕ). n - 1) (size_same s.nue (setup_key s comm) (root_of s comm k) k (root_with (setup_key s comm) k))
 
-      by_root : BarWaits s (view_of s memory) (root_of s comm k) comm (records (root_of s comm k)) → gathered comm (last_of s comm k) (records (root_of s comm k)) ≡ (records (root_of s comm k)).flips comm - 1
+      by_root : BarWaits s (view_of s memory) (root_of s comm k) comm (records (root_of s comm k)) → gathered_barriers comm (last_of s comm k) (records (root_of s comm k)) ≡ (records (root_of s comm k)).flips comm - 1
       by_root (AtMember present' other' stage' vain') = absurd (other' (root_place (setup_key s comm) k))
       by_root (AtRoot seen j present' zeroth stage' less' below grouped placed vain') =
           gathering_waits comm seen 0 (last_of s comm k) (records (root_of s comm k)) stage' (subst (λ (n : ℕ). seen < n) same_last less')
 
-      by : (b : Bool) → holds_back comm (place_of s comm k) (records (root_of s comm k)).stage ≡ b → gathered comm (last_of s comm k) (records (root_of s comm k)) < (records k).flips comm
+      by : (b : Bool) → holds_back comm (place_of s comm k) (records (root_of s comm k)).stage ≡ b → gathered_barriers comm (last_of s comm k) (records (root_of s comm k)) < (records k).flips comm
       by true holds =
           let (seen, released, stage) = holder comm (place_of s comm k) (records (root_of s comm k)).stage holds in
           let count = by_root (roots seen released stage) in
@@ -210,7 +210,7 @@ module _ {U : Type 0} (next : U → Next U) (s : SetupView) (memory : Memory) (r
       by (Sends to head bytes after) (inl slot) = idle_none slot.stage
       by (Sends to head bytes after) (inr raise) =
           let even = as_many (chunk_of s) (pair_of k to (view_of s memory) (records k) (records to)) raise.message raise.chunk (raise_out s memory records sw.agrees k to head raise) in
-          let not_yet : is_received k to records ≡ false =
+          let not_yet : is_received_ahead k to records ≡ false =
           eqb_other (length (received_messages k (records to).calls)) (suc (length (sent_messages to (records k).calls))) (λ is. absurd (omega (arith, even, is))) in
           ap (λ (st : Stage). passed_open s k st records) raise.stage
           ∙ ap (λ (b : Bool). if b then DataCall.Send to raise.message.head (with_chunk (chunk_of s) raise.message raise.chunk).bytes ∷ [] else []) not_yet

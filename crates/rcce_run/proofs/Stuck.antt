@@ -14,12 +14,12 @@ use Rattle.scc_proto.specs.Words.{Memory}
 use Rattle.script_machine.specs.declared.posts.Posted.{Posted}
 use Rattle.script_machine.specs.Next.{Next, is_at_barrier}
 use Rattle.script_machine.specs.Next.Next.{Ends, Goes, Posts, Sends, Recvs, Bars}
-use Rattle.script_plain.specs.Step.{Configuration, IsStep, next_at, slot_at, all_at_barrier}
+use Rattle.script_plain.specs.Step.{Configuration, IsStepOf, next_at, slot_at, all_at_barrier}
 use Rattle.script_plain.proofs.Runs.RunLaws.{stands_there}
 use Rattle.script_plain.proofs.Runs.StepLaws as steps
 use Rattle.script_plain.proofs.Runs.StepLaws.Takes.{Alone, Left, Met, Fetched, RefusedPost, RefusedSend, Passed}
 use Rattle.chip_run.specs.Waiting.{SlotWaits, RaiseWaits, BarWaits}
-use Rattle.rcce_run.specs.Sweep.{Vain, Swept, slots_by, outgoing, Holds}
+use Rattle.rcce_run.specs.Sweep.{Vain, Swept, slots_by, outgoing, HoldsStates}
 use Rattle.rcce_run.proofs.Holding.{at_below, stands_below, full_below, slot_held}
 use Rattle.chip_run.proofs.Offers.{no_fetch, no_take, post_in_slot, raise_out}
 use Rattle.rcce_run.proofs.Still.{no_barrier}
@@ -38,7 +38,7 @@ module _ {U : Type 0} (next : U → Next U) (s : SetupView) (memory : Memory) (r
   bars_by k comm (Recvs from head take refuse) vain is = absurd (cc (is))
   bars_by k comm (Bars asked after) vain is = subst (λ (c : ℕ). BarWaits s (view_of s memory) k c (records k)) (eqb-true asked comm is) vain
 
-  module _ (c : Configuration U) (holds : Holds s.nue c states (slots_by s records lasts)) (told : (k : ℕ) → option_map outgoing (slots_by s records lasts k) ≡ slot_of s records k) where
+  module _ (c : Configuration U) (holds : HoldsStates s.nue c states (slots_by s records lasts)) (told : (k : ℕ) → option_map outgoing (slots_by s records lasts k) ≡ slot_of s records k) where
     abbrev Slots : ℕ → Option Posted
     Slots = slots_by s records lasts
 
@@ -90,5 +90,5 @@ module _ {U : Type 0} (next : U → Next U) (s : SetupView) (memory : Memory) (r
     none_taken a d (RefusedSend j asked take refuse sent bytes after at slot there same made) = no_pair j a sent asked bytes after take refuse there slot at
     none_taken a d (Passed comm after at root all made) = no_meeting a comm after at root all
 
-    pub still : IsStill (IsStep (setup_key s) next) c
+    pub still : IsStill (IsStepOf (setup_key s) next) c
     still a d step = none_taken a d (steps.seen (setup_key s) next c d a step)

@@ -18,17 +18,17 @@ use Rattle.scc_proto.specs.Views.{view_of}
 use Rattle.scc_proto.specs.Words.{IsRun, zeros}
 use Rattle.scc_proto.proofs.Agreement.AgreementLaw.{agreement_of_lists}
 use Rattle.script_reader.specs.Script.{first_split, rules_of}
-use Rattle.script_plain.specs.Collectives.{started}
+use Rattle.script_plain.specs.Collectives.{start_of_rank}
 use Rattle.script_machine.specs.Local.{gone_on, gone_on_with, local_next, local_start, stopped_at}
 use Rattle.script_plain.specs.Meaning.{State, next_of}
 use Rattle.script_machine.specs.Next.Next.{Ends, Posts, Recvs, Bars}
-use Rattle.script_plain.specs.Paths.{Did}
-use Rattle.script_plain.specs.Paths.Did.{Here, Left}
-use Rattle.script_machine.specs.Program.{unrolled}
+use Rattle.script_plain.specs.Paths.{DidCalls}
+use Rattle.script_plain.specs.Paths.DidCalls.{Here, Left}
+use Rattle.script_machine.specs.Program.{unrolled_items}
 use Rattle.rcce_run.specs.Examples.{three_items, three_script, three_setup, three_events, three_words, three_records, three_message, three_states, three_lasts}
 use Rattle.rcce_run.specs.Scripts.{IsSwept}
 use Rattle.chip_run.specs.Waiting.{AtMember}
-use Rattle.rcce_run.specs.Sweep.{Stood, Running, Stopped, Vain, keep, slots_by}
+use Rattle.rcce_run.specs.Sweep.{IsStateOfRecord, Running, Stopped, Vain, keep, slots_by}
 
 -- ---- the setup, and the agreement
 
@@ -119,12 +119,12 @@ place_2 = refl
 
 -- ---- the states
 
-posts : next_of (started three_script 0) ≡ Posts three_message (three_states 0)
-unfolding local_next unrolled
+posts : next_of (start_of_rank three_script 0) ≡ Posts three_message (three_states 0)
+unfolding local_next unrolled_items
 posts = refl
 
 ended_0 : next_of (three_states 0) ≡ Ends
-unfolding local_next unrolled
+unfolding local_next unrolled_items
 ended_0 = refl
 
 abbrev takes_five : List ℕ → State
@@ -133,27 +133,27 @@ takes_five bytes = record { local = gone_on_with (local_start three_script 1) 0 
 abbrev refuses : MessageHead → State
 refuses sent = record { local = stopped_at (local_start three_script 1) 3 0 (plain_head 5) sent; matched = [] }
 
-asks : next_of (started three_script 1) ≡ Recvs 0 (plain_head 5) takes_five refuses
-unfolding local_next unrolled
+asks : next_of (start_of_rank three_script 1) ≡ Recvs 0 (plain_head 5) takes_five refuses
+unfolding local_next unrolled_items
 asks = refl
 
 ended_1 : next_of (three_states 1) ≡ Ends
-unfolding local_next unrolled
+unfolding local_next unrolled_items
 ended_1 = refl
 
-bars : next_of (started three_script 2) ≡ Bars 0 (record { local = gone_on (started three_script 2).local; matched = DataCall.Bar 0 ∷ [] })
-unfolding local_next unrolled
+bars : next_of (start_of_rank three_script 2) ≡ Bars 0 (record { local = gone_on (start_of_rank three_script 2).local; matched = DataCall.Bar 0 ∷ [] })
+unfolding local_next unrolled_items
 bars = refl
 
 heads_apart : head_of header ≢ plain_head 5
 heads_apart is = let len : 0 ≡ 5 = ap (λ (h : MessageHead). h.len) is in absurd (omega (arith, len))
 
-stands : (k : ℕ) → k < 3 → Stood next_of three_setup k (started three_script k) (three_records k) (three_states k) (three_lasts k)
+stands : (k : ℕ) → k < 3 → IsStateOfRecord next_of three_setup k (start_of_rank three_script k) (three_records k) (three_states k) (three_lasts k)
 stands zero low =
-    Running (subst (Did next_of (three_states 0) (Some three_message) (started three_script 0) None) (sym calls_0)
-    (Left (started three_script 0) (three_states 0) None three_message [] posts Here))
+    Running (subst (DidCalls next_of (three_states 0) (Some three_message) (start_of_rank three_script 0) None) (sym calls_0)
+    (Left (start_of_rank three_script 0) (three_states 0) None three_message [] posts Here))
 stands (suc zero) low =
-    Stopped (started three_script 1) (subst (Did next_of (started three_script 1) None (started three_script 1) None) (sym calls_1) Here)
+    Stopped (start_of_rank three_script 1) (subst (DidCalls next_of (start_of_rank three_script 1) None (start_of_rank three_script 1) None) (sym calls_1) Here)
     (record {
       from = 0;
       asked = plain_head 5;
@@ -168,7 +168,7 @@ stands (suc zero) low =
       stopped = refl;
       ends = ended_1;
     })
-stands (suc (suc zero)) low = Running (subst (Did next_of (three_states 2) None (started three_script 2) None) (sym calls_2) Here)
+stands (suc (suc zero)) low = Running (subst (DidCalls next_of (three_states 2) None (start_of_rank three_script 2) None) (sym calls_2) Here)
 stands (suc (suc (suc k))) low = absurd (omega (arith, low))
 
 vain : (k : ℕ) → k < 3 → Vain three_setup (view_of three_setup three_words) k (three_records k) (next_of (three_states k))

@@ -15,15 +15,15 @@ use Rattle.scc_proto.specs.Views.{view_of}
 use Rattle.scc_proto.specs.Words.{Memory}
 use Rattle.scc_mesh.specs.Scenes.{ChipView, about_in, events_in, records_in}
 use Rattle.script_reader.specs.Script.{Script}
-use Rattle.script_reader.specs.Settled.{IsWhole}
+use Rattle.script_reader.specs.Settled.{IsWholeScript}
 use Rattle.script_machine.specs.declared.posts.Posted.{Posted}
-use Rattle.script_plain.specs.Collectives.{CollectivesHold, started}
-use Rattle.script_plain.specs.Ends.{Ended, ended, ended_at}
+use Rattle.script_plain.specs.Collectives.{CollectivesHold, start_of_rank}
+use Rattle.script_plain.specs.Ends.{Ended, end_of_rank, ended_at}
 use Rattle.script_machine.specs.Local.{Local, local_next}
 use Rattle.script_machine.specs.Machine.{MachineView}
-use Rattle.script_plain.specs.Meaning.{State, next_of, plain_end, plain_ends, recorded}
+use Rattle.script_plain.specs.Meaning.{State, next_of, plain_end, plain_ends, next_with_calls}
 use Rattle.script_machine.specs.Moves.{is_stopped}
-use Rattle.script_machine.specs.Next.{Next, call_of, is_going}
+use Rattle.script_machine.specs.Next.{Next, call_next, is_going}
 use Rattle.script_machine.specs.Next.Next.{Ends, Goes, Posts, Sends, Recvs, Bars}
 use Rattle.script_plain.proofs.Collectives.CollectiveLaws.{plain_end_collectives}
 use Rattle.script_plain.proofs.Orders.OrderLaws.{list_same}
@@ -38,7 +38,7 @@ use Rattle.rcce_run.specs.Crews.{AllRun}
 use Rattle.rcce_run.specs.UeRuns.{HasPlainCalls, IsFreshCrew, ShowsEnd, WaitsOpen, shown_states, state_shown, ue_members, member_ue}
 use Rattle.rcce_run.specs.Scripts.{IsSwept}
 use Rattle.chip_run.specs.Waiting.{SlotWaits}
-use Rattle.rcce_run.specs.Sweep.{Holds, Stood, slots_by}
+use Rattle.rcce_run.specs.Sweep.{HoldsStates, IsStateOfRecord, slots_by}
 use Rattle.rcce_ue.specs.Workers.{slot_awaited, ue_seen}
 use Rattle.rcce_ue.proofs.WorkerTurns.{ue_stands}
 use Rattle.rcce_run.specs.Ues.{state_of}
@@ -94,7 +94,7 @@ in_slot_none slot message none = ap (λ (o : Option ℕ). if is_none o then None
 in_slot_full : {X : Type 0} (slot : SlotAt) (message : Option X) (j : ℕ) → slot.to ≡ Some j → in_slot slot message ≡ message
 in_slot_full slot message j full = ap (λ (o : Option ℕ). if is_none o then None else message) full
 
-recorded_call : (done : List DataCall) (n : Next Local) → call_of (recorded done n) ≡ call_of n
+recorded_call : (done : List DataCall) (n : Next Local) → call_next (next_with_calls done n) ≡ call_next n
 recorded_call done Ends = refl
 recorded_call done (Goes after) = refl
 recorded_call done (Posts message after) = refl
@@ -133,9 +133,9 @@ module _ (script : Script) (chip : ChipView) (crew : List (Member UeView)) (memo
   abbrev lasts : ℕ → Option Posted
   lasts k = last_by k (cases_lt k s.nue)
 
-  stood_by : (k : ℕ) (o : (k < s.nue) ⊎ (s.nue ≤ k)) → k < s.nue → Stood next_of s k (started script k) (records k) (states k) (last_by k o)
+  stood_by : (k : ℕ) (o : (k < s.nue) ⊎ (s.nue ≤ k)) → k < s.nue → IsStateOfRecord next_of s k (start_of_rank script k) (records k) (states k) (last_by k o)
   stood_by k (inl below) low =
-      subst (λ (x : Script). Stood next_of s k (started x k) (records k) (states k) (tied_at k below).last) (all_run k d (within k low))
+      subst (λ (x : Script). IsStateOfRecord next_of s k (start_of_rank x k) (records k) (states k) (tied_at k below).last) (all_run k d (within k low))
       (tied_stood (ue_at k) s k (events_in chip k) (tied_at k below))
   stood_by k (inr past) low = absurd (omega (arith, low, past))
 
@@ -144,10 +144,10 @@ module _ (script : Script) (chip : ChipView) (crew : List (Member UeView)) (memo
       let found = is_swept ue_members member_ue members_run script chip crew memory agrees is_crew all_run some d rests in
       record { ranks = found.ranks; comms = found.comms; swept = record { agrees = agrees; stands = λ k low. stood_by k (cases_lt k s.nue) low; vain = found.swept.vain } }
 
-  holds : Holds script.nue (plain_end script) states (slots_by s records lasts)
+  holds : HoldsStates script.nue (plain_end script) states (slots_by s records lasts)
   holds = script_ends script s memory records states lasts sw
 
-  at_plain : (k : ℕ) → k < script.nue → ended_at (plain_ends script) k ≡ ended (slots_by s records lasts k) (locals k)
+  at_plain : (k : ℕ) → k < script.nue → ended_at (plain_ends script) k ≡ end_of_rank (slots_by s records lasts k) (locals k)
   at_plain k low = plain_ended_at script states (slots_by s records lasts) holds k low
 
   below : (k : ℕ) → k < script.nue → k < s.nue
@@ -204,10 +204,10 @@ module _ (script : Script) (chip : ChipView) (crew : List (Member UeView)) (memo
   -- an open call is the one at which the plain meaning leaves the rank waiting
   pub waits_open : (k : ℕ) (call : DataCall) → k < script.nue → open_call s (records k) ≡ Some call → WaitsOpen script k call
   waits_open k call less open_there =
-      let next_is : call_of (next_of (states k)) ≡ Some (calls.call_of call) = open_is_next next_of s memory records (started script) states lasts sw.swept k (below k less) call open_there in
+      let next_is : call_next (next_of (states k)) ≡ Some (calls.call_of call) = open_is_next next_of s memory records (start_of_rank script) states lasts sw.swept k (below k less) call open_there in
       let (line, waits) = call_waits (locals k) (slots_by s records lasts k) (calls.call_of call) (sym (recorded_call (records k).calls (local_next (locals k))) ∙ next_is) in
       record {
-        stands = ap (option_and_then (λ (u : State). call_of (next_of u))) (cell_at k less) ∙ next_is;
+        stands = ap (option_and_then (λ (u : State). call_next (next_of u))) (cell_at k less) ∙ next_is;
         line = line;
         waits = ap (λ (e : Ended). e.end) (at_plain k less) ∙ waits;
       }
@@ -228,8 +228,8 @@ module _ (script : Script) (chip : ChipView) (crew : List (Member UeView)) (memo
       ∙ ap (option_map (state_shown chip)) (slice_get_past numbered k (subst (λ (n : ℕ). n ≤ k) (sym (length-enumerate_from 0 crew)) past))
       ∙ sym (holds.cells_at k ∙ at_past script.nue k (states k) (subst (λ (n : ℕ). n ≤ k) (is_crew.each ∙ sw.ranks) past))
 
-  whole : IsWhole script.nue script.items
-  whole = subst (λ (x : Script). IsWhole x.nue x.items) (all_run 0 d some) (tied_at 0 (subst (λ (n : ℕ). 0 < n) is_crew.each some)).begun.whole
+  whole : IsWholeScript script.nue script.items
+  whole = subst (λ (x : Script). IsWholeScript x.nue x.items) (all_run 0 d some) (tied_at 0 (subst (λ (n : ℕ). 0 < n) is_crew.each some)).begun.whole
 
   -- so collective calls have given in them what they give
   pub collectives_hold : (slots : List (Option Posted)) → CollectivesHold script (shown_states chip crew slots)

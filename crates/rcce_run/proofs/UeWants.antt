@@ -5,7 +5,7 @@ use Rattle.scc_base.specs.Setups.{SetupView}
 use Rattle.scc_proto.specs.Stages.{Record}
 use Rattle.scc_proto.specs.Views.{View}
 use Rattle.script_machine.specs.Local.{Local}
-use Rattle.script_plain.specs.Meaning.{recorded}
+use Rattle.script_plain.specs.Meaning.{next_with_calls}
 use Rattle.script_machine.specs.Next.{Next, is_going}
 use Rattle.script_machine.specs.Next.Next.{Ends, Goes, Posts, Sends, Recvs, Bars}
 use Rattle.chip_run.specs.Waiting.{SlotWaits, Waits}
@@ -38,7 +38,7 @@ module _ (s : SetupView) (view : View) (me : ℕ) (rec : Record) where
   at_end_slot (Some to) waits = waits
 
   -- a UE that waits waits by what stands next at its rank
-  pub waits_vain : (calls : List DataCall) (slot : Option ℕ) (n : Next Local) → Waits s view me rec (want_next (want_at_end slot) n) → Vain s view me rec (recorded calls n)
+  pub waits_vain : (calls : List DataCall) (slot : Option ℕ) (n : Next Local) → Waits s view me rec (want_next (want_at_end slot) n) → Vain s view me rec (next_with_calls calls n)
   waits_vain calls slot Ends waits = (at_end_slot slot waits).stage
   waits_vain calls slot (Goes after) waits = waits
   waits_vain calls slot (Posts message after) waits = waits

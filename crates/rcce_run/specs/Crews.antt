@@ -12,7 +12,7 @@ use Rattle.rcce_ue.specs.Ues.{UeView}
 use Rattle.chip_run.specs.declared.ends.RunEnd.{RunEnd}
 use Rattle.chip_run.specs.declared.ends.RunEnd.TheVariants as run_end
 use Rattle.rcce_run.specs.Scripts.{IsOpenCall}
-use Rattle.rcce_run.specs.Sweep.{Holds, slots_by}
+use Rattle.rcce_run.specs.Sweep.{HoldsStates, slots_by}
 use Rattle.rcce_run.specs.Ues.{state_of}
 
 -- all of a crew run this script, where each has this UE
@@ -27,7 +27,7 @@ crew_locals ue crew d k = (ue (slice_index_or crew k d)).machine.local
 -- in the slots are those of the plain end, and an open call is the one that stands next
 pub record IsAtEnd (script : Script) (s : SetupView) (records : ℕ → Record) (locals : ℕ → Local) : Type 0 where
   pub lasts : ℕ → Option Posted
-  pub ends : Holds script.nue (plain_end script) (λ k. state_of (locals k) (records k)) (slots_by s records lasts)
+  pub ends : HoldsStates script.nue (plain_end script) (λ k. state_of (locals k) (records k)) (slots_by s records lasts)
   pub opened : IsOpenCall s records (λ k. state_of (locals k) (records k))
 
 -- how a run ended is how the plain meaning ends: all ranks have finished in it, or one has not

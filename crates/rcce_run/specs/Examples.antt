@@ -14,7 +14,7 @@ use Rattle.script_reader.specs.declared.script.Peer.TheVariants as peer
 use Rattle.script_reader.specs.declared.script.Stmt.TheVariants as stmt
 use Rattle.script_reader.specs.declared.script.Who.TheVariants as who
 use Rattle.script_machine.specs.declared.posts.Posted.{Posted}
-use Rattle.script_plain.specs.Collectives.{started}
+use Rattle.script_plain.specs.Collectives.{start_of_rank}
 use Rattle.script_machine.specs.Local.{gone_on, local_start, stopped_at}
 use Rattle.script_plain.specs.Meaning.{State}
 
@@ -54,7 +54,7 @@ three_message = record { to = 1; head = plain_head 0; bytes = []; line = 2 }
 abbrev pub three_states : ℕ → State
 three_states zero = record { local = gone_on (local_start three_script 0); matched = Post 1 (plain_head 0) [] ∷ [] }
 three_states (suc zero) = record { local = stopped_at (local_start three_script 1) 3 0 (plain_head 5) (plain_head 0); matched = [] }
-three_states (suc (suc n)) = started three_script (suc (suc n))
+three_states (suc (suc n)) = start_of_rank three_script (suc (suc n))
 
 -- the message that each rank posted last
 abbrev pub three_lasts : ℕ → Option Posted

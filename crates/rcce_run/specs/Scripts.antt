@@ -7,7 +7,7 @@ use Rattle.scc_proto.specs.Stages.{Record}
 use Rattle.scc_proto.specs.Words.{Memory}
 use Rattle.script_reader.specs.Script.{Script, rules_of}
 use Rattle.script_machine.specs.declared.posts.Posted.{Posted}
-use Rattle.script_plain.specs.Collectives.{started}
+use Rattle.script_plain.specs.Collectives.{start_of_rank}
 use Rattle.script_plain.specs.Meaning.{State, next_of}
 use Rattle.script_machine.specs.Next as next
 use Rattle.rcce_run.specs.Sweep.{Swept}
@@ -17,9 +17,10 @@ pub record IsSwept (script : Script) (s : SetupView) (memory : Memory) (records 
     (lasts : ℕ → Option Posted) : Type 0 where
   pub ranks : s.nue ≡ script.nue
   pub comms : s.comms ≡ rules_of script.items
-  pub swept : Swept next_of s memory records (started script) states lasts
+  pub swept : Swept next_of s memory records (start_of_rank script) states lasts
 
 -- a call that is open in a rank's record is the one that stands next there
 abbrev pub IsOpenCall : SetupView → (ℕ → Record) → (ℕ → State) → Type 0
 IsOpenCall s records states =
-    (k : ℕ) → k < s.nue → (call : DataCall) → open_call s (records k) ≡ Some call → next.call_of (next_of (states k)) ≡ Some (call_of call)
+    (k : ℕ) → k < s.nue → (call : DataCall) → open_call s (records k) ≡ Some call
+    → next.call_next (next_of (states k)) ≡ Some (call_of call)

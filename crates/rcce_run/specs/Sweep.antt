@@ -13,7 +13,7 @@ use Rattle.scc_proto.specs.Words.{Memory, are_peers}
 use Rattle.script_machine.specs.declared.posts.Posted.{Posted}
 use Rattle.script_machine.specs.Next.{Next}
 use Rattle.script_machine.specs.Next.Next.{Ends, Goes, Posts, Sends, Recvs, Bars}
-use Rattle.script_plain.specs.Paths.{Did}
+use Rattle.script_plain.specs.Paths.{DidCalls}
 use Rattle.script_plain.specs.Step.{Configuration}
 use Rattle.chip_run.specs.Waiting.{BarWaits, RaiseWaits, SlotWaits, TakeWaits}
 
@@ -36,10 +36,11 @@ pub record Refused {U : Type 0} (next : U → Next U) (s : SetupView) (me : ℕ)
 -- with their bytes; or it has come so to a receive, and a message with another head stopped it there. Seven parameters: what
 -- is next in a state, the rank in its setup and its start, and the three that are compared: its record, its state and the
 -- message that it posted last.
-pub data Stood {U : Type 0} (next : U → Next U) (s : SetupView) (me : ℕ) (start : U) (rec : Record) (u : U)
+pub data IsStateOfRecord {U : Type 0} (next : U → Next U) (s : SetupView) (me : ℕ) (start : U) (rec : Record) (u : U)
     (last : Option Posted) : Type 0 where
-  Running : Did next u last start None rec.calls → Stood next s me start rec u last
-  Stopped : (before : U) → Did next before last start None rec.calls → Refused next s me rec before u → Stood next s me start rec u last
+  Running : DidCalls next u last start None rec.calls → IsStateOfRecord next s me start rec u last
+  Stopped : (before : U) → DidCalls next before last start None rec.calls → Refused next s me rec before u
+      → IsStateOfRecord next s me start rec u last
 
 -- what a rank waits for, by what stands next there. At its end nothing is open; a statement of its own does not wait; a
 -- post, and a send before its first chunk, wait for the rank's own slot
@@ -57,7 +58,7 @@ Vain s view me rec (Bars comm after) = BarWaits s view me comm rec
 pub record Swept {U : Type 0} (next : U → Next U) (s : SetupView) (memory : Memory) (records : ℕ → Record)
     (starts states : ℕ → U) (lasts : ℕ → Option Posted) : Type 0 where
   pub agrees : Agrees s memory records
-  pub stands : (k : ℕ) → k < s.nue → Stood next s k (starts k) (records k) (states k) (lasts k)
+  pub stands : (k : ℕ) → k < s.nue → IsStateOfRecord next s k (starts k) (records k) (states k) (lasts k)
   pub vain : (k : ℕ) → k < s.nue → Vain s (view_of s memory) k (records k) (next (states k))
 
 -- the message posted last, where the slot is full
@@ -78,6 +79,6 @@ abbrev pub at_rank : {A : Type 0} → ℕ → ℕ → A → Option A
 at_rank nue k x = if nat_lt k nue then Some x else None
 
 -- a configuration of nue ranks has these states and slots
-pub record Holds {U : Type 0} (nue : ℕ) (c : Configuration U) (cells : ℕ → U) (slots : ℕ → Option Posted) : Type 0 where
+pub record HoldsStates {U : Type 0} (nue : ℕ) (c : Configuration U) (cells : ℕ → U) (slots : ℕ → Option Posted) : Type 0 where
   pub cells_at : (k : ℕ) → slice_get c.cells k ≡ at_rank nue k (cells k)
   pub slots_at : (k : ℕ) → slice_get c.slots k ≡ at_rank nue k (slots k)

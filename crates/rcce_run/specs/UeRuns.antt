@@ -25,7 +25,7 @@ use Rattle.rcce_ue.specs.Standing.{Tied}
 use Rattle.rcce_ue.specs.Ues.{UeView, in_slot}
 use Rattle.chip_run.specs.declared.ends.RunEnd.{RunEnd}
 use Rattle.chip_run.specs.declared.members.Member.{Member}
-use Rattle.chip_run.specs.Away.{members_of}
+use Rattle.chip_run.specs.Away.{conduct_of_members}
 use Rattle.chip_run.specs.Conducts.{Conduct}
 use Rattle.rcce_run.specs.Crews.{EndsAs}
 use Rattle.rcce_run.specs.Sent.{CountsSends}
@@ -60,7 +60,7 @@ member_ue m = m.worker
 
 -- how members with UEs conduct themselves in a run
 abbrev pub ue_members : Conduct (Member UeView)
-ue_members = members_of ue_conduct
+ue_members = conduct_of_members ue_conduct
 
 -- a chip is the same as before, with the same setup, and all its ranks are at home
 pub record IsSameChip (old now : ChipView) : Type 0 where
@@ -88,7 +88,7 @@ HasPlainCalls script k rec = option_map (λ (u : State). u.matched) (slice_get (
 
 -- the call that is open in a record stands next at the rank at the plain end, which leaves it waiting there
 pub record WaitsOpen (script : Script) (k : ℕ) (call : DataCall) : Type 0 where
-  pub stands : option_and_then (λ (u : State). next.call_of (next_of u)) (slice_get (plain_end script).cells k) ≡ Some (call_of call)
+  pub stands : option_and_then (λ (u : State). next.call_next (next_of u)) (slice_get (plain_end script).cells k) ≡ Some (call_of call)
   pub line : ℕ
   pub waits : (ended_at (plain_ends script) k).end ≡ ue_end.Waits line (call_of call)
 

@@ -3,7 +3,7 @@
 ghost use Rattle.std.specs.Prelude.{◌≡◌, ◌<◌, ℕ, Option, None, Some, option_map};
 ghost use Rattle.chip_run.specs.Waiting.{NoneDrafts, SlotWaits};
 ghost use Rattle.rcce_run.specs.Scripts.{IsOpenCall, IsSwept};
-ghost use Rattle.rcce_run.specs.Sweep.{Holds, outgoing, slots_by};
+ghost use Rattle.rcce_run.specs.Sweep.{HoldsStates, outgoing, slots_by};
 ghost use Rattle.scc_base.specs.Runs.{IsStill};
 ghost use Rattle.scc_base.specs.Setups.{SetupView};
 ghost use Rattle.scc_proto.specs.Passed.{slot_of};
@@ -20,7 +20,7 @@ pub fn sweep_law()
     // The UEs' states are those of the plain end, and so are the messages in the slots.
     ensures ends { (script : Script) (s : SetupView) (memory : Memory) (records : ℕ → Record) (states : ℕ → State)
         (lasts : ℕ → Option Posted)
-        → IsSwept script s memory records states lasts → Holds script.nue (plain_end script) states (slots_by s records lasts) }
+        → IsSwept script s memory records states lasts → HoldsStates script.nue (plain_end script) states (slots_by s records lasts) }
     // No plain step is enabled there.
     ensures still { (script : Script) (s : SetupView) (memory : Memory) (records : ℕ → Record) (states : ℕ → State)
         (lasts : ℕ → Option Posted)

@@ -17,17 +17,17 @@ use Rattle.send_recv.specs.Sending.{IsSameOrEmpty, SlotDoes, SlotStands, SlotTur
 use Rattle.send_recv.specs.Steps.{moves_on}
 use Rattle.send_recv.specs.Tries.{aim_at}
 use Rattle.send_recv.specs.Turns.{NoLoad, waits_at}
-use Rattle.send_recv.specs.Ranks.{with_slot}
-use Rattle.script_plain.specs.Collectives.{started}
+use Rattle.send_recv.specs.Ranks.{holding_slot}
+use Rattle.script_plain.specs.Collectives.{start_of_rank}
 use Rattle.script_machine.specs.Local.{Local, local_next}
 use Rattle.script_machine.specs.Moves.{is_ended, is_stopped, went}
 use Rattle.script_machine.specs.Next.{Next, is_going}
 use Rattle.script_machine.specs.Next.Next.{Ends, Goes, Posts, Sends, Recvs, Bars}
 use Rattle.script_machine.proofs.StoppedLaws.{stopped_ends}
-use Rattle.rcce_ue.specs.Left.{left_of, rest_of}
+use Rattle.rcce_ue.specs.Left.{ue_left, rest_of}
 use Rattle.rcce_ue.specs.Standing.{IsFree, IsNoCall, Tied, keeping}
-use Rattle.rcce_ue.specs.Turns.{AloneDoes, Behind, IsStill, Turns, Within, slot_aim}
-use Rattle.rcce_ue.specs.Ues.{UeView, entered}
+use Rattle.rcce_ue.specs.Turns.{AloneDoes, Behind, IsUeStill, Turns, Within, slot_aim}
+use Rattle.rcce_ue.specs.Ues.{UeView, at_next_call}
 use Rattle.rcce_ue.specs.declared.calls.Open.TheVariants.{Nothing}
 use Rattle.rcce_ue.proofs.EnterLemmas.{entered_left, entered_tied, holds_none}
 use Rattle.rcce_ue.proofs.KeepLemmas.{begun_at, behind_by, kept_tied, no_try, not_over, parity_kept, turned_by, unless_below, unless_falls, unless_one}
@@ -99,7 +99,7 @@ module _ (ue : UeView) (s : Sight) (done : Bool) where
   does_stopped true b is = (refl, refl)
   does_stopped false b is = absurd (cc)
 
-  does_slot : (t : Sight) (d : Private) (a b : Bool) → a ≡ false → b ≡ true → SlotDoes (with_slot s ue.core ue.slot) done t d → AloneDoes ue s (not a && b) done t d
+  does_slot : (t : Sight) (d : Private) (a b : Bool) → a ≡ false → b ≡ true → SlotDoes (holding_slot s ue.core ue.slot) done t d → AloneDoes ue s (not a && b) done t d
   does_slot t d true b one two does = absurd (cc)
   does_slot t d false true one two does = does
   does_slot t d false false one two does = absurd (cc)
@@ -113,7 +113,7 @@ module _ (ue : UeView) (s : Sight) (tied : Tied (record ue { op = Nothing }) s) 
 
   -- the UE after a statement of its own
   abbrev pub gone_ue : Next Local → UeView
-  gone_ue n = entered (record ue { machine = record ue.machine { local = went n ue.machine.local } })
+  gone_ue n = at_next_call (record ue { machine = record ue.machine { local = went n ue.machine.local } })
 
   goes_by : (n : Next Local) → local_next ue.machine.local ≡ n → is_going n ≡ true → Turns (record ue { op = Nothing }) s (gone_ue n) s turn.Moved
   goes_by Ends is going = absurd (cc)
@@ -122,12 +122,12 @@ module _ (ue : UeView) (s : Sight) (tied : Tied (record ue { op = Nothing }) s) 
       let open_still : is_ended (local_next ue.machine.local) ≡ false = ap (λ (n : Next Local). is_ended n) is in
       record {
         tied = entered_tied (record ue { machine = record ue.machine { local = v } }) s tied.last (begun_at ue.machine v tied.begun) tied.setup_is tied.rank_is
-            (stood_went (started ue.machine.script ue.machine.rank) (record_in s) ue.machine.local tied.last (record_in s) tied.stood on v is refl)
+            (stood_went (start_of_rank ue.machine.script ue.machine.rank) (record_in s) ue.machine.local tied.last (record_in s) tied.stood on v is refl)
             free tied.hands tied.room tied.posted_is tied.target tied.sent_is tied.bytes_are;
         turned = turned_by (record ue { op = Nothing }) s (gone_ue (Goes v)) s turn.Moved [] (did_nothing s) (does_nothing (record ue { op = Nothing }) s true (is_stopped ue.machine.local) (is_ended (local_next ue.machine.local)) open_still) (refl, refl, refl) (NoTry (aim_none (is_stopped ue.machine.local) (is_ended (local_next ue.machine.local)) _ open_still) refl) (λ spot same. absurd (cc)) tt (
           let most = entered_left (record ue { machine = record ue.machine { local = v } }) (begun_at ue.machine v tied.begun) in
               let rest = falls ue.machine.setup ue.machine.rank ue.machine.local (Goes v) is in
-              let less : slot_left ue.slot + rest_of ue.machine.setup ue.machine.rank v < left_of (record ue { op = Nothing }) =
+              let less : slot_left ue.slot + rest_of ue.machine.setup ue.machine.rank v < ue_left (record ue { op = Nothing }) =
               unless_below (is_stopped ue.machine.local) _ _ on (omega (arith, rest)) in
               omega (arith, most, less),
           not_over (record ue { op = Nothing }) on open_still,
@@ -159,7 +159,7 @@ module _ (ue : UeView) (s : Sight) (tied : Tied (record ue { op = Nothing }) s) 
       abbrev pub slot_ue : UeView
       slot_ue = record ue { core = d; slot = now; op = Nothing }
 
-      module _ (answer : Turn) (r : SlotTurned (with_slot s ue.core ue.slot) (with_slot t d now) answer) where
+      module _ (answer : Turn) (r : SlotTurned (holding_slot s ue.core ue.slot) (holding_slot t d now) answer) where
         tried_slot : Tried (slot_aim s.seat ue.machine.local ue.slot) r.events (waits_at answer)
         tried_slot = subst (λ (aim : Option Aim). Tried aim r.events (waits_at answer)) (sym (aim_of_slot (is_stopped ue.machine.local) (is_ended (local_next ue.machine.local)) _ on ended)) r.tried
 
@@ -171,7 +171,7 @@ module _ (ue : UeView) (s : Sight) (tied : Tied (record ue { op = Nothing }) s) 
             kept_tied (record ue { op = Nothing }) s t tied (seat_kept s r.events t r.did) on r.calls r.rest.hold d now ue.parity Nothing ue.inbox slot same
             (parity_kept (record_in s) (record_in t) ue.parity r.rest.flips tied.parity_is) tied.room (record { stage = r.stage ∙ tied.stands.0.stage; empty = r.buffer }, tied.stands.1)
 
-      pub slot_moved : SlotTurned (with_slot s ue.core ue.slot) (with_slot t d now) turn.Moved → Turns (record ue { op = Nothing }) s slot_ue t turn.Moved
+      pub slot_moved : SlotTurned (holding_slot s ue.core ue.slot) (holding_slot t d now) turn.Moved → Turns (record ue { op = Nothing }) s slot_ue t turn.Moved
       slot_moved r =
           let fewer = r.means.0 in
           record {
@@ -183,14 +183,14 @@ module _ (ue : UeView) (s : Sight) (tied : Tied (record ue { op = Nothing }) s) 
             ) r.rest.heap (none_stored s.seat.setup ue.core r.events r.no_drafts) r.held;
           }
 
-      pub slot_waited : (spot : Spot) → SlotTurned (with_slot s ue.core ue.slot) (with_slot t d now) (turn.Waiting spot) → Turns (record ue { op = Nothing }) s slot_ue t (turn.Waiting spot)
+      pub slot_waited : (spot : Spot) → SlotTurned (holding_slot s ue.core ue.slot) (holding_slot t d now) (turn.Waiting spot) → Turns (record ue { op = Nothing }) s slot_ue t (turn.Waiting spot)
       slot_waited spot r =
-          let still : IsStill (record ue { op = Nothing }) slot_ue = (λ i. record ue { core = d; slot = r.means i; op = Nothing }) in
+          let still : IsUeStill (record ue { op = Nothing }) slot_ue = (λ i. record ue { core = d; slot = r.means i; op = Nothing }) in
           record {
             tied = kept (turn.Waiting spot) r (inr (ap (λ (x : SlotAt). x.to) r.means));
             turned = turned_by (record ue { op = Nothing }) s slot_ue t (turn.Waiting spot) r.events r.did (slot_did (turn.Waiting spot) r) (refl, refl, refl) (tried_slot (turn.Waiting spot) r) r.rests r.only (
               still,
-              ap left_of still,
+              ap ue_left still,
               record { stage = r.stage; post = r.post (ap (λ (x : SlotAt). x.to) r.means); rest = r.rest; calls = r.calls },
               over_full (is_stopped ue.machine.local) (is_ended (local_next ue.machine.local)) (is_none ue.slot.to) on
                   (slot_tries s.seat.setup.layout (host_of s.seat.setup.hosts s.seat.rank) ue.slot.to ue.slot.seen r.events spot r.tried),
@@ -198,7 +198,7 @@ module _ (ue : UeView) (s : Sight) (tied : Tied (record ue { op = Nothing }) s) 
             ) r.rest.heap (none_stored s.seat.setup ue.core r.events r.no_drafts) r.held;
           }
 
-      pub slot_done : SlotTurned (with_slot s ue.core ue.slot) (with_slot t d now) turn.Done → Turns (record ue { op = Nothing }) s slot_ue t turn.Done
+      pub slot_done : SlotTurned (holding_slot s ue.core ue.slot) (holding_slot t d now) turn.Done → Turns (record ue { op = Nothing }) s slot_ue t turn.Done
       slot_done r =
           let nothing = r.nothing refl in
           record {
@@ -212,7 +212,7 @@ module _ (ue : UeView) (s : Sight) (tied : Tied (record ue { op = Nothing }) s) 
           }
 
       -- a turn of the slot, whatever it answers
-      pub slot_turns : (answer : Turn) → SlotTurned (with_slot s ue.core ue.slot) (with_slot t d now) answer → Turns (record ue { op = Nothing }) s slot_ue t answer
+      pub slot_turns : (answer : Turn) → SlotTurned (holding_slot s ue.core ue.slot) (holding_slot t d now) answer → Turns (record ue { op = Nothing }) s slot_ue t answer
       slot_turns turn.Moved r = slot_moved r
       slot_turns (turn.Waiting spot) r = slot_waited spot r
       slot_turns turn.Done r = slot_done r

@@ -48,7 +48,7 @@ module _ (seat : Seat) (memory : Memory) (records : ℕ → Record) (rec : Recor
     word_told place is found =
         (aimed memory (AtWord place (flag_value (value_at values comm))) aim is tells) (found ∙ ap (λ (n : ℕ). n % 2) (sym (like.flips comm)) ∙ sym (parity comm below))
 
-    bar_by : (stage : BarStage) → bar.IsAtStage seat rec comm stage → bar.aim_at seat comm stage (flag_value (value_at values comm)) ≡ Some aim → BarWaits s view me comm (records me)
+    bar_by : (stage : BarStage) → bar.IsAtStage seat rec comm stage → bar.barrier_aim_at seat comm stage (flag_value (value_at values comm)) ≡ Some aim → BarWaits s view me comm (records me)
     bar_by barrier.Flip at is = absurd (cc (is))
     bar_by (barrier.Gather seen) (root, more, stage) is =
         let member = member_is s comm me (seen + 1) more in
@@ -59,5 +59,5 @@ module _ (seat : Seat) (memory : Memory) (records : ℕ → Record) (rec : Recor
     bar_by barrier.Finished at is = absurd (cc (is))
 
     -- in a barrier
-    pub bar_waits : (stage : BarStage) → bar.IsAtStage seat rec comm stage → bar.aim_at seat comm stage (flag_value (value_at values comm)) ≡ Some aim → BarWaits s view me comm (records me)
+    pub bar_waits : (stage : BarStage) → bar.IsAtStage seat rec comm stage → bar.barrier_aim_at seat comm stage (flag_value (value_at values comm)) ≡ Some aim → BarWaits s view me comm (records me)
     bar_waits stage at is = bar_by stage at is

@@ -29,19 +29,19 @@ use Rattle.send_recv.specs.Tries as tries
 use Rattle.send_recv.specs.Turns.{IsAtRest, IsSamePost, Last, LastHeld, NoLoad, OnlyTries, StoresFromBuffer, is_no_draft}
 use Rattle.send_recv.proofs.Starts.{slot_stays}
 use Rattle.barrier.specs.Flags.{value_at}
-use Rattle.barrier.specs.Stages.{BarAt, BarStands, IsAtStage, aim_at, bar_call, is_finished, left_by, meeting}
+use Rattle.barrier.specs.Stages.{BarAt, BarStands, IsAtStage, barrier_aim_at, bar_call, is_bar_finished, left_by, meeting}
 use Rattle.barrier.specs.Turns.{BarTurned, Does}
 use Rattle.barrier.specs.declared.stages.BarStage.{BarStage}
 use Rattle.barrier.specs.declared.stages.BarStage.TheVariants as stage
-use Rattle.script_plain.specs.Collectives.{started}
+use Rattle.script_plain.specs.Collectives.{start_of_rank}
 use Rattle.script_machine.specs.Local.{Local, local_next}
-use Rattle.script_machine.specs.Moves.{is_stopped, passed}
+use Rattle.script_machine.specs.Moves.{is_stopped, after_pass}
 use Rattle.script_machine.specs.Next.{Next}
 use Rattle.script_machine.specs.Next.Next.{Bars}
-use Rattle.rcce_ue.specs.Left.{left_of, next_bound, rest_of}
+use Rattle.rcce_ue.specs.Left.{ue_left, next_bound, rest_of}
 use Rattle.rcce_ue.specs.Standing.{IsBarOf, IsFree, Tied, keeping}
-use Rattle.rcce_ue.specs.Turns.{Behind, IsStill, Turns}
-use Rattle.rcce_ue.specs.Ues.{UeView, entered}
+use Rattle.rcce_ue.specs.Turns.{Behind, IsUeStill, Turns}
+use Rattle.rcce_ue.specs.Ues.{UeView, at_next_call}
 use Rattle.rcce_ue.specs.declared.calls.Open.TheVariants.{Meeting}
 use Rattle.rcce_ue.proofs.CountLemmas.{bytes_same, sends_same}
 use Rattle.rcce_ue.proofs.EnterLemmas.{entered_left, entered_tied, holds_none}
@@ -54,11 +54,11 @@ calls_next : (op : BarAt) (n : Next Local) → IsBarOf op n → is_calling n ≡
 calls_next op (Bars comm after) of = refl
 calls_next op _ of = absurd of
 
-open_of : (op : BarAt) (n : Next Local) → IsBarOf op n → is_finished op.stage ≡ false
+open_of : (op : BarAt) (n : Next Local) → IsBarOf op n → is_bar_finished op.stage ≡ false
 open_of op (Bars comm after) of = of.1
 open_of op _ of = absurd of
 
-still_of : (op now : BarAt) (n : Next Local) → now.comm ≡ op.comm → is_finished now.stage ≡ false → IsBarOf op n → IsBarOf now n
+still_of : (op now : BarAt) (n : Next Local) → now.comm ≡ op.comm → is_bar_finished now.stage ≡ false → IsBarOf op n → IsBarOf now n
 still_of op now (Bars comm after) same on of = (same ∙ of.0, on)
 still_of op now _ same on of = absurd of
 
@@ -71,7 +71,7 @@ looked_held : (s t : Sight) (c d : Private) (events : List Event) (place : WordA
 looked_held s t c d events place found did looks =
     Last [] (line_of_word place) looks.words [] (same_events s t events (loads_of (line_of_word place) looks.words) did looks.looks.did) refl looks.looks.held
 
-held_by : (seat : Seat) (comm : ℕ) (at : BarStage) (value : ℕ) (s t : Sight) (c d : Private) (events : List Event) → is_finished at ≡ false → Did s events t → Does seat comm at value s c t d → LastHeld events c.evictions d
+held_by : (seat : Seat) (comm : ℕ) (at : BarStage) (value : ℕ) (s t : Sight) (c d : Private) (events : List Event) → is_bar_finished at ≡ false → Did s events t → Does seat comm at value s c t d → LastHeld events c.evictions d
 held_by seat comm stage.Flip value s t c d events on did does = NoLoad (ap load_count (same_events s t events _ did does.did))
 held_by seat comm (stage.Gather seen) value s t c d events on did does = looked_held s t c d events _ does.0 did does.1
 held_by seat comm (stage.Release released) value s t c d events on did does = NoLoad (ap load_count (same_events s t events _ did does.did))
@@ -83,7 +83,7 @@ looked_rests : (s t : Sight) (c d : Private) (events : List Event) (place : Word
 looked_rests s t c d events place found did looks = ap (list_all is_resting) (same_events s t events (loads_of (line_of_word place) looks.words) did looks.looks.did)
 
 rests_by : (seat : Seat) (comm : ℕ) (at : BarStage) (value : ℕ) (s t : Sight) (c d : Private) (events : List Event) (spot : Spot) → Did s events t → Does seat comm at value s c t d
-    → Tried (aim_at seat comm at value) events (Some spot) → list_all is_resting events ≡ true
+    → Tried (barrier_aim_at seat comm at value) events (Some spot) → list_all is_resting events ≡ true
 rests_by seat comm stage.Flip value s t c d events spot did does tried = absurd (no_try events spot tried)
 rests_by seat comm (stage.Gather seen) value s t c d events spot did does tried = looked_rests s t c d events _ does.0 did does.1
 rests_by seat comm (stage.Release released) value s t c d events spot did does tried = absurd (no_try events spot tried)
@@ -106,7 +106,7 @@ looked_only layout s t c d events place value found spot did looks tried =
     (looks.words, same_events s t events (loads_of (line_of_word place) looks.words) did looks.looks.did)
 
 only_by : (seat : Seat) (comm : ℕ) (at : BarStage) (value : ℕ) (s t : Sight) (c d : Private) (events : List Event) (spot : Spot) → Did s events t → Does seat comm at value s c t d
-    → Tried (aim_at seat comm at value) events (Some spot) → OnlyTries (tries.aim_at seat.setup.layout (Some spot)) events
+    → Tried (barrier_aim_at seat comm at value) events (Some spot) → OnlyTries (tries.aim_at seat.setup.layout (Some spot)) events
 only_by seat comm stage.Flip value s t c d events spot did does tried = absurd (no_try events spot tried)
 only_by seat comm (stage.Gather seen) value s t c d events spot did does tried = looked_only seat.setup.layout s t c d events _ value does.0 spot did does.1 tried
 only_by seat comm (stage.Release released) value s t c d events spot did does tried = absurd (no_try events spot tried)
@@ -139,7 +139,7 @@ at_rest rec new same = record {
   calls = ap (λ (r : Record). r.calls) same;
 }
 
-met_call : (op : BarAt) (comm : ℕ) → op.comm ≡ comm → is_finished op.stage ≡ false → bar_call op ≡ Bar comm ∷ []
+met_call : (op : BarAt) (comm : ℕ) → op.comm ≡ comm → is_bar_finished op.stage ≡ false → bar_call op ≡ Bar comm ∷ []
 met_call op comm at on = λ i. cond (on i) [] (Bar (at i) ∷ [])
 
 -- how many turns are left of a barrier, by the setup and the rank
@@ -177,7 +177,7 @@ module _ (ue : UeView) (s t : Sight) (op : BarAt) (tied : Tied (record ue { op =
       held_here : LastHeld r.events ue.core.evictions d
       held_here = held_by s.seat op.comm op.stage (flag_value (value_at values op.comm)) s t ue.core d r.events (open_of op (local_next ue.machine.local) of_next) r.did r.does
 
-      kept : is_finished now.stage ≡ false → (record_in t).calls ≡ (record_in s).calls → Tied later_bar t
+      kept : is_bar_finished now.stage ≡ false → (record_in t).calls ≡ (record_in s).calls → Tied later_bar t
       kept open_still calls =
           kept_tied (record ue { op = Meeting op }) s t tied seat on calls r.rest.registers d ue.slot values (Meeting now) ue.inbox slot_here (inr refl) stands.parity tied.room
           (stands, still_of op now (local_next ue.machine.local) r.same open_still of_next)
@@ -198,16 +198,16 @@ module _ (ue : UeView) (s t : Sight) (op : BarAt) (tied : Tied (record ue { op =
 
     pub bar_waited : (spot : Spot) → Turned (turn.Waiting spot) → Turns (record ue { op = Meeting op }) s later_bar t (turn.Waiting spot)
     bar_waited spot r =
-        let still : IsStill (record ue { op = Meeting op }) later_bar = (λ i. record ue { core = d; parity = values; op = Meeting (r.means.0 i) }) in
+        let still : IsUeStill (record ue { op = Meeting op }) later_bar = (λ i. record ue { core = d; parity = values; op = Meeting (r.means.0 i) }) in
         record {
-          tied = kept (turn.Waiting spot) r (ap (λ (x : BarAt). is_finished x.stage) r.means.0 ∙ open_of op (local_next ue.machine.local) of_next) (ap (λ (x : Record). x.calls) r.means.1);
+          tied = kept (turn.Waiting spot) r (ap (λ (x : BarAt). is_bar_finished x.stage) r.means.0 ∙ open_of op (local_next ue.machine.local) of_next) (ap (λ (x : Record). x.calls) r.means.1);
           turned = turned_by (record ue { op = Meeting op }) s later_bar t (turn.Waiting spot) r.events r.did r.does (refl, refl, refl) r.tried (λ at same. rests_by s.seat op.comm op.stage (flag_value (value_at values op.comm)) s t ue.core d r.events spot r.did r.does r.tried) (only_by s.seat op.comm op.stage (flag_value (value_at values op.comm)) s t ue.core d r.events spot r.did r.does r.tried)
-              (still, ap left_of still, at_rest (record_in s) (record_in t) r.means.1, not_over (record ue { op = Meeting op }) on (not_ended (local_next ue.machine.local) at_call), not_going (local_next ue.machine.local) at_call) r.rest.heap (drafts_here (turn.Waiting spot) r) (held_here (turn.Waiting spot) r);
+              (still, ap ue_left still, at_rest (record_in s) (record_in t) r.means.1, not_over (record ue { op = Meeting op }) on (not_ended (local_next ue.machine.local) at_call), not_going (local_next ue.machine.local) at_call) r.rest.heap (drafts_here (turn.Waiting spot) r) (held_here (turn.Waiting spot) r);
         }
 
     -- the UE after the turn that ends the barrier
     abbrev pub done_bar : Next Local → UeView
-    done_bar n = entered (record ue { machine = record ue.machine { local = passed n ue.machine.local }; core = d; parity = values })
+    done_bar n = at_next_call (record ue { machine = record ue.machine { local = after_pass n ue.machine.local }; core = d; parity = values })
 
     module _ (r : Turned turn.Done) where
       free : IsFree t (keeping d ue.slot values)
@@ -230,7 +230,7 @@ module _ (ue : UeView) (s t : Sight) (op : BarAt) (tied : Tied (record ue { op =
           record {
             tied = entered_tied (record ue { machine = record ue.machine { local = v }; core = d; parity = values }) t tied.last (begun_at ue.machine v tied.begun)
                 (ap (λ (x : Seat). x.setup) (seat turn.Done r) ∙ tied.setup_is) (ap (λ (x : Seat). x.rank) (seat turn.Done r) ∙ tied.rank_is)
-                (stood_met (started ue.machine.script ue.machine.rank) (record_in s) ue.machine.local tied.last (record_in t) tied.stood on comm v is calls)
+                (stood_met (start_of_rank ue.machine.script ue.machine.rank) (record_in s) ue.machine.local tied.last (record_in t) tied.stood on comm v is calls)
                 free (hands_kept (record_in s) (record_in t) r.rest.registers tied.hands) tied.room tied.posted_is tied.target
                 (sends_same (record_in s).calls (record_in t).calls _ ue.sent calls refl tied.sent_is)
                 (bytes_same (record_in s).calls (record_in t).calls _ ue.sent_bytes calls refl tied.bytes_are);
@@ -238,7 +238,7 @@ module _ (ue : UeView) (s t : Sight) (op : BarAt) (tied : Tied (record ue { op =
               let most = entered_left (record ue { machine = record ue.machine { local = v }; core = d; parity = values }) (begun_at ue.machine v tied.begun) in
                   let rest = falls ue.machine.setup ue.machine.rank ue.machine.local (Bars comm v) is in
                   let bound = ap (next_bound ue.machine.setup ue.machine.rank) is in
-                  let less : slot_left ue.slot + rest_of ue.machine.setup ue.machine.rank v < left_of (record ue { op = Meeting op }) =
+                  let less : slot_left ue.slot + rest_of ue.machine.setup ue.machine.rank v < ue_left (record ue { op = Meeting op }) =
                   unless_below (is_stopped ue.machine.local) _ _ on (omega (arith, rest, bound)) in
                   omega (arith, most, less),
               not_over (record ue { op = Meeting op }) on (not_ended (local_next ue.machine.local) at_call),

@@ -20,28 +20,28 @@ use Rattle.put_get.specs.Cores.{Private}
 use Rattle.send_recv.specs.Ops.{SlotAt, slot_left}
 use Rattle.send_recv.specs.Turns.{HoldsNoneBy}
 use Rattle.send_recv.proofs.Starts.{receive_starts, send_starts}
-use Rattle.script_plain.specs.Collectives.{started}
+use Rattle.script_plain.specs.Collectives.{start_of_rank}
 use Rattle.script_machine.specs.Local.{Local, local_next}
 use Rattle.script_machine.specs.Machine.{MachineView, on_its_way}
 use Rattle.script_machine.specs.Moves.{is_stopped}
 use Rattle.script_machine.specs.Next.{Next}
 use Rattle.script_machine.specs.Next.Next.{Ends, Goes, Posts, Sends, Recvs, Bars}
-use Rattle.script_plain.specs.Ready.{IsReady}
+use Rattle.script_plain.specs.Ready.{CanMakeNext}
 use Rattle.script_machine.specs.declared.posts.Posted.{Posted}
 use Rattle.script_plain.proofs.ProgramLengths.ReadyLemmas.{ready-law}
 use Rattle.script_machine.proofs.Choices as choices
 use Rattle.script_machine.proofs.StoppedLaws.{stopped_ends}
-use Rattle.rcce_ue.specs.Left.{left_of, next_bound, open_left, rest_behind, rest_of, unless}
+use Rattle.rcce_ue.specs.Left.{ue_left, next_bound, open_left, rest_behind, rest_of, unless}
 use Rattle.rcce_ue.specs.Standing.{IsFree, IsLastTarget, OpStands, Stood, Tied, bytes_sent, keeping}
 use Rattle.rcce_ue.specs.Standing.Stood.{Runs, Refused}
-use Rattle.rcce_ue.specs.Ues.{IsBegun, UeView, counted, entered, is_sending, opened}
+use Rattle.rcce_ue.specs.Ues.{IsBegun, UeView, capped_count, at_next_call, is_send_call, open_for_next}
 use Rattle.rcce_ue.proofs.MeasureLemmas.{falls, opened_by}
 
 -- the call that a rank comes to can be made
-pub ready_here : (m : MachineView) (rec : Record) (last : Option Posted) → IsBegun m → Stood (started m.script m.rank) rec m.local last → IsReady m.script m.rank (local_next m.local)
+pub ready_here : (m : MachineView) (rec : Record) (last : Option Posted) → IsBegun m → Stood (start_of_rank m.script m.rank) rec m.local last → CanMakeNext m.script m.rank (local_next m.local)
 ready_here m rec last begun (Runs came) = ready-law m.script m.rank begun.whole begun.within _ last came
 ready_here m rec last begun (Refused v from head sent take refuse header came is other noted says at stopped) =
-    subst (IsReady m.script m.rank) (sym (stopped_ends m.local stopped)) tt
+    subst (CanMakeNext m.script m.rank) (sym (stopped_ends m.local stopped)) tt
 
 -- another rank of the script is one of the run
 pub peers_of : (s : SetupView) (nue i j : ℕ) → s.nue ≡ nue → i < nue → IsPeer nue i j → are_peers s i j ≡ true
@@ -73,8 +73,8 @@ module _ (m : MachineView) (s : Sight) (begun : IsBegun m) (setup_is : s.seat.se
       (peers_of s.seat.setup m.script.nue m.rank j (ap (λ (x : SetupView). x.nue) setup_is ∙ begun.ranks) begun.within peer)
 
   -- it stands at the beginning of the call that it comes to
-  pub opened_stands : (c : Private) (slot : SlotAt) (parity : List Bool) (inbox : List ℕ) → IsFree s (keeping c slot parity) → length inbox ≡ 65536 → (n : Next Local) → IsReady m.script m.rank n
-      → OpStands s c slot parity inbox (opened n) n
+  pub opened_stands : (c : Private) (slot : SlotAt) (parity : List Bool) (inbox : List ℕ) → IsFree s (keeping c slot parity) → length inbox ≡ 65536 → (n : Next Local) → CanMakeNext m.script m.rank n
+      → OpStands s c slot parity inbox (open_for_next n) n
   opened_stands c slot parity inbox free room Ends ready = (free.messages.between, tt)
   opened_stands c slot parity inbox free room (Goes after) ready = (free.messages.between, tt)
   opened_stands c slot parity inbox free room (Posts message after) ready = (
@@ -103,9 +103,9 @@ module _ (m : MachineView) (s : Sight) (begun : IsBegun m) (setup_is : s.seat.se
 
 -- a UE that comes to what stands next and the record fit together
 pub entered_tied : (ue : UeView) (s : Sight) (last : Option Posted) → IsBegun ue.machine → s.seat.setup ≡ ue.machine.setup → s.seat.rank ≡ ue.machine.rank
-    → Stood (started ue.machine.script ue.machine.rank) (record_in s) ue.machine.local last → IsFree s (keeping ue.core ue.slot ue.parity) → ((core : ℕ) → (record_in s).held core ≡ None)
+    → Stood (start_of_rank ue.machine.script ue.machine.rank) (record_in s) ue.machine.local last → IsFree s (keeping ue.core ue.slot ue.parity) → ((core : ℕ) → (record_in s).held core ≡ None)
     → length ue.inbox ≡ 65536 → ue.posted ≡ option_map on_its_way last → IsLastTarget ue.slot last
-    → ue.sent ≡ counted (count_by is_sending (record_in s).calls) → ue.sent_bytes ≡ counted (sum_by bytes_sent (record_in s).calls) → Tied (entered ue) s
+    → ue.sent ≡ capped_count (count_by is_send_call (record_in s).calls) → ue.sent_bytes ≡ capped_count (sum_by bytes_sent (record_in s).calls) → Tied (at_next_call ue) s
 entered_tied ue s last begun setup_is rank_is stood free hands room posted target sends bytes = record {
   begun = begun;
   setup_is = setup_is;
@@ -128,28 +128,28 @@ module _ (s : SetupView) (rank : ℕ) (u : Local) (slot : SlotAt) (within : rank
   split : (open_now bound slot_now rest after : ℕ) → open_now ≤ slot_now + (1 + bound) → rest ≡ (1 + bound) + after → open_now + (rest - (1 + bound)) ≤ slot_now + rest
   split open_now bound slot_now rest after fits is = omega (arith, fits, is)
 
-  by_next : (n : Next Local) → local_next u ≡ n → open_left s rank (opened n) slot + rest_behind s rank (opened n) u ≤ slot_left slot + rest_of s rank u
+  by_next : (n : Next Local) → local_next u ≡ n → open_left s rank (open_for_next n) slot + rest_behind s rank (open_for_next n) u ≤ slot_left slot + rest_of s rank u
   by_next Ends is = omega arith
   by_next (Goes after) is = omega arith
   by_next (Posts message after) is =
-      subst (λ (x : Next Local). open_left s rank (opened (Posts message after)) slot + (rest_of s rank u - (1 + next_bound s rank x)) ≤ slot_left slot + rest_of s rank u) (sym is)
+      subst (λ (x : Next Local). open_left s rank (open_for_next (Posts message after)) slot + (rest_of s rank u - (1 + next_bound s rank x)) ≤ slot_left slot + rest_of s rank u) (sym is)
       (split _ (next_bound s rank (Posts message after)) (slot_left slot) (rest_of s rank u) (rest_of s rank after) (opened_by s rank slot within (Posts message after)) (falls s rank u (Posts message after) is))
   by_next (Sends to head bytes after) is =
-      subst (λ (x : Next Local). open_left s rank (opened (Sends to head bytes after)) slot + (rest_of s rank u - (1 + next_bound s rank x)) ≤ slot_left slot + rest_of s rank u) (sym is)
+      subst (λ (x : Next Local). open_left s rank (open_for_next (Sends to head bytes after)) slot + (rest_of s rank u - (1 + next_bound s rank x)) ≤ slot_left slot + rest_of s rank u) (sym is)
       (split _ (next_bound s rank (Sends to head bytes after)) (slot_left slot) (rest_of s rank u) (rest_of s rank after) (opened_by s rank slot within (Sends to head bytes after)) (falls s rank u (Sends to head bytes after) is))
   by_next (Recvs from head take_in refuse) is =
-      subst (λ (x : Next Local). open_left s rank (opened (Recvs from head take_in refuse)) slot + (rest_of s rank u - (1 + next_bound s rank x)) ≤ slot_left slot + rest_of s rank u) (sym is)
+      subst (λ (x : Next Local). open_left s rank (open_for_next (Recvs from head take_in refuse)) slot + (rest_of s rank u - (1 + next_bound s rank x)) ≤ slot_left slot + rest_of s rank u) (sym is)
       (split _ (next_bound s rank (Recvs from head take_in refuse)) (slot_left slot) (rest_of s rank u) _ (opened_by s rank slot within (Recvs from head take_in refuse))
       (falls s rank u (Recvs from head take_in refuse) is (replicate head.len 0) (length-replicate {A = ℕ} head.len 0)))
   by_next (Bars comm after) is =
-      subst (λ (x : Next Local). open_left s rank (opened (Bars comm after)) slot + (rest_of s rank u - (1 + next_bound s rank x)) ≤ slot_left slot + rest_of s rank u) (sym is)
+      subst (λ (x : Next Local). open_left s rank (open_for_next (Bars comm after)) slot + (rest_of s rank u - (1 + next_bound s rank x)) ≤ slot_left slot + rest_of s rank u) (sym is)
       (split _ (next_bound s rank (Bars comm after)) (slot_left slot) (rest_of s rank u) (rest_of s rank after) (opened_by s rank slot within (Bars comm after)) (falls s rank u (Bars comm after) is))
 
 unless_less : (b : Bool) (n m : ℕ) → n ≤ m → unless b n ≤ m
 unless_less true n m le = omega arith
 unless_less false n m le = le
 
-pub entered_left : (ue : UeView) → IsBegun ue.machine → left_of (entered ue) ≤ slot_left ue.slot + rest_of ue.machine.setup ue.machine.rank ue.machine.local
+pub entered_left : (ue : UeView) → IsBegun ue.machine → ue_left (at_next_call ue) ≤ slot_left ue.slot + rest_of ue.machine.setup ue.machine.rank ue.machine.local
 entered_left ue begun =
     let ranks = begun.ranks in
     let within = begun.within in

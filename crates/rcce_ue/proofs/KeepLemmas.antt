@@ -18,17 +18,17 @@ use Rattle.send_recv.specs.Tries.{aim_at}
 use Rattle.send_recv.specs.Turns.{LastHeld, OnlyTries, StoresFromBuffer, waits_at}
 use Rattle.sync_flags.specs.Tries.{NoTry, Vain, Fruitful, Tried}
 use Rattle.barrier.specs.Flags.{IsParityOf}
-use Rattle.script_plain.specs.Collectives.{started}
+use Rattle.script_plain.specs.Collectives.{start_of_rank}
 use Rattle.script_machine.specs.Local.{Local, local_next}
 use Rattle.script_machine.specs.Machine.{MachineView}
 use Rattle.script_machine.specs.Moves.{is_ended, is_stopped}
 use Rattle.script_machine.specs.Next.{Next, is_going}
 use Rattle.script_machine.specs.Next.Next.{Ends, Goes, Posts, Sends, Recvs, Bars}
 use Rattle.script_machine.specs.declared.posts.Posted.{Posted}
-use Rattle.rcce_ue.specs.Left.{left_of, unless}
+use Rattle.rcce_ue.specs.Left.{ue_left, unless}
 use Rattle.rcce_ue.specs.Standing.{IsLastTarget, OpStands, Tied, bytes_sent}
 use Rattle.rcce_ue.specs.Turns.{IsBehind, UeDoes, UeMeans, UeTurned, Within, is_over, ue_aim}
-use Rattle.rcce_ue.specs.Ues.{IsBegun, UeView, counted, is_sending}
+use Rattle.rcce_ue.specs.Ues.{IsBegun, UeView, capped_count, is_send_call}
 use Rattle.rcce_ue.specs.declared.calls.Open.{Open}
 use Rattle.rcce_ue.proofs.PathLemmas.{stood_kept}
 
@@ -104,7 +104,7 @@ kept_tied ue s t tied seat on calls held d after parity op inbox slot same parit
   setup_is = ap (λ (x : Seat). x.setup) seat ∙ tied.setup_is;
   rank_is = ap (λ (x : Seat). x.rank) seat ∙ tied.rank_is;
   last = tied.last;
-  stood = stood_kept (started ue.machine.script ue.machine.rank) (record_in s) ue.machine.local tied.last (record_in t) tied.stood on calls;
+  stood = stood_kept (start_of_rank ue.machine.script ue.machine.rank) (record_in s) ue.machine.local tied.last (record_in t) tied.stood on calls;
   stands = stands;
   hands = hands_kept (record_in s) (record_in t) held tied.hands;
   slot_is = slot;
@@ -112,8 +112,8 @@ kept_tied ue s t tied seat on calls held d after parity op inbox slot same parit
   room = room;
   posted_is = tied.posted_is;
   target = target_kept ue.slot after tied.last same tied.target;
-  sent_is = tied.sent_is ∙ ap (λ (list : List DataCall). counted (count_by is_sending list)) (sym calls);
-  bytes_are = tied.bytes_are ∙ ap (λ (list : List DataCall). counted (sum_by bytes_sent list)) (sym calls);
+  sent_is = tied.sent_is ∙ ap (λ (list : List DataCall). capped_count (count_by is_send_call list)) (sym calls);
+  bytes_are = tied.bytes_are ∙ ap (λ (list : List DataCall). capped_count (sum_by bytes_sent list)) (sym calls);
 }
 
 -- a UE of which something is left
@@ -137,10 +137,10 @@ unless_one false n m on one = one
 one_fewer : (n m : ℕ) → m ≡ n + 1 → n < m
 one_fewer n m is = omega (arith, is)
 
-pub moved_within : (ue now : UeView) (s t : Sight) → is_stopped ue.machine.local ≡ false → is_ended (local_next ue.machine.local) ≡ false → now.machine ≡ ue.machine → left_of ue ≡ left_of now + 1
+pub moved_within : (ue now : UeView) (s t : Sight) → is_stopped ue.machine.local ≡ false → is_ended (local_next ue.machine.local) ≡ false → now.machine ≡ ue.machine → ue_left ue ≡ ue_left now + 1
     → UeMeans ue s now t turn.Moved
 moved_within ue now s t on next same one =
-    (one_fewer (left_of now) (left_of ue) one, not_over ue on next, Within same one)
+    (one_fewer (ue_left now) (ue_left ue) one, not_over ue on next, Within same one)
 
 -- what stands next is behind
 pub behind_by : (u v : Local) (n : Next Local) → local_next u ≡ n → IsBehind n v → IsBehind (local_next u) v

@@ -19,18 +19,18 @@ use Rattle.script_machine.specs.declared.prims.Source.{Source}
 use Rattle.script_machine.specs.declared.prims.Source.TheVariants as source_of
 use Rattle.script_machine.specs.declared.prims.Standing.{Standing}
 use Rattle.script_machine.specs.declared.prims.Standing.TheVariants as standing
-use Rattle.script_machine.specs.Lengths.{Lengths, asked_length, length_at, lengths_after, lengths_of, source_length, with_register}
+use Rattle.script_machine.specs.Lengths.{Lengths, asked_length, length_of_register, lengths_after, lengths_of, source_length, with_register}
 use Rattle.script_machine.specs.Local.{Local, asked_head, local_next, next_by_act, next_by_prim, prim_by_standing, register_at, source_bytes}
 use Rattle.script_machine.specs.Next.{Next}
 use Rattle.script_machine.specs.Next.Next.{Ends, Goes, Posts, Sends, Recvs, Bars}
 use Rattle.script_machine.specs.Program.{Act, Prim}
 use Rattle.script_machine.proofs.ProgramLengths.NextLengths.{lengths_next}
 use Rattle.rcce_ue.specs.Left.{barrier_bound, bound_of, bounds_left, next_bound, open_left, rest_of}
-use Rattle.rcce_ue.specs.Ues.{opened}
+use Rattle.rcce_ue.specs.Ues.{open_for_next}
 use Rattle.rcce_ue.specs.declared.calls.Open.TheVariants.{Sending}
 
 -- the length of a register
-reg_length : (u : Local) (reg : ℕ) → length_at (lengths_of u) reg ≡ length (register_at u reg)
+reg_length : (u : Local) (reg : ℕ) → length_of_register (lengths_of u) reg ≡ length (register_at u reg)
 reg_length u reg = get_or-map (length {A = ℕ}) u.registers reg []
 
 module _ (s : SetupView) (rank : ℕ) where
@@ -137,7 +137,7 @@ module _ (s : SetupView) (rank : ℕ) (slot : SlotAt) where
       by false = omega (arith, some)
 
   -- the turns of a call that begins, and of the slot, are no more than were reckoned
-  pub opened_by : {U : Type 0} → rank < s.nue → (n : Next U) → open_left s rank (opened n) slot ≤ slot_left slot + (1 + next_bound s rank n)
+  pub opened_by : {U : Type 0} → rank < s.nue → (n : Next U) → open_left s rank (open_for_next n) slot ≤ slot_left slot + (1 + next_bound s rank n)
   opened_by within Ends = omega arith
   opened_by within (Goes after) = omega arith
   opened_by within (Posts message after) = post_opens message.to message.head

@@ -12,16 +12,16 @@ use Rattle.send_recv.specs.Receiving.{RecvStands, RecvTurned}
 use Rattle.send_recv.specs.Sending.{SendStands, SendTurned, SlotStands, SlotTurned}
 use Rattle.send_recv.specs.declared.answers.RecvTurn.{RecvTurn}
 use Rattle.send_recv.specs.declared.answers.RecvTurn.TheVariants as receive
-use Rattle.send_recv.specs.Ranks.{receiving, sending, with_slot}
+use Rattle.send_recv.specs.Ranks.{receiving, sending, holding_slot}
 use Rattle.barrier.specs.Stages.{BarAt, BarStands, meeting}
 use Rattle.barrier.specs.Turns.{BarTurned}
 use Rattle.script_machine.specs.Local.{Local, local_next}
-use Rattle.script_machine.specs.Moves.{bytes_out, is_receiving, is_stopped, length_in, passed, refused, taken, went}
+use Rattle.script_machine.specs.Moves.{bytes_out, is_receiving, is_stopped, length_asked, after_pass, after_refusal, after_take, went}
 use Rattle.script_machine.specs.Next.{Next, is_going}
 use Rattle.script_machine.specs.Next.Next.{Ends, Goes, Posts, Sends, Recvs, Bars}
 use Rattle.rcce_ue.specs.Standing.{IsRecvOf, Tied}
 use Rattle.rcce_ue.specs.Turns.{Turns}
-use Rattle.rcce_ue.specs.Ues.{UeView, counted, entered, posted_by}
+use Rattle.rcce_ue.specs.Ues.{UeView, capped_count, at_next_call, posted_by}
 use Rattle.rcce_ue.specs.declared.calls.Open.TheVariants.{Nothing, Sending, Receiving, Meeting}
 use Rattle.rcce_ue.proofs.AloneTurns.{alone_goes, slot_turns, stopped_done}
 use Rattle.rcce_ue.proofs.BarTurns.{bar_done, bar_moved, bar_waited}
@@ -48,14 +48,14 @@ module _ (ue old now : UeView) (s t : Sight) where
 
     abbrev sent_ue : UeView
     sent_ue =
-        entered
+        at_next_call
         (record ue {
-          machine = record ue.machine { local = passed (local_next ue.machine.local) ue.machine.local };
+          machine = record ue.machine { local = after_pass (local_next ue.machine.local) ue.machine.local };
           core = d;
           slot = after;
           posted = posted_by (local_next ue.machine.local) ue.posted;
-          sent = counted (ue.sent + 1);
-          sent_bytes = counted (ue.sent_bytes + length (bytes_out (local_next ue.machine.local)));
+          sent = capped_count (ue.sent + 1);
+          sent_bytes = capped_count (ue.sent_bytes + length (bytes_out (local_next ue.machine.local)));
         })
 
     pub sending_done : now ≡ sent_ue → SendTurned (sending s ue.core op ue.slot bytes) (sending t d next after bytes) turn.Done → Turns old s now t turn.Moved
@@ -67,7 +67,7 @@ module _ (ue old now : UeView) (s t : Sight) where
     there_recv : Tied (record ue { op = Receiving op }) s
     there_recv = subst (λ (x : UeView). Tied x s) before tied
 
-    asked_by : (n : Next Local) → IsRecvOf op n → op.head.len ≡ length_in n
+    asked_by : (n : Next Local) → IsRecvOf op n → op.head.len ≡ length_asked n
     asked_by Ends of = absurd of
     asked_by (Goes after) of = absurd of
     asked_by (Posts message after) of = absurd of
@@ -75,7 +75,7 @@ module _ (ue old now : UeView) (s t : Sight) where
     asked_by (Recvs from head take_in refuse) of = ap (λ (h : MessageHead). h.len) of.1
     asked_by (Bars comm after) of = absurd of
 
-    pub asked : op.head.len ≡ length_in (local_next ue.machine.local)
+    pub asked : op.head.len ≡ length_asked (local_next ue.machine.local)
     asked = asked_by (local_next ue.machine.local) there_recv.stands.1
 
     receives_by : (n : Next Local) → IsRecvOf op n → IsTrue (is_receiving n)
@@ -95,21 +95,21 @@ module _ (ue old now : UeView) (s t : Sight) where
         let within = there_recv.stands.0.head.len_within in
         omega (arith, room, within)
 
-    pub recv_fits : length_in (local_next ue.machine.local) ≤ length ue.inbox
+    pub recv_fits : length_asked (local_next ue.machine.local) ≤ length ue.inbox
     recv_fits = subst (λ (n : ℕ). n ≤ length ue.inbox) asked head_fits
 
     pub recv_before : RecvStands s ue.core op (take op.head.len ue.inbox)
     recv_before = subst (λ (n : ℕ). RecvStands s ue.core op (take n ue.inbox)) (sym asked) there_recv.stands.0
 
     module _ (next : RecvAt) (d : Private) (inbox : List ℕ) (room : length inbox ≡ length ue.inbox) (stands : RecvStands t d next (take op.head.len inbox)) where
-      recv_stands : RecvStands t d next (take (length_in (local_next ue.machine.local)) inbox)
+      recv_stands : RecvStands t d next (take (length_asked (local_next ue.machine.local)) inbox)
       recv_stands = subst (λ (n : ℕ). RecvStands t d next (take n inbox)) asked stands
 
       abbrev TurnedIn : RecvTurn → Type 0
       TurnedIn answer = RecvTurned (receiving s ue.core op (take op.head.len ue.inbox)) (receiving t d next (take op.head.len inbox)) answer
 
       recv_turned : (answer : RecvTurn) → TurnedIn answer
-          → RecvTurned (receiving s ue.core op (take (length_in (local_next ue.machine.local)) ue.inbox)) (receiving t d next (take (length_in (local_next ue.machine.local)) inbox)) answer
+          → RecvTurned (receiving s ue.core op (take (length_asked (local_next ue.machine.local)) ue.inbox)) (receiving t d next (take (length_asked (local_next ue.machine.local)) inbox)) answer
       recv_turned answer r = subst (λ (n : ℕ). RecvTurned (receiving s ue.core op (take n ue.inbox)) (receiving t d next (take n inbox)) answer) asked r
 
       large : length inbox ≡ 65536
@@ -126,9 +126,9 @@ module _ (ue old now : UeView) (s t : Sight) where
 
       abbrev got_ue : UeView
       got_ue =
-          entered
+          at_next_call
           (record ue {
-            machine = record ue.machine { local = taken (local_next ue.machine.local) (take (length_in (local_next ue.machine.local)) inbox) ue.machine.local };
+            machine = record ue.machine { local = after_take (local_next ue.machine.local) (take (length_asked (local_next ue.machine.local)) inbox) ue.machine.local };
             core = d;
             inbox = inbox;
           })
@@ -138,7 +138,7 @@ module _ (ue old now : UeView) (s t : Sight) where
           (λ there. recv_done ue s t op there d next inbox large recv_stands (recv_turned receive.Done r))
 
       abbrev stopped_ue : MessageHead → UeView
-      stopped_ue sent = entered (record ue { machine = record ue.machine { local = refused (local_next ue.machine.local) sent ue.machine.local }; core = d; inbox = inbox })
+      stopped_ue sent = at_next_call (record ue { machine = record ue.machine { local = after_refusal (local_next ue.machine.local) sent ue.machine.local }; core = d; inbox = inbox })
 
       pub receiving_refused : (sent : MessageHead) → now ≡ stopped_ue sent → TurnedIn (receive.Mismatch sent) → Turns old s now t turn.Moved
       receiving_refused sent is r = carry old (record ue { op = Receiving op }) now (stopped_ue sent) s t turn.Moved before is tied
@@ -154,7 +154,7 @@ module _ (ue old now : UeView) (s t : Sight) where
         (λ there. bar_waited ue s t op there d next values stands spot r)
 
     abbrev met_ue : UeView
-    met_ue = entered (record ue { machine = record ue.machine { local = passed (local_next ue.machine.local) ue.machine.local }; core = d; parity = values })
+    met_ue = at_next_call (record ue { machine = record ue.machine { local = after_pass (local_next ue.machine.local) ue.machine.local }; core = d; parity = values })
 
     pub meeting_done : now ≡ met_ue → BarTurned (meeting s ue.core op ue.parity) (meeting t d next values) turn.Done → Turns old s now t turn.Moved
     meeting_done is r = carry old (record ue { op = Meeting op }) now met_ue s t turn.Moved before is tied
@@ -163,7 +163,7 @@ module _ (ue old now : UeView) (s t : Sight) where
 -- no call is open
 module _ (ue old now : UeView) (s : Sight) (before : old ≡ record ue { op = Nothing }) (tied : Tied old s) where
   abbrev went_ue : UeView
-  went_ue = entered (record ue { machine = record ue.machine { local = went (local_next ue.machine.local) ue.machine.local } })
+  went_ue = at_next_call (record ue { machine = record ue.machine { local = went (local_next ue.machine.local) ue.machine.local } })
 
   pub alone_went : now ≡ went_ue → is_going (local_next ue.machine.local) ≡ true → Turns old s now s turn.Moved
   alone_went is going = carry old (record ue { op = Nothing }) now went_ue s s turn.Moved before is tied (λ there. alone_goes ue s there going)
@@ -172,6 +172,6 @@ module _ (ue old now : UeView) (s : Sight) (before : old ≡ record ue { op = No
   alone_stopped is stopped = carry old (record ue { op = Nothing }) now (record ue { op = Nothing }) s s turn.Done before is tied (λ there. stopped_done ue s there stopped)
 
   pub alone_slot : (t : Sight) (d : Private) (slot : SlotAt) (answer : Turn) → now ≡ record ue { core = d; slot = slot; op = Nothing } → is_going (local_next ue.machine.local) ≡ false → is_stopped ue.machine.local ≡ false
-      → SlotStands t.seat (record_in t) slot → SlotTurned (with_slot s ue.core ue.slot) (with_slot t d slot) answer → Turns old s now t answer
+      → SlotStands t.seat (record_in t) slot → SlotTurned (holding_slot s ue.core ue.slot) (holding_slot t d slot) answer → Turns old s now t answer
   alone_slot t d slot answer is idle on stands r = carry old (record ue { op = Nothing }) now (record ue { core = d; slot = slot; op = Nothing }) s t answer before is tied
       (λ there. slot_turns ue s there idle on t d slot stands answer r)

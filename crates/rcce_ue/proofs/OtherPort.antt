@@ -11,12 +11,12 @@ use Rattle.sync_flags.specs.Turns.{at_port}
 use Rattle.sync_flags.proofs.TurnLemmas.{between_there, record_at_port}
 use Rattle.barrier.specs.Flags.{IsParityOf}
 use Rattle.barrier.proofs.OtherPort.{barrier_there}
-use Rattle.script_plain.specs.Collectives.{started}
+use Rattle.script_plain.specs.Collectives.{start_of_rank}
 use Rattle.script_machine.specs.Local.{Local, local_next}
-use Rattle.script_machine.specs.Moves.{bytes_out, length_in}
+use Rattle.script_machine.specs.Moves.{bytes_out, length_asked}
 use Rattle.script_machine.specs.Next.{Next}
 use Rattle.rcce_ue.specs.Standing.{OpStands, Stood, Tied, bytes_sent}
-use Rattle.rcce_ue.specs.Ues.{UeView, counted, is_sending}
+use Rattle.rcce_ue.specs.Ues.{UeView, capped_count, is_send_call}
 use Rattle.rcce_ue.specs.declared.calls.Open.{Open}
 use Rattle.rcce_ue.specs.declared.calls.Open.TheVariants.{Nothing, Sending, Receiving, Meeting}
 
@@ -27,7 +27,7 @@ module _ (s : Sight) (m r : Gv) (h : ℕ) where
   op_there : (c : Private) (slot : SlotAt) (parity : List Bool) (inbox : List ℕ) (op : Open) (n : Next Local) → OpStands s c slot parity inbox op n → OpStands (at_port s m r h) c slot parity inbox op n
   op_there c slot parity inbox Nothing n st = (between_there s m r h c st.0, st.1)
   op_there c slot parity inbox (Sending op) n st = (send_there s m r h c op slot (bytes_out n) st.0, st.1)
-  op_there c slot parity inbox (Receiving op) n st = (receive_there s m r h c op (take (length_in n) inbox) st.0, st.1)
+  op_there c slot parity inbox (Receiving op) n st = (receive_there s m r h c op (take (length_asked n) inbox) st.0, st.1)
   op_there c slot parity inbox (Meeting op) n st = (barrier_there s m r h c op parity st.0, st.1)
 
   pub tied_there : (ue : UeView) → Tied ue s → Tied ue (at_port s m r h)
@@ -36,7 +36,7 @@ module _ (s : Sight) (m r : Gv) (h : ℕ) where
     setup_is = tied.setup_is;
     rank_is = tied.rank_is;
     last = tied.last;
-    stood = there (λ (rec : Record). Stood (started ue.machine.script ue.machine.rank) rec ue.machine.local tied.last) tied.stood;
+    stood = there (λ (rec : Record). Stood (start_of_rank ue.machine.script ue.machine.rank) rec ue.machine.local tied.last) tied.stood;
     stands = op_there ue.core ue.slot ue.parity ue.inbox ue.op (local_next ue.machine.local) tied.stands;
     hands = there (λ (rec : Record). (core : ℕ) → rec.held core ≡ None) tied.hands;
     slot_is = slot_there s m r h ue.slot tied.slot_is;
@@ -44,6 +44,6 @@ module _ (s : Sight) (m r : Gv) (h : ℕ) where
     room = tied.room;
     posted_is = tied.posted_is;
     target = tied.target;
-    sent_is = there (λ (rec : Record). ue.sent ≡ counted (count_by is_sending rec.calls)) tied.sent_is;
-    bytes_are = there (λ (rec : Record). ue.sent_bytes ≡ counted (sum_by bytes_sent rec.calls)) tied.bytes_are;
+    sent_is = there (λ (rec : Record). ue.sent ≡ capped_count (count_by is_send_call rec.calls)) tied.sent_is;
+    bytes_are = there (λ (rec : Record). ue.sent_bytes ≡ capped_count (sum_by bytes_sent rec.calls)) tied.bytes_are;
   }

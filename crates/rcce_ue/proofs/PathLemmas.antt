@@ -8,7 +8,7 @@ use Rattle.scc_proto.specs.Stages.{Record}
 use Rattle.send_recv.specs.Receiving.{SaysHead}
 use Rattle.script_machine.specs.declared.posts.Posted.{Posted}
 use Rattle.script_machine.specs.Local.{Local, local_next}
-use Rattle.script_plain.specs.Meaning.{State, next_of, recorded}
+use Rattle.script_plain.specs.Meaning.{State, next_of, next_with_calls}
 use Rattle.script_machine.specs.Moves.{is_stopped}
 use Rattle.script_machine.specs.Next.Next.{Ends, Goes, Posts, Sends, Recvs, Bars}
 use Rattle.script_plain.specs.Paths.{Came}
@@ -44,30 +44,30 @@ module _ (start : State) (rec : Record) (u : Local) (last : Option Posted) where
     pub stood_went : (v : Local) → local_next u ≡ Goes v → new.calls ≡ rec.calls → Stood start new v last
     stood_went v is same =
         Runs (subst (λ (calls : List DataCall). Came next_of start (state_at v calls) last) (sym same)
-        (Went (state_at u rec.calls) (state_at v rec.calls) last came_here (ap (recorded rec.calls) is)))
+        (Went (state_at u rec.calls) (state_at v rec.calls) last came_here (ap (next_with_calls rec.calls) is)))
 
     -- a post, a send, a receive, a barrier was finished
     pub stood_left : (message : Posted) (v : Local) → local_next u ≡ Posts message v → new.calls ≡ rec.calls ++ Post message.to message.head message.bytes ∷ [] → Stood start new v (Some message)
     stood_left message v is more =
         Runs (subst (λ (calls : List DataCall). Came next_of start (state_at v calls) (Some message)) (sym more)
-        (Leaves (state_at u rec.calls) (state_at v (rec.calls ++ Post message.to message.head message.bytes ∷ [])) last message came_here (ap (recorded rec.calls) is)))
+        (Leaves (state_at u rec.calls) (state_at v (rec.calls ++ Post message.to message.head message.bytes ∷ [])) last message came_here (ap (next_with_calls rec.calls) is)))
 
     pub stood_sent : (to : ℕ) (head : MessageHead) (bytes : List ℕ) (v : Local) → local_next u ≡ Sends to head bytes v → new.calls ≡ rec.calls ++ Send to head bytes ∷ [] → Stood start new v last
     stood_sent to head bytes v is more =
         Runs (subst (λ (calls : List DataCall). Came next_of start (state_at v calls) last) (sym more)
-        (Passed (state_at u rec.calls) (state_at v (rec.calls ++ Send to head bytes ∷ [])) last to head bytes came_here (ap (recorded rec.calls) is)))
+        (Passed (state_at u rec.calls) (state_at v (rec.calls ++ Send to head bytes ∷ [])) last to head bytes came_here (ap (next_with_calls rec.calls) is)))
 
     pub stood_got : (from : ℕ) (head : MessageHead) (take : List ℕ → Local) (refuse : MessageHead → Local) (bytes : List ℕ) → local_next u ≡ Recvs from head take refuse
         → length bytes ≡ head.len → new.calls ≡ rec.calls ++ Recv from head bytes ∷ [] → Stood start new (take bytes) last
     stood_got from head take refuse bytes is long more =
         Runs (subst (λ (calls : List DataCall). Came next_of start (state_at (take bytes) calls) last) (sym more)
         (Took (state_at u rec.calls) last from head bytes
-        (λ got. state_at (take got) (rec.calls ++ Recv from head got ∷ [])) (λ sent. state_at (refuse sent) rec.calls) long came_here (ap (recorded rec.calls) is)))
+        (λ got. state_at (take got) (rec.calls ++ Recv from head got ∷ [])) (λ sent. state_at (refuse sent) rec.calls) long came_here (ap (next_with_calls rec.calls) is)))
 
     pub stood_met : (comm : ℕ) (v : Local) → local_next u ≡ Bars comm v → new.calls ≡ rec.calls ++ Bar comm ∷ [] → Stood start new v last
     stood_met comm v is more =
         Runs (subst (λ (calls : List DataCall). Came next_of start (state_at v calls) last) (sym more)
-        (Joined (state_at u rec.calls) (state_at v (rec.calls ++ Bar comm ∷ [])) last comm came_here (ap (recorded rec.calls) is)))
+        (Joined (state_at u rec.calls) (state_at v (rec.calls ++ Bar comm ∷ [])) last comm came_here (ap (next_with_calls rec.calls) is)))
 
     -- a message with another head was refused
     pub stood_refused : (from : ℕ) (head sent : MessageHead) (take : List ℕ → Local) (refuse : MessageHead → Local) (header : Notes) → local_next u ≡ Recvs from head take refuse

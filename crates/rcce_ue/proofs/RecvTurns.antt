@@ -13,7 +13,7 @@ use Rattle.scc_proto.specs.Stages.{Idle}
 use Rattle.scc_proto.proofs.PortLaws.{seat_kept}
 use Rattle.put_get.specs.Cores.{Private}
 use Rattle.send_recv.specs.Ops.{RecvAt, is_received, slot_left}
-use Rattle.send_recv.specs.Receiving.{IsAtStage, RecvStands, RecvTurned, recv_call, recv_left}
+use Rattle.send_recv.specs.Receiving.{IsAtRecvStage, RecvStands, RecvTurned, recv_call, recv_left}
 use Rattle.send_recv.specs.Sending.{SlotStands}
 use Rattle.send_recv.specs.Turns.{StoresFromBuffer, is_no_draft}
 use Rattle.send_recv.specs.declared.answers.RecvTurn.{RecvTurn}
@@ -22,16 +22,16 @@ use Rattle.send_recv.specs.declared.stages.RecvStage.{RecvStage}
 use Rattle.send_recv.specs.Ranks.{receiving}
 use Rattle.send_recv.proofs.Starts.{slot_stays}
 use Rattle.std.specs.List.{count_by, list_all}
-use Rattle.script_plain.specs.Collectives.{started}
+use Rattle.script_plain.specs.Collectives.{start_of_rank}
 use Rattle.script_machine.specs.Local.{Local, local_next}
-use Rattle.script_machine.specs.Moves.{is_stopped, length_in, refused, taken}
+use Rattle.script_machine.specs.Moves.{is_stopped, length_asked, after_refusal, after_take}
 use Rattle.script_machine.specs.Next.{Next}
 use Rattle.script_machine.specs.Next.Next.{Recvs}
 use Rattle.script_machine.proofs.StoppedLaws.{refused_stops}
-use Rattle.rcce_ue.specs.Left.{left_of, next_bound, rest_of, unless}
+use Rattle.rcce_ue.specs.Left.{ue_left, next_bound, rest_of, unless}
 use Rattle.rcce_ue.specs.Standing.{IsFree, IsRecvOf, Tied, bytes_sent, keeping}
-use Rattle.rcce_ue.specs.Turns.{Behind, IsStill, Turns}
-use Rattle.rcce_ue.specs.Ues.{UeView, counted, entered, is_sending}
+use Rattle.rcce_ue.specs.Turns.{Behind, IsUeStill, Turns}
+use Rattle.rcce_ue.specs.Ues.{UeView, capped_count, at_next_call, is_send_call}
 use Rattle.rcce_ue.specs.declared.calls.Open.TheVariants.{Receiving}
 use Rattle.rcce_ue.proofs.CountLemmas.{bytes_same, sends_same}
 use Rattle.rcce_ue.proofs.EnterLemmas.{entered_left, entered_tied}
@@ -72,7 +72,7 @@ module _ (ue : UeView) (s t : Sight) (op : RecvAt) (tied : Tied (record ue { op 
 
   -- the front of the inbox that the message fills
   abbrev front_of : List ℕ → List ℕ
-  front_of inbox = take (length_in (local_next ue.machine.local)) inbox
+  front_of inbox = take (length_asked (local_next ue.machine.local)) inbox
 
   module _ (d : Private) (now : RecvAt) (inbox : List ℕ) (room : length inbox ≡ 65536) (stands : RecvStands t d now (front_of inbox)) where
     abbrev Turned : RecvTurn → Type 0
@@ -103,19 +103,19 @@ module _ (ue : UeView) (s t : Sight) (op : RecvAt) (tied : Tied (record ue { op 
 
     pub recv_waited : (spot : Spot) → Turned (receive.Waiting spot) → Turns (record ue { op = Receiving op }) s later_recv t (turn.Waiting spot)
     recv_waited spot r =
-        let still : IsStill (record ue { op = Receiving op }) later_recv = (λ i. record ue { core = d; inbox = inbox; op = Receiving (r.means.0 i) }) in
+        let still : IsUeStill (record ue { op = Receiving op }) later_recv = (λ i. record ue { core = d; inbox = inbox; op = Receiving (r.means.0 i) }) in
         record {
           tied = kept (receive.Waiting spot) r (ap (λ (x : RecvAt). is_received x.stage) r.means.0 ∙ open_of op (local_next ue.machine.local) of_next) r.means.2.calls;
           turned = turned_by (record ue { op = Receiving op }) s later_recv t (turn.Waiting spot) r.events r.did r.does (refl, refl, refl) r.tried (λ at same. r.rests spot refl) r.only
-              (still, ap left_of still, r.means.2, not_over (record ue { op = Receiving op }) on (not_ended (local_next ue.machine.local) at_call), not_going (local_next ue.machine.local) at_call) r.rest.heap (none_stored s.seat.setup ue.core r.events r.no_drafts) r.held;
+              (still, ap ue_left still, r.means.2, not_over (record ue { op = Receiving op }) on (not_ended (local_next ue.machine.local) at_call), not_going (local_next ue.machine.local) at_call) r.rest.heap (none_stored s.seat.setup ue.core r.events r.no_drafts) r.held;
         }
 
     -- the UE after the turn that ends the receive, or that refuses the message
     abbrev pub done_recv : Next Local → UeView
-    done_recv n = entered (record ue { machine = record ue.machine { local = taken n (take (length_in n) inbox) ue.machine.local }; core = d; inbox = inbox })
+    done_recv n = at_next_call (record ue { machine = record ue.machine { local = after_take n (take (length_asked n) inbox) ue.machine.local }; core = d; inbox = inbox })
 
     abbrev pub refused_recv : Next Local → MessageHead → UeView
-    refused_recv n sent = entered (record ue { machine = record ue.machine { local = refused n sent ue.machine.local }; core = d; inbox = inbox })
+    refused_recv n sent = at_next_call (record ue { machine = record ue.machine { local = after_refusal n sent ue.machine.local }; core = d; inbox = inbox })
 
     module _ (answer : RecvTurn) (r : Turned answer) where
       seat : t.seat ≡ s.seat
@@ -133,12 +133,12 @@ module _ (ue : UeView) (s t : Sight) (op : RecvAt) (tied : Tied (record ue { op 
 
     module _ (r : Turned receive.Done) where
       done_at : (record_in t).stage ≡ Idle
-      done_at = subst (λ (at : RecvStage). IsAtStage t.seat (record_in t) d now (front_of inbox) at) r.means.0 stands.at
+      done_at = subst (λ (at : RecvStage). IsAtRecvStage t.seat (record_in t) d now (front_of inbox) at) r.means.0 stands.at
 
       done_by : (n : Next Local) → local_next ue.machine.local ≡ n → Turns (record ue { op = Receiving op }) s (done_recv n) t turn.Moved
       done_by (Recvs from head take_in refuse) is =
           let of = subst (IsRecvOf op) is of_next in
-          let asked : length_in (local_next ue.machine.local) ≡ head.len = ap (λ (n : Next Local). length_in n) is in
+          let asked : length_asked (local_next ue.machine.local) ≡ head.len = ap (λ (n : Next Local). length_asked n) is in
           let bytes : List ℕ = take head.len inbox in
           let same : front_of ue.inbox ≡ bytes = sym r.means.1 ∙ ap (λ (len : ℕ). take len inbox) asked in
           let long : length bytes ≡ head.len = ap (λ (len : ℕ). length (take len inbox)) (sym asked) ∙ stands.long ∙ ap (λ (h : MessageHead). h.len) (r.same.1 ∙ of.1) in
@@ -148,7 +148,7 @@ module _ (ue : UeView) (s t : Sight) (op : RecvAt) (tied : Tied (record ue { op 
           record {
             tied = entered_tied (record ue { machine = record ue.machine { local = take_in bytes }; core = d; inbox = inbox }) t tied.last (begun_at ue.machine (take_in bytes) tied.begun)
                 (ap (λ (x : Seat). x.setup) (seat receive.Done r) ∙ tied.setup_is) (ap (λ (x : Seat). x.rank) (seat receive.Done r) ∙ tied.rank_is)
-                (stood_got (started ue.machine.script ue.machine.rank) (record_in s) ue.machine.local tied.last (record_in t) tied.stood on from head take_in refuse bytes is long calls)
+                (stood_got (start_of_rank ue.machine.script ue.machine.rank) (record_in s) ue.machine.local tied.last (record_in t) tied.stood on from head take_in refuse bytes is long calls)
                 (free receive.Done r done_at) (hands_kept (record_in s) (record_in t) r.rest.hold tied.hands) room tied.posted_is tied.target
                 (sends_same (record_in s).calls (record_in t).calls _ ue.sent calls refl tied.sent_is)
                 (bytes_same (record_in s).calls (record_in t).calls _ ue.sent_bytes calls refl tied.bytes_are);
@@ -156,7 +156,7 @@ module _ (ue : UeView) (s t : Sight) (op : RecvAt) (tied : Tied (record ue { op 
               let most = entered_left (record ue { machine = record ue.machine { local = take_in bytes }; core = d; inbox = inbox }) (begun_at ue.machine (take_in bytes) tied.begun) in
                   let rest = falls ue.machine.setup ue.machine.rank ue.machine.local (Recvs from head take_in refuse) is bytes long in
                   let bound = ap (next_bound ue.machine.setup ue.machine.rank) is in
-                  let less : slot_left ue.slot + rest_of ue.machine.setup ue.machine.rank (take_in bytes) < left_of (record ue { op = Receiving op }) =
+                  let less : slot_left ue.slot + rest_of ue.machine.setup ue.machine.rank (take_in bytes) < ue_left (record ue { op = Receiving op }) =
                   unless_below (is_stopped ue.machine.local) _ _ on (omega (arith, rest, bound)) in
                   omega (arith, most, less),
               not_over (record ue { op = Receiving op }) on (not_ended (local_next ue.machine.local) at_call),
@@ -172,7 +172,7 @@ module _ (ue : UeView) (s t : Sight) (op : RecvAt) (tied : Tied (record ue { op 
       -- a message that is refused is untaken
       refused_at : (record_in t).stage ≡ Idle
       refused_at =
-          let at = subst (λ (x : RecvStage). IsAtStage s.seat (record_in s) ue.core op (front_of ue.inbox) x) r.means.2 tied.stands.0.at in
+          let at = subst (λ (x : RecvStage). IsAtRecvStage s.seat (record_in s) ue.core op (front_of ue.inbox) x) r.means.2 tied.stands.0.at in
           r.means.3.stage ∙ at.1
 
       gone : (n m : ℕ) (b : Bool) → b ≡ true → 0 < m → unless b n < m
@@ -187,11 +187,11 @@ module _ (ue : UeView) (s t : Sight) (op : RecvAt) (tied : Tied (record ue { op 
           record {
             tied = entered_tied (record ue { machine = record ue.machine { local = refuse sent }; core = d; inbox = inbox }) t tied.last (begun_at ue.machine (refuse sent) tied.begun)
                 (ap (λ (x : Seat). x.setup) (seat (receive.Mismatch sent) r) ∙ tied.setup_is) (ap (λ (x : Seat). x.rank) (seat (receive.Mismatch sent) r) ∙ tied.rank_is)
-                (stood_refused (started ue.machine.script ue.machine.rank) (record_in s) ue.machine.local tied.last (record_in t) tied.stood on from head sent take_in refuse r.means.5 is other
+                (stood_refused (start_of_rank ue.machine.script ue.machine.rank) (record_in s) ue.machine.local tied.last (record_in t) tied.stood on from head sent take_in refuse r.means.5 is other
                 (subst (λ (j : ℕ). (record_in t).notes j ≡ Some r.means.5) of.0 r.means.6) r.means.7 calls)
                 (free (receive.Mismatch sent) r refused_at) (hands_kept (record_in s) (record_in t) r.rest.hold tied.hands) room tied.posted_is tied.target
-                (tied.sent_is ∙ ap (λ (list : List DataCall). counted (count_by is_sending list)) (sym calls))
-                (tied.bytes_are ∙ ap (λ (list : List DataCall). counted (sum_by bytes_sent list)) (sym calls));
+                (tied.sent_is ∙ ap (λ (list : List DataCall). capped_count (count_by is_send_call list)) (sym calls))
+                (tied.bytes_are ∙ ap (λ (list : List DataCall). capped_count (sum_by bytes_sent list)) (sym calls));
             turned = turned_by (record ue { op = Receiving op }) s (refused_recv (Recvs from head take_in refuse) sent) t turn.Moved r.events r.did r.does (refl, refl, refl) r.tried (λ spot same. absurd (cc)) tt (
               gone _ _ (is_stopped (refuse sent)) (refused_stops ue.machine.local from head sent take_in refuse is) (unless_below (is_stopped ue.machine.local) 0 _ on (omega arith)),
               not_over (record ue { op = Receiving op }) on (not_ended (local_next ue.machine.local) at_call),

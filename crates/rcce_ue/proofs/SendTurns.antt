@@ -17,16 +17,16 @@ use Rattle.send_recv.specs.Sending.{IsAtSendStage, IsSameOrEmpty, SendStands, Se
 use Rattle.send_recv.specs.declared.stages.SendStage.{SendStage}
 use Rattle.send_recv.specs.Ranks.{sending}
 use Rattle.send_recv.proofs.Starts.{slot_left_most}
-use Rattle.script_plain.specs.Collectives.{started}
+use Rattle.script_plain.specs.Collectives.{start_of_rank}
 use Rattle.script_machine.specs.Local.{Local, local_next}
 use Rattle.script_machine.specs.Machine.{on_its_way}
-use Rattle.script_machine.specs.Moves.{bytes_out, is_stopped, passed}
+use Rattle.script_machine.specs.Moves.{bytes_out, is_stopped, after_pass}
 use Rattle.script_machine.specs.Next.{Next}
 use Rattle.script_machine.specs.Next.Next.{Posts, Sends}
-use Rattle.rcce_ue.specs.Left.{at_end, left_of, next_bound, rest_of}
+use Rattle.rcce_ue.specs.Left.{turns_at_end, ue_left, next_bound, rest_of}
 use Rattle.rcce_ue.specs.Standing.{IsFree, IsSendOf, Tied, keeping}
-use Rattle.rcce_ue.specs.Turns.{Behind, IsStill, Turns}
-use Rattle.rcce_ue.specs.Ues.{UeView, counted, entered, posted_by}
+use Rattle.rcce_ue.specs.Turns.{Behind, IsUeStill, Turns}
+use Rattle.rcce_ue.specs.Ues.{UeView, capped_count, at_next_call, posted_by}
 use Rattle.rcce_ue.specs.declared.calls.Open.TheVariants.{Sending}
 use Rattle.rcce_ue.proofs.CountLemmas.{bytes_more, sends_more}
 use Rattle.rcce_ue.proofs.EnterLemmas.{entered_left, entered_tied}
@@ -96,33 +96,33 @@ module _ (ue : UeView) (s t : Sight) (op : SendAt) (tied : Tied (record ue { op 
           (moved_within (record ue { op = Sending op }) later_send s t on (not_ended (local_next ue.machine.local) at_call) refl (unless_one (is_stopped ue.machine.local) _ _ on one)) r.rest.heap r.drafts r.held;
     }
       where
-        one : (at_end op.posted + send_left ue.machine.setup.layout (chunk_of ue.machine.setup) op ue.slot) + (rest_of ue.machine.setup ue.machine.rank ue.machine.local - (1 + next_bound ue.machine.setup ue.machine.rank (local_next ue.machine.local)))
-            ≡ (at_end now.posted + send_left ue.machine.setup.layout (chunk_of ue.machine.setup) now after) + (rest_of ue.machine.setup ue.machine.rank ue.machine.local - (1 + next_bound ue.machine.setup ue.machine.rank (local_next ue.machine.local))) + 1
+        one : (turns_at_end op.posted + send_left ue.machine.setup.layout (chunk_of ue.machine.setup) op ue.slot) + (rest_of ue.machine.setup ue.machine.rank ue.machine.local - (1 + next_bound ue.machine.setup ue.machine.rank (local_next ue.machine.local)))
+            ≡ (turns_at_end now.posted + send_left ue.machine.setup.layout (chunk_of ue.machine.setup) now after) + (rest_of ue.machine.setup ue.machine.rank ue.machine.local - (1 + next_bound ue.machine.setup ue.machine.rank (local_next ue.machine.local))) + 1
         one =
             let fewer = subst (λ (x : SetupView). send_left x.layout (chunk_of x) op ue.slot ≡ send_left x.layout (chunk_of x) now after + 1) tied.setup_is r.means.0 in
-            let same = ap at_end r.same.2 in
+            let same = ap turns_at_end r.same.2 in
             omega (arith, fewer, same)
 
     pub send_waited : (spot : Spot) → Turned (turn.Waiting spot) → Turns (record ue { op = Sending op }) s later_send t (turn.Waiting spot)
     send_waited spot r =
-        let still : IsStill (record ue { op = Sending op }) later_send = (λ i. record ue { core = d; slot = r.means.1 i; op = Sending (r.means.0 i) }) in
+        let still : IsUeStill (record ue { op = Sending op }) later_send = (λ i. record ue { core = d; slot = r.means.1 i; op = Sending (r.means.0 i) }) in
         record {
           tied = kept (turn.Waiting spot) r (ap (λ (x : SendAt). is_sent x.stage) r.means.0 ∙ unsent op (local_next ue.machine.local) of_next) r.means.2.calls (inr (ap (λ (x : SlotAt). x.to) r.means.1));
           turned = turned_by (record ue { op = Sending op }) s later_send t (turn.Waiting spot) r.events r.did r.does (refl, refl, refl) r.tried r.rests r.only
-              (still, ap left_of still, r.means.2, not_over (record ue { op = Sending op }) on (not_ended (local_next ue.machine.local) at_call), not_going (local_next ue.machine.local) at_call) r.rest.heap r.drafts r.held;
+              (still, ap ue_left still, r.means.2, not_over (record ue { op = Sending op }) on (not_ended (local_next ue.machine.local) at_call), not_going (local_next ue.machine.local) at_call) r.rest.heap r.drafts r.held;
         }
 
     -- the UE after the turn that ends the call
     abbrev pub done_send : Next Local → UeView
     done_send n =
-        entered
+        at_next_call
         (record ue {
-          machine = record ue.machine { local = passed n ue.machine.local };
+          machine = record ue.machine { local = after_pass n ue.machine.local };
           core = d;
           slot = after;
           posted = posted_by n ue.posted;
-          sent = counted (ue.sent + 1);
-          sent_bytes = counted (ue.sent_bytes + length (bytes_out n));
+          sent = capped_count (ue.sent + 1);
+          sent_bytes = capped_count (ue.sent_bytes + length (bytes_out n));
         })
 
     module _ (r : Turned turn.Done) where
@@ -138,8 +138,8 @@ module _ (ue : UeView) (s t : Sight) (op : SendAt) (tied : Tied (record ue { op 
       seat = seat_kept s r.events t r.did
 
       done_left : (v : Local) (bound : ℕ) → rest_of ue.machine.setup ue.machine.rank ue.machine.local ≡ (1 + bound) + rest_of ue.machine.setup ue.machine.rank v
-          → bound ≡ next_bound ue.machine.setup ue.machine.rank (local_next ue.machine.local) → slot_left after < at_end op.posted
-          → slot_left after + rest_of ue.machine.setup ue.machine.rank v < left_of (record ue { op = Sending op })
+          → bound ≡ next_bound ue.machine.setup ue.machine.rank (local_next ue.machine.local) → slot_left after < turns_at_end op.posted
+          → slot_left after + rest_of ue.machine.setup ue.machine.rank v < ue_left (record ue { op = Sending op })
       done_left v bound rest same less =
           unless_below (is_stopped ue.machine.local) _ _ on (omega (arith, rest, same, less))
 
@@ -151,16 +151,16 @@ module _ (ue : UeView) (s t : Sight) (op : SendAt) (tied : Tied (record ue { op 
           r.means.2 ∙ ap (λ (list : List DataCall). (record_in s).calls ++ list) (post_call op message.to message.head (bytes_out (local_next ue.machine.local)) of.0 of.1 of.2 of.3
           ∙ ap (λ (bytes : List ℕ). Post message.to message.head bytes ∷ []) out) in
           let few = slot_left_most after in
-          let posted = ap at_end of.2 in
+          let posted = ap turns_at_end of.2 in
           record {
-            tied = entered_tied (record ue { machine = record ue.machine { local = v }; core = d; slot = after; posted = Some (on_its_way message); sent = counted (ue.sent + 1); sent_bytes = counted (ue.sent_bytes + length message.bytes) }) t (Some message) (begun_at ue.machine v tied.begun) (ap (λ (x : Seat). x.setup) seat ∙ tied.setup_is) (ap (λ (x : Seat). x.rank) seat ∙ tied.rank_is)
-                (stood_left (started ue.machine.script ue.machine.rank) (record_in s) ue.machine.local tied.last (record_in t) tied.stood on message v is calls)
+            tied = entered_tied (record ue { machine = record ue.machine { local = v }; core = d; slot = after; posted = Some (on_its_way message); sent = capped_count (ue.sent + 1); sent_bytes = capped_count (ue.sent_bytes + length message.bytes) }) t (Some message) (begun_at ue.machine v tied.begun) (ap (λ (x : Seat). x.setup) seat ∙ tied.setup_is) (ap (λ (x : Seat). x.rank) seat ∙ tied.rank_is)
+                (stood_left (start_of_rank ue.machine.script ue.machine.rank) (record_in s) ue.machine.local tied.last (record_in t) tied.stood on message v is calls)
                 free (hands_kept (record_in s) (record_in t) r.rest.hold tied.hands) tied.room refl
                 (inr (filled op ue.slot after message.to r.means.1 of.0 of.2 of.3))
                 (sends_more (record_in s).calls (record_in t).calls _ ue.sent calls refl tied.sent_is)
                 (bytes_more (record_in s).calls (record_in t).calls _ ue.sent_bytes (length message.bytes) calls refl tied.bytes_are);
             turned = turned_by (record ue { op = Sending op }) s (done_send (Posts message v)) t turn.Moved r.events r.did r.does (refl, refl, refl) r.tried (λ spot same. absurd (cc)) tt (
-              let most = entered_left (record ue { machine = record ue.machine { local = v }; core = d; slot = after; posted = Some (on_its_way message); sent = counted (ue.sent + 1); sent_bytes = counted (ue.sent_bytes + length message.bytes) }) (begun_at ue.machine v tied.begun) in
+              let most = entered_left (record ue { machine = record ue.machine { local = v }; core = d; slot = after; posted = Some (on_its_way message); sent = capped_count (ue.sent + 1); sent_bytes = capped_count (ue.sent_bytes + length message.bytes) }) (begun_at ue.machine v tied.begun) in
                   let less = done_left v (message_bound ue.machine.setup.layout message.head.len) (falls ue.machine.setup ue.machine.rank ue.machine.local (Posts message v) is)
                   (sym (ap (next_bound ue.machine.setup ue.machine.rank) is)) (omega (arith, few, posted)) in
                   omega (arith, most, less),
@@ -176,15 +176,15 @@ module _ (ue : UeView) (s t : Sight) (op : SendAt) (tied : Tied (record ue { op 
           ∙ ap (λ (x : List ℕ). Send to head x ∷ []) out) in
           let none : after.to ≡ None = r.means.3 of.2 of.3 in
           let few = empty_left after none in
-          let posted = ap at_end of.2 in
+          let posted = ap turns_at_end of.2 in
           record {
-            tied = entered_tied (record ue { machine = record ue.machine { local = v }; core = d; slot = after; sent = counted (ue.sent + 1); sent_bytes = counted (ue.sent_bytes + length bytes) }) t tied.last (begun_at ue.machine v tied.begun) (ap (λ (x : Seat). x.setup) seat ∙ tied.setup_is) (ap (λ (x : Seat). x.rank) seat ∙ tied.rank_is)
-                (stood_sent (started ue.machine.script ue.machine.rank) (record_in s) ue.machine.local tied.last (record_in t) tied.stood on to head bytes v is calls)
+            tied = entered_tied (record ue { machine = record ue.machine { local = v }; core = d; slot = after; sent = capped_count (ue.sent + 1); sent_bytes = capped_count (ue.sent_bytes + length bytes) }) t tied.last (begun_at ue.machine v tied.begun) (ap (λ (x : Seat). x.setup) seat ∙ tied.setup_is) (ap (λ (x : Seat). x.rank) seat ∙ tied.rank_is)
+                (stood_sent (start_of_rank ue.machine.script ue.machine.rank) (record_in s) ue.machine.local tied.last (record_in t) tied.stood on to head bytes v is calls)
                 free (hands_kept (record_in s) (record_in t) r.rest.hold tied.hands) tied.room tied.posted_is (inl none)
                 (sends_more (record_in s).calls (record_in t).calls _ ue.sent calls refl tied.sent_is)
                 (bytes_more (record_in s).calls (record_in t).calls _ ue.sent_bytes (length bytes) calls refl tied.bytes_are);
             turned = turned_by (record ue { op = Sending op }) s (done_send (Sends to head bytes v)) t turn.Moved r.events r.did r.does (refl, refl, refl) r.tried (λ spot same. absurd (cc)) tt (
-              let most = entered_left (record ue { machine = record ue.machine { local = v }; core = d; slot = after; sent = counted (ue.sent + 1); sent_bytes = counted (ue.sent_bytes + length bytes) }) (begun_at ue.machine v tied.begun) in
+              let most = entered_left (record ue { machine = record ue.machine { local = v }; core = d; slot = after; sent = capped_count (ue.sent + 1); sent_bytes = capped_count (ue.sent_bytes + length bytes) }) (begun_at ue.machine v tied.begun) in
                   let less = done_left v (message_bound ue.machine.setup.layout head.len) (falls ue.machine.setup ue.machine.rank ue.machine.local (Sends to head bytes v) is)
                   (sym (ap (next_bound ue.machine.setup ue.machine.rank) is)) (omega (arith, few, posted)) in
                   omega (arith, most, less),

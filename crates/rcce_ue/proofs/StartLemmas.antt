@@ -10,14 +10,14 @@ use Rattle.send_recv.proofs.Starts as message
 use Rattle.sync_flags.proofs.TurnLemmas.{record_at_start}
 use Rattle.barrier.specs.Flags.{value_at}
 use Rattle.barrier.proofs.OtherPort as barrier
-use Rattle.script_plain.specs.Collectives.{started}
+use Rattle.script_plain.specs.Collectives.{start_of_rank}
 use Rattle.script_machine.specs.Local.{Local, local_start}
 use Rattle.script_plain.specs.Paths.Came.{Began}
 use Rattle.rcce_ue.specs.Bounds.{bounds_of, visits}
-use Rattle.rcce_ue.specs.Left.{left_of, rest_of}
+use Rattle.rcce_ue.specs.Left.{ue_left, rest_of}
 use Rattle.rcce_ue.specs.Standing.{IsFree, Stood, Tied, bytes_sent, keeping}
 use Rattle.rcce_ue.specs.Standing.Stood.{Runs}
-use Rattle.rcce_ue.specs.Ues.{IsBegun, UeView, counted, entered, is_sending}
+use Rattle.rcce_ue.specs.Ues.{IsBegun, UeView, capped_count, at_next_call, is_send_call}
 use Rattle.rcce_ue.proofs.EnterLemmas.{entered_left, entered_tied}
 use Rattle.rcce_ue.proofs.KeepLemmas.{empty_left}
 use Rattle.rcce_ue.proofs.VisitLemmas.{program_within}
@@ -39,10 +39,10 @@ module _ (ue : UeView) (new : IsFresh ue) where
     is_blank : record_in s ≡ blank
     is_blank = record_at_start s none
 
-    stood_start : Stood (started ue.machine.script ue.machine.rank) (record_in s) ue.machine.local None
+    stood_start : Stood (start_of_rank ue.machine.script ue.machine.rank) (record_in s) ue.machine.local None
     stood_start =
-        subst (λ (rec : Record). Stood (started ue.machine.script ue.machine.rank) rec ue.machine.local None) (sym is_blank)
-        (subst (λ (u : Local). Stood (started ue.machine.script ue.machine.rank) blank u None) (sym new.start) (Runs Began))
+        subst (λ (rec : Record). Stood (start_of_rank ue.machine.script ue.machine.rank) rec ue.machine.local None) (sym is_blank)
+        (subst (λ (u : Local). Stood (start_of_rank ue.machine.script ue.machine.rank) blank u None) (sym new.start) (Runs Began))
 
     free_start : IsFree s (keeping ue.core ue.slot ue.parity)
     free_start = record {
@@ -50,14 +50,14 @@ module _ (ue : UeView) (new : IsFresh ue) where
       parity = (barrier.free_at_start s ue.core ue.parity none new.empty new.unset).parity;
     }
 
-    pub start_tied : s.seat.setup ≡ ue.machine.setup → s.seat.rank ≡ ue.machine.rank → Tied (entered ue) s
+    pub start_tied : s.seat.setup ≡ ue.machine.setup → s.seat.rank ≡ ue.machine.rank → Tied (at_next_call ue) s
     start_tied setup_is rank_is =
         entered_tied ue s None new.begun setup_is rank_is stood_start free_start (λ core. ap (λ (rec : Record). rec.held core) is_blank) new.room new.posted
         (inl (ap (λ (slot : SlotAt). slot.to) new.slot))
-        (new.sent ∙ ap (λ (list : List DataCall). counted (count_by is_sending list)) (sym (ap (λ (rec : Record). rec.calls) is_blank)))
-        (new.bytes ∙ ap (λ (list : List DataCall). counted (sum_by bytes_sent list)) (sym (ap (λ (rec : Record). rec.calls) is_blank)))
+        (new.sent ∙ ap (λ (list : List DataCall). capped_count (count_by is_send_call list)) (sym (ap (λ (rec : Record). rec.calls) is_blank)))
+        (new.bytes ∙ ap (λ (list : List DataCall). capped_count (sum_by bytes_sent list)) (sym (ap (λ (rec : Record). rec.calls) is_blank)))
 
-  pub start_left : left_of (entered ue) ≤ visits ue.machine.script ue.machine.rank + bounds_of ue.machine.setup ue.machine.script ue.machine.rank
+  pub start_left : ue_left (at_next_call ue) ≤ visits ue.machine.script ue.machine.rank + bounds_of ue.machine.setup ue.machine.script ue.machine.rank
   start_left =
       let most = entered_left ue new.begun in
       let none = empty_left ue.slot (ap (λ (slot : SlotAt). slot.to) new.slot) in

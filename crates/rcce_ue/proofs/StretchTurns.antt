@@ -11,9 +11,9 @@ use Rattle.send_recv.specs.Sending.{SendStands}
 use Rattle.send_recv.specs.Stretches as line
 use Rattle.send_recv.specs.Stretches.{WroteLines, WroteOne, WroteMore, ReadLines, ReadOne, ReadMore}
 use Rattle.script_machine.specs.Local.{local_next}
-use Rattle.script_machine.specs.Moves.{bytes_out, length_in}
+use Rattle.script_machine.specs.Moves.{bytes_out, length_asked}
 use Rattle.rcce_ue.specs.Standing.{Tied}
-use Rattle.rcce_ue.specs.Stretches.{Moves, MovedOnce, MovedOn, is_reading, is_writing}
+use Rattle.rcce_ue.specs.Stretches.{StretchMoves, MovedOnce, MovedOn, reads_line_next, writes_line_next}
 use Rattle.rcce_ue.specs.Ues.{UeView}
 use Rattle.rcce_ue.specs.declared.calls.Open.TheVariants.{Sending, Receiving}
 use Rattle.send_recv.proofs.Loops.StretchLoop.{read_same}
@@ -30,7 +30,7 @@ module _ (ue : UeView) (s : Sight) (op : SendAt) (tied : Tied (record ue { op = 
   abbrev out : List ℕ
   out = bytes_out (local_next ue.machine.local)
 
-  pub writes : (t : Sight) (d : Private) (next : SendAt) (after : SlotAt) → WroteLines (sending s ue.core op ue.slot out) t d next after → SendStands t d next after out → Moves (record ue { op = Sending op }) s (sends_on ue d next after) t
+  pub writes : (t : Sight) (d : Private) (next : SendAt) (after : SlotAt) → WroteLines (sending s ue.core op ue.slot out) t d next after → SendStands t d next after out → StretchMoves (record ue { op = Sending op }) s (sends_on ue d next after) t
   writes t d next after (WroteOne _ _ _ _ on turned) stands =
       let one = send_moved ue s t op tied d next after stands turned in
       record { tied = one.tied; moves = MovedOnce (sends_on ue d next after) t one.turned }
@@ -46,7 +46,7 @@ receives_on ue d next inbox = record ue { core = d; op = Receiving next; inbox =
 module _ (ue : UeView) (s : Sight) (op : RecvAt) (tied : Tied (record ue { op = Receiving op }) s) where
   -- how many bytes the message has
   abbrev len : ℕ
-  len = length_in (local_next ue.machine.local)
+  len = length_asked (local_next ue.machine.local)
 
   len_is : op.head.len ≡ len
   len_is = asked ue (record ue { op = Receiving op }) (record ue { op = Receiving op }) s s op refl tied
@@ -82,7 +82,7 @@ module _ (ue : UeView) (s : Sight) (op : RecvAt) (tied : Tied (record ue { op = 
       (subst (λ (y : List ℕ). RecvTurned old (receiving now.sight now.core now.op y) receive.Moved) (sym two) turned)
 
   pub reads : (now : Receiver) (inbox : List ℕ) → length inbox ≡ 65536 → take len inbox ≡ now.bytes → ReadLines (receiving s ue.core op (take len ue.inbox)) now → RecvStands now.sight now.core now.op now.bytes
-      → Moves (record ue { op = Receiving op }) s (receives_on ue now.core now.op inbox) now.sight
+      → StretchMoves (record ue { op = Receiving op }) s (receives_on ue now.core now.op inbox) now.sight
   reads now inbox large is (ReadOne _ on turned) stands =
       let one = recv_moved ue s now.sight op tied now.core now.op inbox large (subst (λ (x : List ℕ). RecvStands now.sight now.core now.op x) (sym is) stands)
       (spelled (receiving s ue.core op (take len ue.inbox)) now (take len ue.inbox) (take len inbox) refl is turned) in
@@ -96,18 +96,18 @@ module _ (ue : UeView) (s : Sight) (op : RecvAt) (tied : Tied (record ue { op = 
 
 -- ---- UEs that are spelled in another way
 
-spelled_moves : (old a now b : UeView) (s t : Sight) → old ≡ a → now ≡ b → Tied old s → (Tied a s → Moves a s b t) → Moves old s now t
+spelled_moves : (old a now b : UeView) (s t : Sight) → old ≡ a → now ≡ b → Tied old s → (Tied a s → StretchMoves a s b t) → StretchMoves old s now t
 spelled_moves old a now b s t before after tied moves =
-    subst (λ (x : UeView). Moves x s now t) (sym before) (subst (λ (y : UeView). Moves a s y t) (sym after) (moves (subst (λ (x : UeView). Tied x s) before tied)))
+    subst (λ (x : UeView). StretchMoves x s now t) (sym before) (subst (λ (y : UeView). StretchMoves a s y t) (sym after) (moves (subst (λ (x : UeView). Tied x s) before tied)))
 
 pub wrote_moves : (ue old now : UeView) (s t : Sight) (op next : SendAt) (d : Private) (after : SlotAt) (bytes : List ℕ) → old ≡ record ue { op = Sending op } → bytes ≡ bytes_out (local_next ue.machine.local) → Tied old s
-    → SendStands t d next after bytes → WroteLines (sending s ue.core op ue.slot bytes) t d next after → now ≡ sends_on ue d next after → Moves old s now t
+    → SendStands t d next after bytes → WroteLines (sending s ue.core op ue.slot bytes) t d next after → now ≡ sends_on ue d next after → StretchMoves old s now t
 wrote_moves ue old now s t op next d after bytes before out tied stands lines is =
     spelled_moves old (record ue { op = Sending op }) now (sends_on ue d next after) s t before is tied
     (λ there. writes ue s op there t d next after (subst (λ (x : List ℕ). WroteLines (sending s ue.core op ue.slot x) t d next after) out lines) (subst (λ (x : List ℕ). SendStands t d next after x) out stands))
 
 pub read_moves : (ue old now : UeView) (s t : Sight) (op next : RecvAt) (d : Private) (inbox : List ℕ) → old ≡ record ue { op = Receiving op } → Tied old s → length inbox ≡ length ue.inbox
-    → RecvStands t d next (take op.head.len inbox) → ReadLines (receiving s ue.core op (take op.head.len ue.inbox)) (receiving t d next (take op.head.len inbox)) → now ≡ receives_on ue d next inbox → Moves old s now t
+    → RecvStands t d next (take op.head.len inbox) → ReadLines (receiving s ue.core op (take op.head.len ue.inbox)) (receiving t d next (take op.head.len inbox)) → now ≡ receives_on ue d next inbox → StretchMoves old s now t
 read_moves ue old now s t op next d inbox before tied room stands lines is =
     spelled_moves old (record ue { op = Receiving op }) now (receives_on ue d next inbox) s t before is tied
     (λ there.
@@ -123,10 +123,10 @@ or_none false = refl
 
 module _ (ue old : UeView) (r : Bool) where
   abbrev Tells : Type 0
-  Tells = r ≡ (is_writing old.op || is_reading old.op)
+  Tells = r ≡ (writes_line_next old.op || reads_line_next old.op)
 
-  told : (b : UeView) → old ≡ b → r ≡ (is_writing b.op || is_reading b.op) → Tells
-  told b before is = is ∙ sym (ap (λ (x : UeView). is_writing x.op || is_reading x.op) before)
+  told : (b : UeView) → old ≡ b → r ≡ (writes_line_next b.op || reads_line_next b.op) → Tells
+  told b before is = is ∙ sym (ap (λ (x : UeView). writes_line_next x.op || reads_line_next x.op) before)
 
   pub writes_tell : (op : SendAt) → old ≡ record ue { op = Sending op } → r ≡ line.is_writing op.stage → Tells
   writes_tell op before is = told (record ue { op = Sending op }) before (or_none r ∙ ap (λ (b : Bool). b || false) is)

@@ -5,7 +5,7 @@ use Rattle.scc_base.specs.Setups.{SetupView}
 use Rattle.script_reader.specs.Script.{Script, has_rank}
 use Rattle.script_reader.specs.declared.script.Item.{Item}
 use Rattle.script_reader.specs.declared.script.Stmt.{Stmt}
-use Rattle.script_machine.specs.Program.{Act, Prim, Unrolled, acts_by, acts_of, begins, call_steps, collective_of, copies, in_front, nesting_at, part_of, prims_of, program_of, repeated, setup_of, single_of, unrolled}
+use Rattle.script_machine.specs.Program.{Act, Prim, Unrolled, acts_by, acts_of, begins, call_steps, collective_of, copies, in_front, nesting_at, part_of, prims_of, program_of, unrolled_repeat, setup_of, single_of, unrolled_items}
 use Rattle.script_machine.specs.declared.prims.Collective.{Collective}
 use Rattle.script_reader.specs.declared.effect.Nesting.{Nesting}
 use Rattle.script_reader.specs.declared.effect.Nesting.TheVariants as nesting
@@ -34,7 +34,7 @@ scaled : (n a b : ℕ) → a ≤ b → n * a ≤ n * b
 scaled zero a b le = omega arith
 scaled (suc n) a b le = let rest = scaled n a b le in omega (arith, rest, le)
 
-within_repeated : (own times : ℕ) (body : List Prim) (behind : List (List Prim)) (n : ℕ) (ns : List ℕ) → length body ≤ n → AreWithin behind ns → IsWithin (repeated times body behind) (visits_repeated own times n ns)
+within_repeated : (own times : ℕ) (body : List Prim) (behind : List (List Prim)) (n : ℕ) (ns : List ℕ) → length body ≤ n → AreWithin behind ns → IsWithin (unrolled_repeat times body behind) (visits_repeated own times n ns)
 within_repeated own times body [] n [] here rest = record { here = omega (arith, here); behind = tt }
 within_repeated own times body [] n (m ∷ ns) here rest = absurd rest
 within_repeated own times body (next ∷ behind) n [] here rest = absurd rest
@@ -76,11 +76,11 @@ item_short s rank item = by (has_rank item.who rank)
         omega (arith, same, short)
     by false = omega arith
 
-within_items : (s : SetupView) (rank : ℕ) (items : List Item) → IsWithin (unrolled s rank items) (visits_of s rank items)
-unfolding unrolled visits_of
+within_items : (s : SetupView) (rank : ℕ) (items : List Item) → IsWithin (unrolled_items s rank items) (visits_of s rank items)
+unfolding unrolled_items visits_of
 within_items s rank [] = record { here = omega arith; behind = tt }
 within_items s rank (item ∷ items) =
-    within_front (nesting_at rank item) (prims_of s rank item) (item_visits s rank item) (unrolled s rank items) (visits_of s rank items) (item_short s rank item) (within_items s rank items)
+    within_front (nesting_at rank item) (prims_of s rank item) (item_visits s rank item) (unrolled_items s rank items) (visits_of s rank items) (item_short s rank item) (within_items s rank items)
 
 pub program_within : (script : Script) (rank : ℕ) → length (program_of script rank) ≤ visits script rank
 program_within script rank = (within_items (setup_of script) rank script.items).here

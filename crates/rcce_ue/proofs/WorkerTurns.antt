@@ -21,7 +21,7 @@ use Rattle.send_recv.specs.Turns as sr
 use Rattle.barrier.specs.Flags.{IsParityOf}
 use Rattle.barrier.specs.Stages.{BarAt}
 use Rattle.script_machine.specs.Local.{Local, local_next}
-use Rattle.script_machine.specs.Moves.{bytes_out, is_ended, is_stopped, length_in}
+use Rattle.script_machine.specs.Moves.{bytes_out, is_ended, is_stopped, length_asked}
 use Rattle.script_machine.specs.Next.{Next}
 use Rattle.script_machine.specs.Next.Next.{Ends, Goes, Posts, Sends, Recvs, Bars}
 use Rattle.script_machine.proofs.StoppedLaws.{stopped_ends}
@@ -141,7 +141,7 @@ module _ (stepped : List Event → Event → Type 0) (x : UeView) (s t : Sight) 
         (send_waits s.seat memory records look.agrees (record_in s) look.like x.core op x.slot (bytes_out (local_next x.machine.local)) aim look.tells stands is)
     waits_by (Receiving op) (stands, of_next) is =
         receives_wait s.seat.setup memory s.seat.rank (records s.seat.rank) at_end op (local_next x.machine.local) of_next
-        (recv_waits s.seat memory records look.agrees (record_in s) look.like x.core op (take (length_in (local_next x.machine.local)) x.inbox) aim look.tells stands is)
+        (recv_waits s.seat memory records look.agrees (record_in s) look.like x.core op (take (length_asked (local_next x.machine.local)) x.inbox) aim look.tells stands is)
     waits_by (Meeting op) (stands, of_next) is =
         meets_wait s.seat.setup memory s.seat.rank (records s.seat.rank) at_end op (local_next x.machine.local) of_next
         (bar_waits s.seat memory records (record_in s) look.like op.comm now.parity aim look.tells stands.below stands.present parity op.stage stands.at is)

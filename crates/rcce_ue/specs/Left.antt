@@ -7,7 +7,7 @@ use Rattle.send_recv.specs.Ops.{SlotAt, slot_left}
 use Rattle.send_recv.specs.Receiving.{recv_left}
 use Rattle.send_recv.specs.Sending.{send_left}
 use Rattle.barrier.specs.Stages.{left_by}
-use Rattle.script_machine.specs.Lengths.{Lengths, asked_length, length_at, lengths_after, lengths_of, source_length}
+use Rattle.script_machine.specs.Lengths.{Lengths, asked_length, length_of_register, lengths_after, lengths_of, source_length}
 use Rattle.script_machine.specs.Local.{Local, local_next}
 use Rattle.script_machine.specs.Moves.{is_stopped}
 use Rattle.script_machine.specs.Next.{Next}
@@ -25,7 +25,7 @@ barrier_bound s rank comm = 2 * size_of s comm rank + 1
 -- the bound of a primitive that is a message or a barrier
 abbrev pub bound_of : SetupView → ℕ → Lengths → Act → ℕ
 bound_of s rank l (Act.Send to head source) = message_bound s.layout (source_length l source)
-bound_of s rank l (Act.Post to reg) = message_bound s.layout (min (length_at l reg) most_post)
+bound_of s rank l (Act.Post to reg) = message_bound s.layout (min (length_of_register l reg) most_post)
 bound_of s rank l (Act.Recv from reg head) = message_bound s.layout head.len
 bound_of s rank l (Act.Gather from head sized) = message_bound s.layout (asked_length l head sized)
 bound_of s rank l (Act.Bar comm) = barrier_bound s rank comm
@@ -49,13 +49,13 @@ next_bound s rank (Bars comm after) = barrier_bound s rank comm
 next_bound s rank _ = 0
 
 -- the turn that ends a call goes on to what comes next; behind a post there are two more, of its slot
-abbrev pub at_end : Bool → ℕ
-at_end posted = if posted then 3 else 1
+abbrev pub turns_at_end : Bool → ℕ
+turns_at_end posted = if posted then 3 else 1
 
 -- what is left of the call that stands next, and of the slot
 abbrev pub open_left : SetupView → ℕ → Open → SlotAt → ℕ
 open_left s rank Nothing slot = slot_left slot
-open_left s rank (Sending op) slot = at_end op.posted + send_left s.layout (chunk_size s.layout) op slot
+open_left s rank (Sending op) slot = turns_at_end op.posted + send_left s.layout (chunk_size s.layout) op slot
 open_left s rank (Receiving op) slot = slot_left slot + 1 + recv_left (chunk_size s.layout) op
 open_left s rank (Meeting op) slot = slot_left slot + 1 + left_by (size_of s op.comm rank) (place_of s op.comm rank) op.stage
 
@@ -70,6 +70,6 @@ unless true n = 0
 unless false n = n
 
 -- how many turns are left at most to a UE; none to one that a mismatch stopped
-abbrev pub left_of : UeView → ℕ
-left_of ue = unless (is_stopped ue.machine.local)
+abbrev pub ue_left : UeView → ℕ
+ue_left ue = unless (is_stopped ue.machine.local)
     (open_left ue.machine.setup ue.machine.rank ue.op ue.slot + rest_behind ue.machine.setup ue.machine.rank ue.op ue.machine.local)

@@ -15,17 +15,17 @@ use Rattle.send_recv.specs.Calling.{IsBetweenMessages}
 use Rattle.send_recv.specs.Receiving.{RecvStands, SaysHead}
 use Rattle.send_recv.specs.Sending.{SendStands, SlotStands}
 use Rattle.barrier.specs.Flags.{IsParityOf}
-use Rattle.barrier.specs.Stages.{BarAt, BarStands, is_finished}
-use Rattle.script_plain.specs.Collectives.{started}
+use Rattle.barrier.specs.Stages.{BarAt, BarStands, is_bar_finished}
+use Rattle.script_plain.specs.Collectives.{start_of_rank}
 use Rattle.script_machine.specs.Local.{Local, local_next}
 use Rattle.script_machine.specs.Machine.{on_its_way}
 use Rattle.script_plain.specs.Meaning.{State, next_of}
-use Rattle.script_machine.specs.Moves.{bytes_out, is_stopped, length_in}
+use Rattle.script_machine.specs.Moves.{bytes_out, is_stopped, length_asked}
 use Rattle.script_machine.specs.Next.{Next}
 use Rattle.script_machine.specs.Next.Next.{Ends, Goes, Posts, Sends, Recvs, Bars}
 use Rattle.script_plain.specs.Paths.{Came}
 use Rattle.script_machine.specs.declared.posts.Posted.{Posted}
-use Rattle.rcce_ue.specs.Ues.{IsBegun, UeView, counted, is_sending}
+use Rattle.rcce_ue.specs.Ues.{IsBegun, UeView, capped_count, is_send_call}
 use Rattle.rcce_ue.specs.declared.calls.Open.{Open}
 use Rattle.rcce_ue.specs.declared.calls.Open.TheVariants.{Nothing, Sending, Receiving, Meeting}
 
@@ -61,7 +61,7 @@ IsRecvOf op _ = ⊥
 
 -- this is the barrier that stands next, and it is not at its end
 abbrev pub IsBarOf : BarAt → Next Local → Type 0
-IsBarOf op (Bars comm after) = (op.comm ≡ comm) × (is_finished op.stage ≡ false)
+IsBarOf op (Bars comm after) = (op.comm ≡ comm) × (is_bar_finished op.stage ≡ false)
 IsBarOf op _ = ⊥
 
 -- what a rank keeps to itself: its core, the slot of its posted message, and the values of its own gather flags
@@ -84,7 +84,7 @@ pub record IsFree (s : Sight) (own : OwnState) : Type 0 where
 abbrev pub OpStands : Sight → Private → SlotAt → List Bool → List ℕ → Open → Next Local → Type 0
 OpStands s c slot parity inbox Nothing next = IsBetweenCalls s c × IsNoCall next
 OpStands s c slot parity inbox (Sending op) next = SendStands s c op slot (bytes_out next) × IsSendOf op next
-OpStands s c slot parity inbox (Receiving op) next = RecvStands s c op (take (length_in next) inbox) × IsRecvOf op next
+OpStands s c slot parity inbox (Receiving op) next = RecvStands s c op (take (length_asked next) inbox) × IsRecvOf op next
 OpStands s c slot parity inbox (Meeting op) next = BarStands s c op parity × IsBarOf op next
 
 -- how many bytes a call sends
@@ -104,7 +104,7 @@ pub record Tied (ue : UeView) (s : Sight) : Type 0 where
   pub rank_is : s.seat.rank ≡ ue.machine.rank
   pub last : Option Posted
   -- the record's calls are those that the rank has done of its program
-  pub stood : Stood (started ue.machine.script ue.machine.rank) (record_in s) ue.machine.local last
+  pub stood : Stood (start_of_rank ue.machine.script ue.machine.rank) (record_in s) ue.machine.local last
   -- the call that stands next is as far as the record says
   pub stands : OpStands s ue.core ue.slot ue.parity ue.inbox ue.op (local_next ue.machine.local)
   -- no register is held between turns
@@ -117,5 +117,5 @@ pub record Tied (ue : UeView) (s : Sight) : Type 0 where
   pub posted_is : ue.posted ≡ option_map on_its_way last
   pub target : IsLastTarget ue.slot last
   -- what was sent is what the record's calls have sent
-  pub sent_is : ue.sent ≡ counted (count_by is_sending (record_in s).calls)
-  pub bytes_are : ue.sent_bytes ≡ counted (sum_by bytes_sent (record_in s).calls)
+  pub sent_is : ue.sent ≡ capped_count (count_by is_send_call (record_in s).calls)
+  pub bytes_are : ue.sent_bytes ≡ capped_count (sum_by bytes_sent (record_in s).calls)

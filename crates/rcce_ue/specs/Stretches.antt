@@ -10,18 +10,18 @@ use Rattle.rcce_ue.specs.declared.calls.Open.{Open}
 use Rattle.rcce_ue.specs.declared.calls.Open.TheVariants.{Nothing, Sending, Receiving, Meeting}
 
 -- the next turn writes a line of a chunk
-abbrev pub is_writing : Open → Bool
-is_writing Nothing = false
-is_writing (Sending op) = line.is_writing op.stage
-is_writing (Receiving op) = false
-is_writing (Meeting op) = false
+abbrev pub writes_line_next : Open → Bool
+writes_line_next Nothing = false
+writes_line_next (Sending op) = line.is_writing op.stage
+writes_line_next (Receiving op) = false
+writes_line_next (Meeting op) = false
 
 -- the next turn reads a line of a chunk
-abbrev pub is_reading : Open → Bool
-is_reading Nothing = false
-is_reading (Sending op) = false
-is_reading (Receiving op) = line.is_reading op.stage
-is_reading (Meeting op) = false
+abbrev pub reads_line_next : Open → Bool
+reads_line_next Nothing = false
+reads_line_next (Sending op) = false
+reads_line_next (Receiving op) = line.is_reading op.stage
+reads_line_next (Meeting op) = false
 
 -- turns in a row, each of which moved
 pub data UeMoves (ue : UeView) (s : Sight) : UeView → Sight → Type 0 where
@@ -29,6 +29,6 @@ pub data UeMoves (ue : UeView) (s : Sight) : UeView → Sight → Type 0 where
   MovedOn : (mid now : UeView) (m t : Sight) → UeMoves ue s mid m → Tied mid m → UeTurned mid m now t turn.Moved → UeMoves ue s now t
 
 -- turns in a row, after which the UE and the port fit together again
-pub record Moves (ue : UeView) (s : Sight) (now : UeView) (t : Sight) : Type 0 where
+pub record StretchMoves (ue : UeView) (s : Sight) (now : UeView) (t : Sight) : Type 0 where
   pub tied : Tied now t
   pub moves : UeMoves ue s now t

@@ -10,7 +10,7 @@ use Rattle.scc_proto.specs.Resting.{is_resting}
 use Rattle.scc_proto.specs.Ports.{Did, Seat, Sight, record_in}
 use Rattle.put_get.specs.Cores.{Private}
 use Rattle.send_recv.specs.Ops.{SlotAt}
-use Rattle.send_recv.specs.Ranks.{receiving, sending, with_slot}
+use Rattle.send_recv.specs.Ranks.{receiving, sending, holding_slot}
 use Rattle.send_recv.specs.Receiving.{RecvDoes, recv_spot}
 use Rattle.send_recv.specs.Sending.{SendDoes, SlotDoes, send_spot, slot_spot}
 use Rattle.send_recv.specs.Steps.{moves_on}
@@ -22,12 +22,12 @@ use Rattle.barrier.specs.Flags.{value_at}
 use Rattle.barrier.specs.Stages as barrier
 use Rattle.barrier.specs.Turns as barrier_turn
 use Rattle.script_machine.specs.Local.{Local, local_next}
-use Rattle.script_machine.specs.Moves.{bytes_out, is_ended, is_stopped, length_in}
+use Rattle.script_machine.specs.Moves.{bytes_out, is_ended, is_stopped, length_asked}
 use Rattle.script_machine.specs.Next.{Next, is_going}
 use Rattle.script_machine.specs.Next.Next.{Ends, Goes, Posts, Sends, Recvs, Bars}
-use Rattle.rcce_ue.specs.Left.{left_of}
+use Rattle.rcce_ue.specs.Left.{ue_left}
 use Rattle.rcce_ue.specs.Standing.{Tied}
-use Rattle.rcce_ue.specs.Ues.{UeView, opened}
+use Rattle.rcce_ue.specs.Ues.{UeView, open_for_next}
 use Rattle.rcce_ue.specs.declared.calls.Open.{Open}
 use Rattle.rcce_ue.specs.declared.calls.Open.TheVariants.{Nothing, Sending, Receiving, Meeting}
 
@@ -44,15 +44,15 @@ abbrev pub aim_by : Seat → Local → SlotAt → List Bool → Open → Option 
 aim_by seat u slot parity Nothing = slot_aim seat u slot
 aim_by seat u slot parity (Sending op) = aim_at seat.setup.layout (send_spot seat op slot)
 aim_by seat u slot parity (Receiving op) = aim_at seat.setup.layout (recv_spot seat op)
-aim_by seat u slot parity (Meeting op) = barrier.aim_at seat op.comm op.stage (flag_value (value_at parity op.comm))
+aim_by seat u slot parity (Meeting op) = barrier.barrier_aim_at seat op.comm op.stage (flag_value (value_at parity op.comm))
 
 -- what the one try of a turn of a UE is for, with the parity after the turn
 abbrev pub ue_aim : Seat → UeView → List Bool → Option Aim
 ue_aim seat ue parity = aim_by seat ue.machine.local ue.slot parity ue.op
 
 -- a UE stays as it is, but for what its core has cached and the bytes that have no message yet
-abbrev pub IsStill : UeView → UeView → Type 0
-IsStill ue now = now ≡ record ue { core = now.core; parity = now.parity; inbox = now.inbox }
+abbrev pub IsUeStill : UeView → UeView → Type 0
+IsUeStill ue now = now ≡ record ue { core = now.core; parity = now.parity; inbox = now.inbox }
 
 -- no statement of the rank's own stands next, so that its run has an end that can be told
 abbrev pub IsPausing : UeView → Type 0
@@ -71,20 +71,20 @@ IsBehind (Bars comm after) u = u ≡ after
 -- a UE went one step on: within the call that stands next, or in the slot, and one turn fewer is left; or behind what stood
 -- next, and nothing is done yet of what stands next now
 pub data WentOn (ue now : UeView) : Type 0 where
-  Within : now.machine ≡ ue.machine → left_of ue ≡ left_of now + 1 → WentOn ue now
-  Behind : IsBehind (local_next ue.machine.local) now.machine.local → now.op ≡ opened (local_next now.machine.local) → WentOn ue now
+  Within : now.machine ≡ ue.machine → ue_left ue ≡ ue_left now + 1 → WentOn ue now
+  Behind : IsBehind (local_next ue.machine.local) now.machine.local → now.op ≡ open_for_next (local_next now.machine.local) → WentOn ue now
 
 -- what each answer means: with Moved alone the UE went on, and the number of turns left falls; and Done comes exactly where the UE was over
 -- before, and then nothing is done
 abbrev pub UeMeans : UeView → Sight → UeView → Sight → Turn → Type 0
-UeMeans ue s now t turn.Moved = (left_of now < left_of ue) × (is_over ue ≡ false) × WentOn ue now
+UeMeans ue s now t turn.Moved = (ue_left now < ue_left ue) × (is_over ue ≡ false) × WentOn ue now
 UeMeans ue s now t (turn.Waiting spot) =
-    IsStill ue now × (left_of now ≡ left_of ue) × IsAtRest (record_in s) (record_in t) × (is_over ue ≡ false) × IsPausing now
+    IsUeStill ue now × (ue_left now ≡ ue_left ue) × IsAtRest (record_in s) (record_in t) × (is_over ue ≡ false) × IsPausing now
 UeMeans ue s now t turn.Done = (now ≡ ue) × (t ≡ s) × (is_over ue ≡ true) × IsPausing now
 
 -- what a turn does where no call stands next: the slot's turn behind the end of the program, and else nothing
 abbrev pub AloneDoes : UeView → Sight → (at_end : Bool) → (done : Bool) → Sight → Private → Type 0
-AloneDoes ue s true done t d = SlotDoes (with_slot s ue.core ue.slot) done t d
+AloneDoes ue s true done t d = SlotDoes (holding_slot s ue.core ue.slot) done t d
 AloneDoes ue s false done t d = (t ≡ s) × (d ≡ ue.core)
 
 -- what a turn does: what the call does that stands next, with the parity after the turn. Seven parameters: the UE, the
@@ -94,7 +94,7 @@ UeDoes ue s parity Nothing done t d = AloneDoes ue s (not (is_stopped ue.machine
 UeDoes ue s parity (Sending op) done t d =
     SendDoes (sending s ue.core op ue.slot (bytes_out (local_next ue.machine.local))) op.stage done t d
 UeDoes ue s parity (Receiving op) done t d =
-    RecvDoes (receiving s ue.core op (take (length_in (local_next ue.machine.local)) ue.inbox)) op.stage done t d
+    RecvDoes (receiving s ue.core op (take (length_asked (local_next ue.machine.local)) ue.inbox)) op.stage done t d
 UeDoes ue s parity (Meeting op) done t d = barrier_turn.Does s.seat op.comm op.stage (flag_value (value_at parity op.comm)) s ue.core t d
 
 -- one turn of a UE: what it did, and what it came to

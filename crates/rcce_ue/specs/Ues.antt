@@ -8,10 +8,10 @@ use Rattle.scc_base.specs.declared.calls.Call.TheVariants as call
 use Rattle.send_recv.specs.Ops.{SlotAt, new_receive, new_send}
 use Rattle.barrier.specs.Stages.{new_barrier}
 use Rattle.script_reader.specs.Script.{rules_of}
-use Rattle.script_reader.specs.Settled.{IsWhole}
+use Rattle.script_reader.specs.Settled.{IsWholeScript}
 use Rattle.script_machine.specs.Local.{local_next}
 use Rattle.script_machine.specs.Machine.{MachineView, on_its_way}
-use Rattle.script_machine.specs.Next.{Next, call_of}
+use Rattle.script_machine.specs.Next.{Next, call_next}
 use Rattle.script_machine.specs.Next.Next.{Posts}
 use Rattle.script_machine.specs.declared.posts.OnItsWay.{OnItsWay}
 use Rattle.rcce_ue.specs.declared.calls.Open.{Open}
@@ -33,7 +33,7 @@ pub record UeView : Type 0 where
 
 -- a machine of a script that was read, with a setup of as many ranks and with its communicators
 pub record IsBegun (m : MachineView) : Type 0 where
-  pub whole : IsWhole m.script.nue m.script.items
+  pub whole : IsWholeScript m.script.nue m.script.items
   pub ranks : m.setup.nue ≡ m.script.nue
   pub comms : m.setup.comms ≡ rules_of m.script.items
   pub within : m.rank < m.script.nue
@@ -47,22 +47,22 @@ open_for (Some (call.Bar comm)) = Meeting (new_barrier comm)
 open_for None = Nothing
 
 -- the call that stands next, of which nothing is done yet
-abbrev pub opened : {U : Type 0} → Next U → Open
-opened next = open_for (call_of next)
+abbrev pub open_for_next : {U : Type 0} → Next U → Open
+open_for_next next = open_for (call_next next)
 
 -- a UE that stands at the next call of its machine, of which nothing is done yet
-abbrev pub entered : UeView → UeView
-entered ue = record ue { op = opened (local_next ue.machine.local) }
+abbrev pub at_next_call : UeView → UeView
+at_next_call ue = record ue { op = open_for_next (local_next ue.machine.local) }
 
 -- a count stops at the largest value of u64
-abbrev pub counted : ℕ → ℕ
-counted n = min n (2 ^ 64 - 1)
+abbrev pub capped_count : ℕ → ℕ
+capped_count n = min n (2 ^ 64 - 1)
 
 -- whether a call sends a message
-abbrev pub is_sending : DataCall → Bool
-is_sending (Send to head bytes) = true
-is_sending (Post to head bytes) = true
-is_sending _ = false
+abbrev pub is_send_call : DataCall → Bool
+is_send_call (Send to head bytes) = true
+is_send_call (Post to head bytes) = true
+is_send_call _ = false
 
 -- the message that a post leaves behind, where a post stands next
 abbrev pub posted_by : {U : Type 0} → Next U → Option OnItsWay → Option OnItsWay

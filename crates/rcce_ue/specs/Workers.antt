@@ -10,7 +10,7 @@ use Rattle.script_machine.specs.Next.Next.{Ends, Goes, Posts, Sends, Recvs, Bars
 use Rattle.chip_run.specs.Conducts.{Conduct, WorkerView}
 use Rattle.chip_run.specs.Turns.{RankHoldsNone}
 use Rattle.chip_run.specs.Wants.{Want}
-use Rattle.rcce_ue.specs.Left.{left_of}
+use Rattle.rcce_ue.specs.Left.{ue_left}
 use Rattle.rcce_ue.specs.Standing.{Tied}
 use Rattle.rcce_ue.specs.Turns.{WentOn}
 use Rattle.rcce_ue.specs.Ues.{UeView}
@@ -39,7 +39,7 @@ ue_want ue = want_next (want_at_end (slot_awaited ue)) (local_next ue.machine.lo
 
 -- what a run sees of a UE
 abbrev pub ue_seen : UeView → WorkerView
-ue_seen ue = record { want = ue_want ue; left = left_of ue; is_stopped = is_stopped ue.machine.local }
+ue_seen ue = record { want = ue_want ue; left = ue_left ue; is_stopped = is_stopped ue.machine.local }
 
 -- a turn of a UE that moved: it went one step on, in the same script
 pub record UeMoved (old new : UeView) : Type 0 where

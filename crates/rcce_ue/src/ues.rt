@@ -70,18 +70,18 @@ impl<'s, V: Evict> Ue<'s, V> {
     ghost use Rattle.scc_proto.specs.Ports.{Sight};
     ghost use Rattle.put_get.specs.Cores.{MadeSteps};
     ghost use Rattle.send_recv.specs.Turns.{waits_at};
-    ghost use Rattle.script_plain.specs.Collectives.{started};
-    ghost use Rattle.script_machine.specs.Moves.{bytes_out, is_passable, is_receiving, is_stopped, length_in, passed, refused, taken, went};
+    ghost use Rattle.script_plain.specs.Collectives.{start_of_rank};
+    ghost use Rattle.script_machine.specs.Moves.{bytes_out, is_passable, is_receiving, is_stopped, length_asked, after_pass, after_refusal, after_take, went};
     ghost use Rattle.script_machine.specs.Next.{is_going};
     ghost use Rattle.rcce_ue.specs.Bounds.{bounds_of, visits};
-    ghost use Rattle.rcce_ue.specs.Left.{left_of};
+    ghost use Rattle.rcce_ue.specs.Left.{ue_left};
     ghost use Rattle.rcce_ue.specs.Standing.{Tied};
     ghost use Rattle.rcce_ue.specs.Turns.{UeTurned};
-    ghost use Rattle.rcce_ue.specs.Ues.{IsBegun, counted, entered};
+    ghost use Rattle.rcce_ue.specs.Ues.{IsBegun, capped_count, at_next_call};
 
     // Comes to what stands next: the op of the next call is made.
     fn enter(&mut self)
-        ensures { self.new ≡ entered self.old }
+        ensures { self.new ≡ at_next_call self.old }
     {
         self.op = begin(&self.machine.call());
     }
@@ -89,11 +89,11 @@ impl<'s, V: Evict> Ue<'s, V> {
     // Goes past the send or the post that has ended, and counts it.
     fn pass_message(&mut self)
         requires { IsTrue (is_passable (local_next self.old.machine.local)) }
-        ensures { self.new ≡ entered (record self.old {
-          machine = record self.old.machine { local = passed (local_next self.old.machine.local) self.old.machine.local };
+        ensures { self.new ≡ at_next_call (record self.old {
+          machine = record self.old.machine { local = after_pass (local_next self.old.machine.local) self.old.machine.local };
           posted = posted_by (local_next self.old.machine.local) self.old.posted;
-          sent = counted (self.old.sent + 1);
-          sent_bytes = counted (self.old.sent_bytes + length (bytes_out (local_next self.old.machine.local)));
+          sent = capped_count (self.old.sent + 1);
+          sent_bytes = capped_count (self.old.sent_bytes + length (bytes_out (local_next self.old.machine.local)));
         }) }
     {
         self.posted = posted_after(&self.machine, self.posted);
@@ -108,8 +108,8 @@ impl<'s, V: Evict> Ue<'s, V> {
     // Goes past the barrier that has ended.
     fn pass_barrier(&mut self)
         requires { IsTrue (is_passable (local_next self.old.machine.local)) }
-        ensures { self.new ≡ entered (record self.old {
-          machine = record self.old.machine { local = passed (local_next self.old.machine.local) self.old.machine.local };
+        ensures { self.new ≡ at_next_call (record self.old {
+          machine = record self.old.machine { local = after_pass (local_next self.old.machine.local) self.old.machine.local };
         }) }
     {
         self.machine.pass();
@@ -119,10 +119,10 @@ impl<'s, V: Evict> Ue<'s, V> {
     // Takes the message that has come.
     fn receive(&mut self)
         requires at_receive { IsTrue (is_receiving (local_next self.old.machine.local)) }
-        requires room { length_in (local_next self.old.machine.local) ≤ length self.old.inbox }
-        ensures { self.new ≡ entered (record self.old {
+        requires room { length_asked (local_next self.old.machine.local) ≤ length self.old.inbox }
+        ensures { self.new ≡ at_next_call (record self.old {
           machine = record self.old.machine {
-            local = taken (local_next self.old.machine.local) (take (length_in (local_next self.old.machine.local)) self.old.inbox)
+            local = after_take (local_next self.old.machine.local) (take (length_asked (local_next self.old.machine.local)) self.old.inbox)
                 self.old.machine.local;
           };
         }) }
@@ -194,7 +194,7 @@ impl<'s, V: Evict + Drop> Ue<'s, V> {
     ghost use Rattle.script_reader.specs.Script.{rules_of};
     ghost use Rattle.script_machine.specs.Local.{local_start};
     ghost use Rattle.rcce_ue.specs.Bounds.{bounds_of, visits};
-    ghost use Rattle.rcce_ue.specs.Left.{left_of};
+    ghost use Rattle.rcce_ue.specs.Left.{ue_left};
     ghost use Rattle.rcce_ue.specs.Standing.{Tied};
 
     /// The UE of a rank before its first turn. All its memory is taken here.
@@ -211,7 +211,7 @@ impl<'s, V: Evict + Drop> Ue<'s, V> {
         ensures machine { IfOk result (λ u. u.machine
             ≡ record { script = scripts.now; setup = setup; rank = rank; local = local_start scripts.now rank }) }
         ensures tied { IfOk result (λ u. (s : Sight) → s.seat.setup ≡ setup → s.seat.rank ≡ rank → s.events ≡ [] → Tied u s) }
-        ensures left { IfOk result (λ u. left_of u ≤ visits scripts.now rank + bounds_of setup scripts.now rank) }
+        ensures left { IfOk result (λ u. ue_left u ≤ visits scripts.now rank + bounds_of setup scripts.now rank) }
         ensures evictor { IfOk result (λ u. u.core.answers ≡ V.answers evict) }
     {
         scripts.acceptance_law();

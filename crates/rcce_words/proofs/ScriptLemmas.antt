@@ -5,7 +5,7 @@ use Rattle.script_reader.specs.declared.fault.ReadFault.{ReadFault}
 use Rattle.script_reader.specs.Faults.{kind_name}
 use Rattle.script_reader.specs.Reading.{most_script_bytes, parse_script}
 use Rattle.script_reader.specs.Script.{Script}
-use Rattle.outcomes.specs.Coming.{Comes, Holds, IsMeant}
+use Rattle.outcomes.specs.Coming.{Comes, FileHolds, IsMeant}
 use Rattle.outcomes.specs.Complaints.{ReadsFile}
 use Rattle.outcomes.specs.Outcomes.{Outcome, file_refused}
 use Rattle.outcomes.specs.Plans.{Plan}
@@ -22,7 +22,7 @@ comes_refused program next file bytes nue fault kind files said named =
 
 -- what the reading of the file's bytes says is what the reading of the file says
 pub reads_by : (file : List ℕ) (nue : ℕ) (bytes : List ℕ) (before between : FilesView) (answer : Result Script Complaint) → ReadsFile file most_script_bytes before between (Ok bytes) → length bytes ≤ most_script_bytes
-    → Holds before.told file bytes → ReadsBytes file nue bytes answer → ReadsScript file nue before between answer
+    → FileHolds before.told file bytes → ReadsBytes file nue bytes answer → ReadsScript file nue before between answer
 reads_by file nue bytes before between (Ok script) reads few holds said = record {
   goes = λ program next end o came. reads program (bytes_plan next file nue) end o
       (subst (λ (r : Result Script ReadFault). Comes program (parsed_plan next file r) between end o) (sym said) came);

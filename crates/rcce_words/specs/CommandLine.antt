@@ -130,7 +130,7 @@ abbrev pub parse_command : List (List ℕ) → Result Job WordFault
 parse_command words = scan 0 false nothing words >>= job_of
 
 -- what was said so far is in range
-pub record IsWithin (said : Said) : Type 0 where
+pub record IsSaidInRange (said : Said) : Type 0 where
   pub nue : IfSome said.nue (λ n. (1 ≤ n) × (n ≤ 48))
   pub seed : IfSome said.seed (λ n. n ≤ 65535)
 

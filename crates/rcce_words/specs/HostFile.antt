@@ -5,7 +5,7 @@ use Rattle.std.specs.List.{prefix_len, suffix_len, range_with_len}
 use Rattle.std.specs.Str.{bytes_eq}
 use Rattle.scc_base.specs.Worlds.{own_cores}
 use Rattle.script_reader.specs.Faults.{◌>>=◌}
-use Rattle.texts.specs.Cuts.{is_text, lines_of, uncommented}
+use Rattle.texts.specs.Cuts.{is_text, lines_of, without_comment}
 use Rattle.texts.specs.Numbers.{number_of}
 use Rattle.rcce_words.specs.Cores.{has_core}
 use Rattle.rcce_words.specs.declared.host_file.HostFault.{HostFault}
@@ -37,12 +37,12 @@ abbrev pub without_end : List ℕ → List ℕ
 without_end text = take (length text - suffix_len is_ascii_whitespace text) text
 
 -- a text without the blanks at its two ends
-abbrev pub trimmed : List ℕ → List ℕ
-trimmed text = without_end (drop (prefix_len is_ascii_whitespace text) text)
+abbrev pub without_blank_ends : List ℕ → List ℕ
+without_blank_ends text = without_end (drop (prefix_len is_ascii_whitespace text) text)
 
 -- what stands in a line: neither its comment, from the first `#` on, nor the blanks round it
 abbrev pub entry_of : List ℕ → List ℕ
-entry_of line = trimmed (uncommented line)
+entry_of line = without_blank_ends (without_comment line)
 
 -- the digits of a core's number, which may have `rck` before them
 abbrev pub digits_of : List ℕ → List ℕ

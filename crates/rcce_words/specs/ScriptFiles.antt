@@ -5,7 +5,7 @@ use Rattle.script_reader.specs.declared.fault.ReadFault.{ReadFault}
 use Rattle.script_reader.specs.Faults.{kind_name}
 use Rattle.script_reader.specs.Reading.{most_script_bytes, parse_script}
 use Rattle.script_reader.specs.Script.{Script}
-use Rattle.outcomes.specs.Coming.{Comes, Holds}
+use Rattle.outcomes.specs.Coming.{Comes, FileHolds}
 use Rattle.outcomes.specs.Complaints.{complaint_outcome}
 use Rattle.outcomes.specs.Outcomes.{Outcome}
 use Rattle.outcomes.specs.Plans.{Plan}
@@ -28,7 +28,7 @@ script_plan next file nue = Reads file most_script_bytes (bytes_plan next file n
 -- this script stands in the file, where files are told
 abbrev pub ScriptIn : List ℕ → Option (List NamedFile) → ℕ → Script → Type 0
 ScriptIn file told nue script =
-    (bytes : List ℕ) × (length bytes ≤ most_script_bytes) × Holds told file bytes × (parse_script bytes nue ≡ Ok script)
+    (bytes : List ℕ) × (length bytes ≤ most_script_bytes) × FileHolds told file bytes × (parse_script bytes nue ≡ Ok script)
 
 -- the script stands in the file, and the plan of the file comes to what it comes to with this script
 pub record LeadsTo (file : List ℕ) (nue : ℕ) (before after : FilesView) (script : Script) : Type 0 where

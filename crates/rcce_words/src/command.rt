@@ -3,7 +3,7 @@
 ghost use Rattle.std.specs.Prelude.{◌≡◌, ◌+◌, ℕ, List, IfOk, false, map, option_map, string_bytes};
 ghost use Rattle.outcomes.specs.Complaints.{complaint_outcome};
 ghost use Rattle.outcomes.specs.Outcomes.{words_refused};
-ghost use Rattle.rcce_words.specs.CommandLine.{IsInRange, IsSeedInRange, IsWithin, first_of, job_of, nothing, parse_command, scan, work_of};
+ghost use Rattle.rcce_words.specs.CommandLine.{IsInRange, IsSeedInRange, IsSaidInRange, first_of, job_of, nothing, parse_command, scan, work_of};
 ghost use Rattle.rcce_words.specs.FaultTexts.{fault_text, word_numbered};
 
 use crate::flags::takes_value;
@@ -65,7 +65,7 @@ fn first_of(words: &[String]) -> Option<&str>
 /// What the words say, from the first one on.
 fn scan(words: &[String]) -> Result<Said, WordFault>
     ensures gives { result ≡ scan 0 false nothing (map string_bytes words.now) }
-    ensures within { IfOk result IsWithin }
+    ensures within { IfOk result IsSaidInRange }
 {
     let mut said = Said::nothing();
     let mut at: usize = 0;
@@ -85,7 +85,7 @@ fn scan(words: &[String]) -> Result<Said, WordFault>
 }
 
 fn work_of(said: Said) -> Result<Work, WordFault>
-    requires { IsWithin said }
+    requires { IsSaidInRange said }
     ensures gives { result ≡ work_of said.script said.seed }
     ensures within { IfOk result IsSeedInRange }
 {
@@ -97,7 +97,7 @@ fn work_of(said: Said) -> Result<Work, WordFault>
 }
 
 fn job_of(said: Said) -> Result<Job, WordFault>
-    requires { IsWithin said }
+    requires { IsSaidInRange said }
     ensures gives { result ≡ job_of said }
     ensures within { IfOk result IsInRange }
 {

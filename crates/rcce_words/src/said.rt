@@ -1,7 +1,7 @@
 //! What the words have said so far.
 
 ghost use Rattle.std.specs.Prelude.{◌≡◌, ◌<◌, ◌≤◌, IfOk, option_map};
-ghost use Rattle.rcce_words.specs.CommandLine.{IsWithin, has, is_against, nothing, number_behind, take, take_flag, take_name, with_flag};
+ghost use Rattle.rcce_words.specs.CommandLine.{IsSaidInRange, has, is_against, nothing, number_behind, take, take_flag, take_name, with_flag};
 
 use crate::command::WordFault;
 use crate::flags::{Flag, flag_of};
@@ -39,7 +39,7 @@ impl Said {
     /// What was said before the first word: nothing.
     pub(crate) fn nothing() -> Said
         ensures same { result ≡ nothing }
-        ensures within { IsWithin result }
+        ensures within { IsSaidInRange result }
     {
         Said {
             nue: None,
@@ -81,9 +81,9 @@ impl Said {
     /// The same with an option, at the word `at`, whose value stands behind it.
     fn with_flag(self, at: usize, flag: Flag, behind: Option<&str>) -> Result<Said, WordFault>
         requires small { at < usize.MAX }
-        requires within { IsWithin self }
+        requires within { IsSaidInRange self }
         ensures gives { result ≡ with_flag at flag (option_map (λ word. word.now) behind.entry) self }
-        ensures within { IfOk result IsWithin }
+        ensures within { IfOk result IsSaidInRange }
     {
         let mut said = self;
         match flag {
@@ -104,9 +104,9 @@ impl Said {
 
     fn take_flag(self, at: usize, flag: Flag, behind: Option<&str>) -> Result<Said, WordFault>
         requires small { at < usize.MAX }
-        requires within { IsWithin self }
+        requires within { IsSaidInRange self }
         ensures gives { result ≡ take_flag at self flag (option_map (λ word. word.now) behind.entry) }
-        ensures within { IfOk result IsWithin }
+        ensures within { IfOk result IsSaidInRange }
     {
         if self.has(flag) {
             return Err(WordFault::Twice { at });
@@ -122,9 +122,9 @@ impl Said {
     }
 
     fn take_name(self, at: usize) -> Result<Said, WordFault>
-        requires within { IsWithin self }
+        requires within { IsSaidInRange self }
         ensures gives { result ≡ take_name at self }
-        ensures within { IfOk result IsWithin }
+        ensures within { IfOk result IsSaidInRange }
     {
         if self.script.is_some() || self.seed.is_some() {
             return Err(WordFault::Extra { at });
@@ -138,9 +138,9 @@ impl Said {
     /// The same with the word `at`, which is no value, and the word behind it.
     pub(crate) fn take(self, at: usize, word: &str, behind: Option<&str>) -> Result<Said, WordFault>
         requires small { at < usize.MAX }
-        requires within { IsWithin self }
+        requires within { IsSaidInRange self }
         ensures gives { result ≡ take at self word.now (option_map (λ word. word.now) behind.entry) }
-        ensures within { IfOk result IsWithin }
+        ensures within { IfOk result IsSaidInRange }
     {
         if !is_option(word) {
             return self.take_name(at);

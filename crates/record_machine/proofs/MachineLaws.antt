@@ -8,7 +8,7 @@ use Rattle.scc_proto.specs.Moves.{Move, after}
 use Rattle.scc_proto.specs.Permission.{permits}
 use Rattle.scc_proto.specs.Records.{act_by, act_of, after_act, change_held, chunk_of, is_permitted, leads, load_act, load_by, permits_act, record_after, store_act, store_by}
 use Rattle.scc_proto.specs.Stages.{FlagWords, Record}
-use Rattle.scc_proto.specs.Tables.{put}
+use Rattle.scc_proto.specs.Tables.{table_with}
 use Rattle.scc_proto.specs.Words.{Role, role_of}
 use Rattle.scc_proto.proofs.Tests.{same_or_other, put_here, put_there, true_not_false}
 use Rattle.record_machine.specs.Following.{Adds, FollowsRecord, Takes, event_of}
@@ -26,20 +26,20 @@ use Rattle.record_machine.specs.declared.uses.Use.TheVariants as word_use
 -- ---- the registers that are held
 
 pub held_put : (held : List (Option NotedFlags)) (records : ℕ → Option FlagWords) (core : ℕ) (slot : Option NotedFlags) (now : Option FlagWords) → core < length held → option_map flag_words slot ≡ now
-    → KeepsHeld held records → KeepsHeld (slice_set held core slot) (put records core now)
-held_put held records core slot now within is are k below = same_or_other (option_map flag_words (slice_index_or (slice_set held core slot) k None) ≡ put records core now k) k core
+    → KeepsHeld held records → KeepsHeld (slice_set held core slot) (table_with records core now)
+held_put held records core slot now within is are k below = same_or_other (option_map flag_words (slice_index_or (slice_set held core slot) k None) ≡ table_with records core now k) k core
     (λ t e. ap (λ (i : ℕ). option_map flag_words (slice_index_or (slice_set held core slot) i None)) e ∙ ap (option_map flag_words) (get_or-set_same held core slot None within) ∙ is
-    ∙ sym (ap (put records core now) e ∙ put_here records core now))
+    ∙ sym (ap (table_with records core now) e ∙ put_here records core now))
     (λ t ne. ap (option_map flag_words) (get_or-set_other held core k slot None ne) ∙ are k below ∙ sym (put_there records core now k ne))
 
-pub held_stays : (held : List (Option NotedFlags)) (records : ℕ → Option FlagWords) (core : ℕ) (now : Option FlagWords) → now ≡ records core → KeepsHeld held records → KeepsHeld held (put records core now)
-held_stays held records core now same are k below = same_or_other (option_map flag_words (slice_index_or held k None) ≡ put records core now k) k core
-    (λ t e. are k below ∙ sym (ap (put records core now) e ∙ put_here records core now ∙ same ∙ ap records (sym e)))
+pub held_stays : (held : List (Option NotedFlags)) (records : ℕ → Option FlagWords) (core : ℕ) (now : Option FlagWords) → now ≡ records core → KeepsHeld held records → KeepsHeld held (table_with records core now)
+held_stays held records core now same are k below = same_or_other (option_map flag_words (slice_index_or held k None) ≡ table_with records core now k) k core
+    (λ t e. are k below ∙ sym (ap (table_with records core now) e ∙ put_here records core now ∙ same ∙ ap records (sym e)))
     (λ t ne. are k below ∙ sym (put_there records core now k ne))
 
-put_same : (records : ℕ → Option FlagWords) (core : ℕ) (now : Option FlagWords) → now ≡ records core → (k : ℕ) → put records core now k ≡ records k
-put_same records core now same k = same_or_other (put records core now k ≡ records k) k core
-    (λ t e. ap (put records core now) e ∙ put_here records core now ∙ same ∙ ap records (sym e)) (λ t ne. put_there records core now k ne)
+put_same : (records : ℕ → Option FlagWords) (core : ℕ) (now : Option FlagWords) → now ≡ records core → (k : ℕ) → table_with records core now k ≡ records k
+put_same records core now same k = same_or_other (table_with records core now k ≡ records k) k core
+    (λ t e. ap (table_with records core now) e ∙ put_here records core now ∙ same ∙ ap records (sym e)) (λ t ne. put_there records core now k ne)
 
 kept_same : (flags : Option FlagWords) → option_map (λ (f : FlagWords). f) flags ≡ flags
 kept_same None = refl
@@ -146,7 +146,7 @@ refused_stays s me rec e not_so = if_false (is_permitted s me rec e) (after_act 
 -- ---- registers
 
 pub take_holds : (s : SetupView) (me : ℕ) (rec : Record) (place : WordAt) (value : ℕ) → is_none (rec.held place.core) ≡ true → (value == 1) ≡ true
-    → record_after s me rec (event_of Take place value) ≡ record rec { held = put rec.held place.core (Some (record { sent = None; ready = None })) }
+    → record_after s me rec (event_of Take place value) ≡ record rec { held = table_with rec.held place.core (Some (record { sent = None; ready = None })) }
 unfolding act_of
 take_holds s me rec place value may one =
     if_true (is_none (rec.held place.core)) (after_act (chunk_of s) (act_by s me rec Take place value) rec) rec may ∙ ap (λ a. after_act (chunk_of s) a rec) (if_true (value == 1) _ _ one)
@@ -156,7 +156,7 @@ unfolding act_of
 take_fails s me rec place value may other =
     if_true (is_none (rec.held place.core)) (after_act (chunk_of s) (act_by s me rec Take place value) rec) rec may ∙ ap (λ a. after_act (chunk_of s) a rec) (if_false (value == 1) _ _ other)
 
-pub free_frees : (s : SetupView) (me : ℕ) (rec : Record) (place : WordAt) (value : ℕ) → is_some (rec.held place.core) ≡ true → record_after s me rec (event_of Free place value) ≡ record rec { held = put rec.held place.core None }
+pub free_frees : (s : SetupView) (me : ℕ) (rec : Record) (place : WordAt) (value : ℕ) → is_some (rec.held place.core) ≡ true → record_after s me rec (event_of Free place value) ≡ record rec { held = table_with rec.held place.core None }
 unfolding act_of
 free_frees s me rec place value may = if_true (is_some (rec.held place.core)) (after_act (chunk_of s) (act_by s me rec Free place value) rec) rec may
 

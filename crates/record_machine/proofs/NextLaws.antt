@@ -6,7 +6,7 @@ use Rattle.scc_base.specs.Events.{store_of}
 use Rattle.scc_base.specs.Places.{WordAt}
 use Rattle.scc_base.specs.Setups.{SetupView}
 use Rattle.scc_base.specs.declared.signals.Signal.TheVariants.{Sent, Ready}
-use Rattle.scc_proto.specs.Messages.{Note, Notes, Progress, begun, head_of, is_whole}
+use Rattle.scc_proto.specs.Messages.{Note, Notes, Progress, fresh_message, head_of, is_whole}
 use Rattle.scc_proto.specs.Moves.{Move, DraftHeader, DraftChunk, RaiseSignal, ReadChunk, LowerSignal, WriteRelease, StoreHeap}
 use Rattle.scc_proto.specs.Permission.{is_drafted, is_whole_header, may_take, permits}
 use Rattle.scc_proto.specs.Records.{change_at, chunk_of, is_permitted, permits_act, flags_noted, store_act}
@@ -179,7 +179,7 @@ module _ (size : ℕ) (notes : ℕ → Option Notes) (flips : ℕ → ℕ) (held
 
   pub store_named : (st : Stage) (post : Option OnItsWay) (move : Move) → Named st post (store_allowed size st post notes) move
   store_named Idle post move t u = idle_named post move t u
-  store_named (Drafting h c) post move t u = drafting_named h c post (is_whole_header h && is_drafted size (begun (head_of h)) c) move t u
+  store_named (Drafting h c) post move t u = drafting_named h c post (is_whole_header h && is_drafted size (fresh_message (head_of h)) c) move t u
   store_named (Sending j Filling message []) post move t u = fill_first_named j message post move t u
   store_named (Sending j Filling message (n ∷ ns)) post move t u = fill_named j message n ns post (is_drafted size message (n ∷ ns)) move t u
   store_named (Sending j Raised message c) post move t u = raised_named j message c post move t u
@@ -194,7 +194,7 @@ module _ (size : ℕ) (notes : ℕ → Option Notes) (flips : ℕ → ℕ) (held
   abbrev Offered : Stage → Option OnItsWay → NextStore → Move → Type 0
   Offered st post store move = offers store move ≡ true → permits size move (at st post) ≡ true
 
-  drafting_offered : (h c : Notes) (b : Bool) (move : Move) → (is_whole_header h && is_drafted size (begun (head_of h)) c) ≡ b → Offered (Drafting h c) None (if b then may.Raise else may.Draft) move
+  drafting_offered : (h c : Notes) (b : Bool) (move : Move) → (is_whole_header h && is_drafted size (fresh_message (head_of h)) c) ≡ b → Offered (Drafting h c) None (if b then may.Raise else may.Draft) move
   drafting_offered h c true (RaiseSignal Sent to) is t = is
   drafting_offered h c true move is t = cc
   drafting_offered h c false (DraftHeader k v) is t = refl
@@ -260,7 +260,7 @@ module _ (size : ℕ) (notes : ℕ → Option Notes) (flips : ℕ → ℕ) (held
 
   pub store_offered : (st : Stage) (post : Option OnItsWay) (move : Move) → (post ≡ None) ⊎ (is_free st ≡ true) → Offered st post (store_allowed size st post notes) move
   store_offered Idle post move free t = idle_offered post move t
-  store_offered (Drafting h c) post move free t = alone (Drafting h c) post (store_allowed size (Drafting h c) post notes) move free refl (drafting_offered h c (is_whole_header h && is_drafted size (begun (head_of h)) c) move refl) t
+  store_offered (Drafting h c) post move free t = alone (Drafting h c) post (store_allowed size (Drafting h c) post notes) move free refl (drafting_offered h c (is_whole_header h && is_drafted size (fresh_message (head_of h)) c) move refl) t
   store_offered (Sending j Filling message []) post move free t = alone (Sending j Filling message []) post (may.FillFirst j) move free refl (fill_first_offered j message move) t
   store_offered (Sending j Filling message (n ∷ ns)) post move free t = alone (Sending j Filling message (n ∷ ns)) post (store_allowed size (Sending j Filling message (n ∷ ns)) post notes) move free refl (fill_offered j message n ns (is_drafted size message (n ∷ ns)) move refl) t
   store_offered (Sending j Raised message c) post move free t = nothing_offered (may.SeeReady j) (Sending j Raised message c) post move (see_ready_none j) t

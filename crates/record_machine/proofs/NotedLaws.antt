@@ -2,7 +2,7 @@
 use Rattle.std.proofs.Common.{◌≡◌, ℕ, zero, suc, ◌+◌, ◌<◌, Bool, true, false, ◌&&◌, ◌==◌, if◌then◌else◌, List, [], length, replicate, Option, Some, None, SomeIff, is_some, unwrap_or, slice_index_or, slice_set, get_or-set_other, get_or-set_same, refl, sym, ◌∙◌, ap, subst, arith}
 use Rattle.std.proofs.lemmas.List.{get_or-replicate}
 use Rattle.scc_base.specs.Heads.{MessageHead, IsHead, IsPostHead}
-use Rattle.scc_proto.specs.Messages.{Notes, noted, note_word, has_all, head_of, is_head, is_post_head}
+use Rattle.scc_proto.specs.Messages.{Notes, noted_word, note_word, has_all, head_of, is_head, is_post_head}
 use Rattle.scc_proto.specs.Moves.{is_posted}
 use Rattle.scc_proto.specs.Permission.{is_post_word, is_whole_header, says_head}
 use Rattle.scc_proto.proofs.Words.NoteFacts.{noted_here, noted_there}
@@ -16,8 +16,8 @@ pub slots_none : (n : ℕ) → AreSlotsOf n (replicate n None) []
 slots_none n k below = get_or-replicate n k None None below
 
 pub slots_set : (n : ℕ) (slots : List (Option ℕ)) (notes : Notes) (k v : ℕ) → k < length slots → AreSlotsOf n slots notes → AreSlotsOf n (slice_set slots k (Some v)) (note_word k v notes)
-slots_set n slots notes k v below are i within = same_or_other (slice_index_or (slice_set slots k (Some v)) i None ≡ noted (note_word k v notes) i) i k
-    (λ t e. ap (λ (j : ℕ). slice_index_or (slice_set slots k (Some v)) j None) e ∙ get_or-set_same slots k (Some v) None below ∙ sym (noted_here k v notes) ∙ ap (λ (j : ℕ). noted (note_word k v notes) j) (sym e))
+slots_set n slots notes k v below are i within = same_or_other (slice_index_or (slice_set slots k (Some v)) i None ≡ noted_word (note_word k v notes) i) i k
+    (λ t e. ap (λ (j : ℕ). slice_index_or (slice_set slots k (Some v)) j None) e ∙ get_or-set_same slots k (Some v) None below ∙ sym (noted_here k v notes) ∙ ap (λ (j : ℕ). noted_word (note_word k v notes) j) (sym e))
     (λ t ne. get_or-set_other slots k i (Some v) None ne ∙ are i within ∙ sym (noted_there k v notes i ne))
 
 -- ---- all words
@@ -26,14 +26,14 @@ and_false : (b : Bool) → (b && false) ≡ false
 and_false true = refl
 and_false false = refl
 
-pub lacks : (notes : Notes) (n k : ℕ) → k < n → noted notes k ≡ None → has_all notes n ≡ false
+pub lacks : (notes : Notes) (n k : ℕ) → k < n → noted_word notes k ≡ None → has_all notes n ≡ false
 unfolding has_all
 lacks notes zero k lt none = absurd (omega (arith, lt))
 lacks notes (suc n) k lt none = same_or_other (has_all notes (suc n) ≡ false) k n
-    (λ t e. ap (λ (o : Option ℕ). is_some o && has_all notes n) (ap (noted notes) (sym e) ∙ none))
-    (λ t ne. ap (λ (b : Bool). is_some (noted notes n) && b) (lacks notes n k (omega (arith, lt, ne)) none) ∙ and_false (is_some (noted notes n)))
+    (λ t e. ap (λ (o : Option ℕ). is_some o && has_all notes n) (ap (noted_word notes) (sym e) ∙ none))
+    (λ t ne. ap (λ (b : Bool). is_some (noted_word notes n) && b) (lacks notes n k (omega (arith, lt, ne)) none) ∙ and_false (is_some (noted_word notes n)))
 
-pub has_next : (notes : Notes) (n v : ℕ) → has_all notes n ≡ true → noted notes n ≡ Some v → has_all notes (suc n) ≡ true
+pub has_next : (notes : Notes) (n v : ℕ) → has_all notes n ≡ true → noted_word notes n ≡ Some v → has_all notes (suc n) ≡ true
 unfolding has_all
 has_next notes n v all is = λ i. is_some (is i) && all i
 
@@ -41,7 +41,7 @@ pub has_none : (notes : Notes) → has_all notes 0 ≡ true
 unfolding has_all
 has_none notes = refl
 
-pub has_more : (notes : Notes) (n : ℕ) (slot : Option ℕ) → has_all notes n ≡ true → slot ≡ noted notes n → is_some slot ≡ true → has_all notes (n + 1) ≡ true
+pub has_more : (notes : Notes) (n : ℕ) (slot : Option ℕ) → has_all notes n ≡ true → slot ≡ noted_word notes n → is_some slot ≡ true → has_all notes (n + 1) ≡ true
 has_more notes n None all is some = absurd (cc)
 has_more notes n (Some v) all is some = let next : suc n ≡ n + 1 = omega arith in ap (λ (k : ℕ). has_all notes k) (sym next) ∙ has_next notes n v all (sym is)
 
@@ -65,14 +65,14 @@ not_post_head head none = by (is_post_head head) refl
     by true t = absurd (none (post_head_is head t))
     by false t = refl
 
-three : (notes : Notes) (kind comm len : ℕ) → noted notes 0 ≡ Some kind → noted notes 1 ≡ Some comm → noted notes 2 ≡ Some len → has_all notes 3 ≡ true
+three : (notes : Notes) (kind comm len : ℕ) → noted_word notes 0 ≡ Some kind → noted_word notes 1 ≡ Some comm → noted_word notes 2 ≡ Some len → has_all notes 3 ≡ true
 unfolding has_all
 three notes kind comm len a b c = λ i. is_some (c i) && (is_some (b i) && (is_some (a i) && true))
 
-head_words : (notes : Notes) (kind comm len : ℕ) → noted notes 0 ≡ Some kind → noted notes 1 ≡ Some comm → noted notes 2 ≡ Some len → head_of notes ≡ record { kind = kind; comm = comm; len = len }
+head_words : (notes : Notes) (kind comm len : ℕ) → noted_word notes 0 ≡ Some kind → noted_word notes 1 ≡ Some comm → noted_word notes 2 ≡ Some len → head_of notes ≡ record { kind = kind; comm = comm; len = len }
 head_words notes kind comm len a b c = λ i. record { kind = unwrap_or (a i) 0; comm = unwrap_or (b i) 0; len = unwrap_or (c i) 0 }
 
-pub says_by : (notes : Notes) (kind comm len : ℕ) (said : Option MessageHead) → noted notes 0 ≡ Some kind → noted notes 1 ≡ Some comm → noted notes 2 ≡ Some len
+pub says_by : (notes : Notes) (kind comm len : ℕ) (said : Option MessageHead) → noted_word notes 0 ≡ Some kind → noted_word notes 1 ≡ Some comm → noted_word notes 2 ≡ Some len
     → SomeIff said (IsHead (record { kind = kind; comm = comm; len = len })) (record { kind = kind; comm = comm; len = len }) → TellsHead notes said
 says_by notes kind comm len None a b c not_so =
     let all = three notes kind comm len a b c in
@@ -86,7 +86,7 @@ says_by notes kind comm len (Some h) a b c so =
     ((λ i. all i && is_head (head i)) ∙ valid, head ∙ sym so.1)
 
 -- a word that is missing says no head
-pub says_none : (notes : Notes) (k : ℕ) → k < 3 → noted notes k ≡ None → TellsHead notes None
+pub says_none : (notes : Notes) (k : ℕ) → k < 3 → noted_word notes k ≡ None → TellsHead notes None
 says_none notes k lt none = ap (λ (b : Bool). b && is_head (head_of notes)) (lacks notes 3 k lt none)
 
 -- ---- header lines
@@ -99,9 +99,9 @@ no_head_line false b c d t = refl
 
 pub line_no_head : (notes : Notes) → TellsHead notes None → is_whole_header notes ≡ false
 unfolding has_all
-line_no_head notes none = no_head_line (is_some (noted notes 3)) (has_all notes 3) (is_head (head_of notes)) (is_post_word notes) none
+line_no_head notes none = no_head_line (is_some (noted_word notes 3)) (has_all notes 3) (is_head (head_of notes)) (is_post_word notes) none
 
-pub line_no_word : (notes : Notes) → noted notes 3 ≡ None → is_whole_header notes ≡ false
+pub line_no_word : (notes : Notes) → noted_word notes 3 ≡ None → is_whole_header notes ≡ false
 line_no_word notes none = ap (λ (b : Bool). b && (is_head (head_of notes) && is_post_word notes)) (lacks notes 4 3 (omega arith) none)
 
 both_parts : (a b c d : Bool) → a ≡ true → (b && c) ≡ true → ((a && b) && (c && d)) ≡ d
@@ -110,15 +110,15 @@ both_parts true true false d t u = absurd (cc)
 both_parts true false c d t u = absurd (cc)
 both_parts false b c d t u = absurd (cc)
 
-line_is : (notes : Notes) (head : MessageHead) (word : ℕ) → TellsHead notes (Some head) → noted notes 3 ≡ Some word → is_whole_header notes ≡ is_post_word notes
+line_is : (notes : Notes) (head : MessageHead) (word : ℕ) → TellsHead notes (Some head) → noted_word notes 3 ≡ Some word → is_whole_header notes ≡ is_post_word notes
 unfolding has_all
-line_is notes head word says is = both_parts (is_some (noted notes 3)) (has_all notes 3) (is_head (head_of notes)) (is_post_word notes) (ap (λ (o : Option ℕ). is_some o) is) says.0
+line_is notes head word says is = both_parts (is_some (noted_word notes 3)) (has_all notes 3) (is_head (head_of notes)) (is_post_word notes) (ap (λ (o : Option ℕ). is_some o) is) says.0
 
 -- word 3 is this one
-post_word : (notes : Notes) (head : MessageHead) (word : ℕ) → head_of notes ≡ head → noted notes 3 ≡ Some word → is_post_word notes ≡ (if word == 1 then is_post_head head else word == 0)
+post_word : (notes : Notes) (head : MessageHead) (word : ℕ) → head_of notes ≡ head → noted_word notes 3 ≡ Some word → is_post_word notes ≡ (if word == 1 then is_post_head head else word == 0)
 post_word notes head word at is = λ i. if unwrap_or (is i) 0 == 1 then is_post_head (at i) else unwrap_or (is i) 0 == 0
 
-pub line_posted : (notes : Notes) (head : MessageHead) (word : ℕ) (post : Option MessageHead) → TellsHead notes (Some head) → noted notes 3 ≡ Some word → word ≡ 1 → SomeIff post (IsPostHead head) head
+pub line_posted : (notes : Notes) (head : MessageHead) (word : ℕ) (post : Option MessageHead) → TellsHead notes (Some head) → noted_word notes 3 ≡ Some word → word ≡ 1 → SomeIff post (IsPostHead head) head
     → is_some post ≡ is_whole_header notes
 line_posted notes head word post says is one made =
     by post made ∙ sym (line_is notes head word says is ∙ post_word notes head word says.1 is ∙ ap (λ (w : ℕ). if w == 1 then is_post_head head else w == 0) one)
@@ -127,7 +127,7 @@ line_posted notes head word post says is one made =
     by None not_so = sym (not_post_head head not_so)
     by (Some h) so = sym (is_post_head_of head so.0)
 
-pub line_plain : (notes : Notes) (head : MessageHead) (word : ℕ) → TellsHead notes (Some head) → noted notes 3 ≡ Some word → (word == 1) ≡ false → (word == 0) ≡ is_whole_header notes
+pub line_plain : (notes : Notes) (head : MessageHead) (word : ℕ) → TellsHead notes (Some head) → noted_word notes 3 ≡ Some word → (word == 1) ≡ false → (word == 0) ≡ is_whole_header notes
 line_plain notes head word says is other =
     sym (line_is notes head word says is ∙ post_word notes head word says.1 is ∙ ap (λ (b : Bool). if b then is_post_head head else word == 0) other)
 
@@ -146,7 +146,7 @@ pub line_is_post : (notes : Notes) (head : MessageHead) → is_whole_header note
 line_is_post notes head whole posted at =
     let rest = both_second (has_all notes 4) (is_head (head_of notes) && is_post_word notes) whole in
     let word = both_second (is_head (head_of notes)) (is_post_word notes) rest in
-    subst IsPostHead at (post_head_is (head_of notes) (sym (then_first (is_posted notes) (is_post_head (head_of notes)) (unwrap_or (noted notes 3) 0 == 0) posted) ∙ word))
+    subst IsPostHead at (post_head_is (head_of notes) (sym (then_first (is_posted notes) (is_post_head (head_of notes)) (unwrap_or (noted_word notes 3) 0 == 0) posted) ∙ word))
 
 pub says_whether : (notes : Notes) (said : Option MessageHead) → TellsHead notes said → is_some said ≡ says_head notes
 says_whether notes None none = sym none

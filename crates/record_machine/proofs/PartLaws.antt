@@ -6,7 +6,7 @@ use Rattle.scc_proto.specs.Messages.{Notes, note_word}
 use Rattle.scc_proto.specs.Moves.{post_answered}
 use Rattle.scc_proto.specs.Permission.{is_answered_by}
 use Rattle.scc_proto.specs.Stages.{OnItsWay}
-use Rattle.scc_proto.specs.Tables.{put}
+use Rattle.scc_proto.specs.Tables.{table_with}
 use Rattle.scc_proto.proofs.Tests.{same_or_other, same_by_eqb, put_here, put_there}
 use Rattle.record_machine.specs.Noted.{IsLineOf}
 use Rattle.record_machine.specs.Standing.{KeepsFlags, KeepsNotes, KeepsPost, KeepsSaid}
@@ -17,18 +17,18 @@ use Rattle.record_machine.specs.declared.works.Posted.{Posted}
 
 -- the slot of one rank, changed with its notes
 pub said_put : (said : List (Option NotedLine)) (notes : ℕ → Option Notes) (from : ℕ) (slot : Option NotedLine) (now : Option Notes) → from < length said → KeepsNotes slot now → KeepsSaid said notes
-    → KeepsSaid (slice_set said from slot) (put notes from now)
-said_put said notes from slot now below keeps are j within = same_or_other (KeepsNotes (slice_index_or (slice_set said from slot) j None) (put notes from now j)) j from
-    (λ t e. subst (λ (i : ℕ). KeepsNotes (slice_index_or (slice_set said from slot) i None) (put notes from now i)) (sym e)
-    (subst (λ (x : Option NotedLine). KeepsNotes x (put notes from now from)) (sym (get_or-set_same said from slot None below))
+    → KeepsSaid (slice_set said from slot) (table_with notes from now)
+said_put said notes from slot now below keeps are j within = same_or_other (KeepsNotes (slice_index_or (slice_set said from slot) j None) (table_with notes from now j)) j from
+    (λ t e. subst (λ (i : ℕ). KeepsNotes (slice_index_or (slice_set said from slot) i None) (table_with notes from now i)) (sym e)
+    (subst (λ (x : Option NotedLine). KeepsNotes x (table_with notes from now from)) (sym (get_or-set_same said from slot None below))
     (subst (λ (x : Option Notes). KeepsNotes slot x) (sym (put_here notes from now)) keeps)))
-    (λ t ne. subst (λ (x : Option NotedLine). KeepsNotes x (put notes from now j)) (sym (get_or-set_other said from j slot None ne))
+    (λ t ne. subst (λ (x : Option NotedLine). KeepsNotes x (table_with notes from now j)) (sym (get_or-set_other said from j slot None ne))
     (subst (λ (x : Option Notes). KeepsNotes (slice_index_or said j None) x) (sym (put_there notes from now j ne)) (are j within)))
 
 -- the notes of one rank, where its slot stays
-said_stays : (said : List (Option NotedLine)) (notes : ℕ → Option Notes) (from : ℕ) (now : Option Notes) → now ≡ notes from → KeepsSaid said notes → KeepsSaid said (put notes from now)
-said_stays said notes from now same are j within = same_or_other (KeepsNotes (slice_index_or said j None) (put notes from now j)) j from
-    (λ t e. subst (λ (x : Option Notes). KeepsNotes (slice_index_or said j None) x) (sym (ap (put notes from now) e ∙ put_here notes from now ∙ same ∙ ap notes (sym e))) (are j within))
+said_stays : (said : List (Option NotedLine)) (notes : ℕ → Option Notes) (from : ℕ) (now : Option Notes) → now ≡ notes from → KeepsSaid said notes → KeepsSaid said (table_with notes from now)
+said_stays said notes from now same are j within = same_or_other (KeepsNotes (slice_index_or said j None) (table_with notes from now j)) j from
+    (λ t e. subst (λ (x : Option Notes). KeepsNotes (slice_index_or said j None) x) (sym (ap (table_with notes from now) e ∙ put_here notes from now ∙ same ∙ ap notes (sym e))) (are j within))
     (λ t ne. subst (λ (x : Option Notes). KeepsNotes (slice_index_or said j None) x) (sym (put_there notes from now j ne)) (are j within))
 
 none_kept : (notes : Option Notes) → KeepsNotes None notes → notes ≡ None
@@ -41,7 +41,7 @@ some_kept line (Some words) keeps = (words, refl, keeps)
 
 -- of a rank that was not seen nothing is noted
 pub said_unseen : (said : List (Option NotedLine)) (notes : ℕ → Option Notes) (from k v : ℕ) → from < 48 → slice_index_or said from None ≡ None → KeepsSaid said notes
-    → KeepsSaid said (put notes from (option_map (note_word k v) (notes from)))
+    → KeepsSaid said (table_with notes from (option_map (note_word k v) (notes from)))
 said_unseen said notes from k v below none are =
     let is : notes from ≡ None = none_kept (notes from) (subst (λ (x : Option NotedLine). KeepsNotes x (notes from)) none (are from below)) in
     said_stays said notes from (option_map (note_word k v) (notes from)) (ap (option_map (note_word k v)) is ∙ sym is) are
@@ -49,7 +49,7 @@ said_unseen said notes from k v below none are =
 -- one header word more of a rank that was seen
 pub said_noted : (said : List (Option NotedLine)) (notes : ℕ → Option Notes) (from k v : ℕ) (line now : NotedLine) → from < 48 → from < length said → slice_index_or said from None ≡ Some line
     → ((words : Notes) → IsLineOf line words → IsLineOf now (note_word k v words)) → KeepsSaid said notes
-    → KeepsSaid (slice_set said from (Some now)) (put notes from (option_map (note_word k v) (notes from)))
+    → KeepsSaid (slice_set said from (Some now)) (table_with notes from (option_map (note_word k v) (notes from)))
 said_noted said notes from k v line now below within some more are =
     let x = some_kept line (notes from) (subst (λ (s : Option NotedLine). KeepsNotes s (notes from)) some (are from below)) in
     said_put said notes from (Some now) (option_map (note_word k v) (notes from)) within
@@ -109,11 +109,11 @@ seen_unset said is_set notes n not_so are j below = same_or_other (KeepsNotes (s
 -- ---- gather flags
 
 pub flags_flipped : (flags : List ℕ) (flips : ℕ → ℕ) (comm value : ℕ) → comm < 16 → comm < length flags → (value == 1 - flips comm % 2) ≡ true → KeepsFlags flags flips
-    → KeepsFlags (slice_set flags comm value) (put flips comm (suc (flips comm)))
-flags_flipped flags flips comm value below within may are c c_below = same_or_other (slice_index (slice_set flags comm value) c ≡ put flips comm (suc (flips comm)) c % 2) c comm
+    → KeepsFlags (slice_set flags comm value) (table_with flips comm (suc (flips comm)))
+flags_flipped flags flips comm value below within may are c c_below = same_or_other (slice_index (slice_set flags comm value) c ≡ table_with flips comm (suc (flips comm)) c % 2) c comm
     (λ t e. let is : value ≡ 1 - flips comm % 2 = same_by_eqb value (1 - flips comm % 2) may in
     let next : value ≡ suc (flips comm) % 2 = omega (arith, is) in
-    ap (λ (i : ℕ). slice_index (slice_set flags comm value) i) e ∙ get_or-set_same flags comm value 0 within ∙ next ∙ ap (λ (n : ℕ). n % 2) (sym (put_here flips comm (suc (flips comm))) ∙ ap (put flips comm (suc (flips comm))) (sym e)))
+    ap (λ (i : ℕ). slice_index (slice_set flags comm value) i) e ∙ get_or-set_same flags comm value 0 within ∙ next ∙ ap (λ (n : ℕ). n % 2) (sym (put_here flips comm (suc (flips comm))) ∙ ap (table_with flips comm (suc (flips comm))) (sym e)))
     (λ t ne. get_or-set_other flags comm c value 0 ne ∙ are c c_below ∙ ap (λ (n : ℕ). n % 2) (sym (put_there flips comm (suc (flips comm)) c ne)))
 
 -- ---- posts

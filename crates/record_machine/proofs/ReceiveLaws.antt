@@ -3,7 +3,7 @@ use Rattle.std.proofs.Common.{◌≡◌, ◌≢◌, ℕ, suc, true, false, ◌&&
 use Rattle.scc_base.specs.Heads.{MessageHead}
 use Rattle.scc_base.specs.Calls.{DataCall, Bar}
 use Rattle.scc_base.specs.declared.calls.Call.TheVariants as call
-use Rattle.scc_proto.specs.Messages.{Notes, note_word, head_of, Progress, begun, is_last, with_chunk, message_of, recv_from}
+use Rattle.scc_proto.specs.Messages.{Notes, note_word, head_of, Progress, fresh_message, is_last, with_chunk, message_of, recv_from}
 use Rattle.scc_proto.specs.Moves.{read_chunk, lower_sent, raise_ready, flip_gather, look_gather, write_release, look_release, calls_received, calls_released, calls_let_go, finished_if}
 use Rattle.scc_proto.specs.Permission.{is_idle, may_release, may_take, says_head}
 use Rattle.scc_proto.specs.Stages.{Stage, Idle, Between, Taking, Barrier}
@@ -48,7 +48,7 @@ module _ (size : ℕ) (header : NotedLine) (chunk : NotedChunk) (bytes : List �
   pub take_begins : (mid : Standing) (st : Stage) → KeepsStage size header chunk bytes mid st → ((i : ℕ) (head : MessageHead) → mid ≢ standing.Between i head) → (from : ℕ) (words : Notes) → may_take from (Some words) st ≡ true
       → (head : MessageHead) → TellsHead words (Some head) → (fresh : NotedChunk) → IsChunkOf fresh [] → KeepsStage size header fresh [] (standing.Taking from head) (lower_sent from words st)
   take_begins mid st AtIdle other from words may head says fresh none =
-      AtTake from head (begun (head_of words)) [] (begun_in_hand size head (said_valid words head says) (head_of words) says.1) none
+      AtTake from head (fresh_message (head_of words)) [] (begun_in_hand size head (said_valid words head says) (head_of words) says.1) none
   take_begins mid st (AtDraft h c a b) other from words may head says fresh none = absurd (cc)
   take_begins mid st (AtFill to asked m c o w) other from words may head says fresh none = absurd (cc)
   take_begins mid st (AtRaised to asked m c o w u) other from words may head says fresh none = absurd (cc)

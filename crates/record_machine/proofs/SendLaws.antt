@@ -3,12 +3,12 @@ use Rattle.std.proofs.Common.{◌≡◌, ◌≢◌, ℕ, Bool, true, false, ◌=
 use Rattle.scc_base.specs.Heads.{MessageHead}
 use Rattle.scc_base.specs.Calls.{DataCall}
 use Rattle.scc_base.specs.declared.calls.Call.TheVariants as call
-use Rattle.scc_proto.specs.Messages.{Notes, note_word, head_of, Progress, begun, is_last, is_whole, is_padded, with_chunk, message_of, post_to, send_to}
+use Rattle.scc_proto.specs.Messages.{Notes, note_word, head_of, Progress, fresh_message, is_last, is_whole, is_padded, with_chunk, message_of, post_to, send_to}
 use Rattle.scc_proto.specs.Moves.{is_posted, draft_header, draft_chunk, raise_sent, look_ready, lower_ready, calls_raised, calls_sent, post_raised}
 use Rattle.scc_proto.specs.Permission.{drafts_header, drafts_chunk, is_drafted, is_idle, is_whole_header, may_go_on, may_raise}
 use Rattle.scc_proto.specs.Stages.{Filling, Raised, Answered, Stage, Idle, Drafting, Sending, Between, Taking, Barrier, OnItsWay}
 use Rattle.scc_proto.proofs.Tests.{same_by_eqb, both_first, both_second}
-use Rattle.record_machine.specs.Following.{Adds, opened}
+use Rattle.record_machine.specs.Following.{Adds, with_draft_open}
 use Rattle.record_machine.specs.Noted.{IsChunkOf, IsLineOf, TellsHead}
 use Rattle.record_machine.specs.Standing.{IsInHand, KeepsStage, KeepsPost}
 use Rattle.record_machine.specs.Standing.KeepsStage.{AtIdle, AtDraft, AtFill, AtRaised, AtAnswered, AtPause, AtTake, AtMeet}
@@ -28,7 +28,7 @@ if_false false x y t = refl
 
 -- ---- drafts
 
-pub header_opened : (k v : ℕ) (st : Stage) → draft_header k v (opened st) ≡ draft_header k v st
+pub header_opened : (k v : ℕ) (st : Stage) → draft_header k v (with_draft_open st) ≡ draft_header k v st
 header_opened k v Idle = refl
 header_opened k v (Drafting h c) = refl
 header_opened k v (Sending to part m c) = refl
@@ -36,7 +36,7 @@ header_opened k v (Between from m) = refl
 header_opened k v (Taking from m c) = refl
 header_opened k v (Barrier comm seen released) = refl
 
-pub chunk_opened : (k v : ℕ) (st : Stage) → draft_chunk k v (opened st) ≡ draft_chunk k v st
+pub chunk_opened : (k v : ℕ) (st : Stage) → draft_chunk k v (with_draft_open st) ≡ draft_chunk k v st
 chunk_opened k v Idle = refl
 chunk_opened k v (Drafting h c) = refl
 chunk_opened k v (Sending to part m c) = refl
@@ -44,7 +44,7 @@ chunk_opened k v (Between from m) = refl
 chunk_opened k v (Taking from m c) = refl
 chunk_opened k v (Barrier comm seen released) = refl
 
-pub header_stays_open : (st : Stage) → drafts_header (opened st) ≡ drafts_header st
+pub header_stays_open : (st : Stage) → drafts_header (with_draft_open st) ≡ drafts_header st
 header_stays_open Idle = refl
 header_stays_open (Drafting h c) = refl
 header_stays_open (Sending to part m c) = refl
@@ -52,7 +52,7 @@ header_stays_open (Between from m) = refl
 header_stays_open (Taking from m c) = refl
 header_stays_open (Barrier comm seen released) = refl
 
-pub chunk_stays_open : (st : Stage) → drafts_chunk (opened st) ≡ drafts_chunk st
+pub chunk_stays_open : (st : Stage) → drafts_chunk (with_draft_open st) ≡ drafts_chunk st
 chunk_stays_open Idle = refl
 chunk_stays_open (Drafting h c) = refl
 chunk_stays_open (Sending to part m c) = refl
@@ -60,7 +60,7 @@ chunk_stays_open (Between from m) = refl
 chunk_stays_open (Taking from m c) = refl
 chunk_stays_open (Barrier comm seen released) = refl
 
-pub not_idle : (st : Stage) → is_idle (opened st) ≡ false
+pub not_idle : (st : Stage) → is_idle (with_draft_open st) ≡ false
 not_idle Idle = refl
 not_idle (Drafting h c) = refl
 not_idle (Sending to part m c) = refl
@@ -68,7 +68,7 @@ not_idle (Between from m) = refl
 not_idle (Taking from m c) = refl
 not_idle (Barrier comm seen released) = refl
 
-pub stays_opened : (st : Stage) → is_idle st ≡ false → opened st ≡ st
+pub stays_opened : (st : Stage) → is_idle st ≡ false → with_draft_open st ≡ st
 stays_opened Idle not_so = absurd (cc)
 stays_opened (Drafting h c) not_so = refl
 stays_opened (Sending to part m c) not_so = refl
@@ -76,7 +76,7 @@ stays_opened (Between from m) not_so = refl
 stays_opened (Taking from m c) not_so = refl
 stays_opened (Barrier comm seen released) not_so = refl
 
-pub opens_idle : (st : Stage) → is_idle st ≡ true → opened st ≡ Drafting [] []
+pub opens_idle : (st : Stage) → is_idle st ≡ true → with_draft_open st ≡ Drafting [] []
 opens_idle Idle so = refl
 opens_idle (Drafting h c) so = absurd (cc)
 opens_idle (Sending to part m c) so = absurd (cc)
@@ -108,21 +108,21 @@ module _ (size : ℕ) (header : NotedLine) (chunk : NotedChunk) (bytes : List �
   chunk_noted mid st (AtMeet comm seen released) may other k v now more = absurd (cc)
 
   -- one header word more of a draft that is open
-  pub header_drafted : (mid : Standing) (st : Stage) → KeepsStage size header chunk bytes mid (opened st) → drafts_header st ≡ true → (k v : ℕ) (now : NotedLine)
+  pub header_drafted : (mid : Standing) (st : Stage) → KeepsStage size header chunk bytes mid (with_draft_open st) → drafts_header st ≡ true → (k v : ℕ) (now : NotedLine)
       → ((words : Notes) → IsLineOf header words → IsLineOf now (note_word k v words)) → KeepsStage size now chunk bytes mid (draft_header k v st)
   header_drafted mid st keeps may k v now more = subst (λ (x : Stage). KeepsStage size now chunk bytes mid x) (header_opened k v st)
-      (header_noted mid (opened st) keeps (header_stays_open st ∙ may) (not_idle st) k v now more)
+      (header_noted mid (with_draft_open st) keeps (header_stays_open st ∙ may) (not_idle st) k v now more)
 
-  pub chunk_drafted : (mid : Standing) (st : Stage) → KeepsStage size header chunk bytes mid (opened st) → drafts_chunk st ≡ true → (k v : ℕ) (now : NotedChunk)
+  pub chunk_drafted : (mid : Standing) (st : Stage) → KeepsStage size header chunk bytes mid (with_draft_open st) → drafts_chunk st ≡ true → (k v : ℕ) (now : NotedChunk)
       → ((words : Notes) → IsChunkOf chunk words → IsChunkOf now (note_word k v words)) → KeepsStage size header now bytes mid (draft_chunk k v st)
   chunk_drafted mid st keeps may k v now more = subst (λ (x : Stage). KeepsStage size header now bytes mid x) (chunk_opened k v st)
-      (chunk_noted mid (opened st) keeps (chunk_stays_open st ∙ may) (not_idle st) k v now more)
+      (chunk_noted mid (with_draft_open st) keeps (chunk_stays_open st ∙ may) (not_idle st) k v now more)
 
   -- ---- raises
 
   -- what is drafted where a first chunk is raised
-  whole_first : (h c : Notes) (to : ℕ) → may_raise size to (Drafting h c) ≡ true → (head : MessageHead) → head_of h ≡ head → is_whole size (begun (head_of h)) c ≡ true
-  whole_first h c to may head is = both_first (is_whole size (begun (head_of h)) c) (is_padded size (begun (head_of h)) c) (both_second (is_whole_header h) (is_drafted size (begun (head_of h)) c) may)
+  whole_first : (h c : Notes) (to : ℕ) → may_raise size to (Drafting h c) ≡ true → (head : MessageHead) → head_of h ≡ head → is_whole size (fresh_message (head_of h)) c ≡ true
+  whole_first h c to may head is = both_first (is_whole size (fresh_message (head_of h)) c) (is_padded size (fresh_message (head_of h)) c) (both_second (is_whole_header h) (is_drafted size (fresh_message (head_of h)) c) may)
 
   -- a first chunk is raised where a draft stands
   raises_draft : (mid : Standing) (st : Stage) → KeepsStage size header chunk bytes mid st → ((j : ℕ) (head : MessageHead) → mid ≢ standing.Filling j head) → (to : ℕ) → may_raise size to st ≡ true
@@ -142,14 +142,14 @@ module _ (size : ℕ) (header : NotedLine) (chunk : NotedChunk) (bytes : List �
   raises_line mid st keeps other to may =
       let x = raises_draft mid st keeps other to may in
       let drafted : may_raise size to (Drafting x.0 x.1) ≡ true = subst (λ (s : Stage). may_raise size to s ≡ true) x.2 may in
-      (x.0, x.3, both_first (is_whole_header x.0) (is_drafted size (begun (head_of x.0)) x.1) drafted)
+      (x.0, x.3, both_first (is_whole_header x.0) (is_drafted size (fresh_message (head_of x.0)) x.1) drafted)
 
   plain_raised : (h c : Notes) (to : ℕ) → may_raise size to (Drafting h c) ≡ true → (calls : List DataCall) (post : Option OnItsWay) (head : MessageHead) → TellsHead h (Some head) → is_posted h ≡ false → IsChunkOf chunk c
       → KeepsStage size header chunk [] (standing.Raised to head) (raise_sent to (Drafting h c)) × (calls_raised size to (Drafting h c) calls ≡ calls) × (post_raised to (Drafting h c) post ≡ post)
   plain_raised h c to may calls post head says not_so b = (
-    subst (λ (x : Stage). KeepsStage size header chunk [] (standing.Raised to head) x) (sym (if_false (is_posted h) Idle (Sending to Raised (begun (head_of h)) c) not_so))
-        (AtRaised to head (begun (head_of h)) c (begun_in_hand size head (said_valid h head says) (head_of h) says.1) b (whole_first h c to may head says.1)),
-    if_false (is_posted h) (calls ++ post_to to (message_of (with_chunk size (begun (head_of h)) c)) ∷ []) calls not_so,
+    subst (λ (x : Stage). KeepsStage size header chunk [] (standing.Raised to head) x) (sym (if_false (is_posted h) Idle (Sending to Raised (fresh_message (head_of h)) c) not_so))
+        (AtRaised to head (fresh_message (head_of h)) c (begun_in_hand size head (said_valid h head says) (head_of h) says.1) b (whole_first h c to may head says.1)),
+    if_false (is_posted h) (calls ++ post_to to (message_of (with_chunk size (fresh_message (head_of h)) c)) ∷ []) calls not_so,
     if_false (is_posted h) (Some (record { to = to; head = head_of h; chunk = c; is_answered = false })) post not_so,
   )
 
@@ -158,13 +158,13 @@ module _ (size : ℕ) (header : NotedLine) (chunk : NotedChunk) (bytes : List �
       → KeepsStage size header chunk now standing.Idle (raise_sent to (Drafting h c)) × Adds (Some (call.Post to head)) now calls (calls_raised size to (Drafting h c) calls)
       × KeepsPost (Some (record { to = to; is_answered = false })) (post_raised to (Drafting h c) post)
   post_raised_so h c to calls post head says so b now through =
-      let t = through (begun (head_of h)) c (begun_in_hand size head (said_valid h head says) (head_of h) says.1) b in (
-        subst (λ (x : Stage). KeepsStage size header chunk now standing.Idle x) (sym (if_true (is_posted h) Idle (Sending to Raised (begun (head_of h)) c) so)) AtIdle,
+      let t = through (fresh_message (head_of h)) c (begun_in_hand size head (said_valid h head says) (head_of h) says.1) b in (
+        subst (λ (x : Stage). KeepsStage size header chunk now standing.Idle x) (sym (if_true (is_posted h) Idle (Sending to Raised (fresh_message (head_of h)) c) so)) AtIdle,
         (
-          post_to to (message_of (with_chunk size (begun (head_of h)) c)),
+          post_to to (message_of (with_chunk size (fresh_message (head_of h)) c)),
           ap (λ (q : MessageHead). call.Post to q) says.1,
           t.bytes_are,
-          if_true (is_posted h) (calls ++ post_to to (message_of (with_chunk size (begun (head_of h)) c)) ∷ []) calls so,
+          if_true (is_posted h) (calls ++ post_to to (message_of (with_chunk size (fresh_message (head_of h)) c)) ∷ []) calls so,
         ),
         subst (λ (x : Option OnItsWay). KeepsPost (Some (record { to = to; is_answered = false })) x) (sym (if_true (is_posted h) (Some (record { to = to; head = head_of h; chunk = c; is_answered = false })) post so)) (refl, refl),
       )

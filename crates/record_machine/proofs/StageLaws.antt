@@ -2,7 +2,7 @@
 use Rattle.std.proofs.Common.{◌≡◌, ◌≢◌, ℕ, suc, ◌+◌, ◌-◌, ◌*◌, ◌≤◌, min, Bool, true, false, not, ◌&&◌, ◌==◌, nat_le, List, [], ◌++◌, length, length-append, Option, Some, refl, sym, ◌∙◌, ap, subst, arith}
 use Rattle.std.proofs.Math.Nat.{mul-suc}
 use Rattle.scc_base.specs.Heads.{MessageHead, IsHead}
-use Rattle.scc_proto.specs.Messages.{Notes, bytes_from, head_of, has_all, is_head, Progress, begun, chunk_bytes, is_last, is_whole, with_chunk}
+use Rattle.scc_proto.specs.Messages.{Notes, bytes_from, head_of, has_all, is_head, Progress, fresh_message, chunk_bytes, is_last, is_whole, with_chunk}
 use Rattle.scc_proto.specs.Permission.{drafts_header, drafts_chunk, is_answered_by, is_drafted, is_empty, is_idle, is_whole_header, leaves_heap, has_taken, may_go_on, may_raise, may_release, may_take, says_head}
 use Rattle.scc_proto.specs.Stages.{Stage, OnItsWay}
 use Rattle.scc_proto.proofs.Words.NoteFacts.{length-bytes_from}
@@ -83,7 +83,7 @@ chunk_through size head bytes message words now o now_is = record {
     are = ap (λ (b : List ℕ). b ++ bytes_from words 0 (chunk_bytes size message)) o.bytes_are ∙ sym now_is
 
 -- the bytes of a first chunk
-pub count_first : (size : ℕ) (head : MessageHead) (words : Notes) → head_of words ≡ head → min head.len size ≡ chunk_bytes size (begun (head_of words))
+pub count_first : (size : ℕ) (head : MessageHead) (words : Notes) → head_of words ≡ head → min head.len size ≡ chunk_bytes size (fresh_message (head_of words))
 count_first size head words is =
     let len : (head_of words).len ≡ head.len = ap (λ (h : MessageHead). h.len) is in
     omega (arith, len)
@@ -95,7 +95,7 @@ pushed size head chunk old now count counts pushes m c o w =
     let is = counts m o in
     chunk_through size head old m c now o (pushes c w (subst (λ (n : ℕ). length old + n ≤ 65536) (sym is) (chunk_fits size head old m o)) ∙ ap (λ (n : ℕ). old ++ bytes_from c 0 n) is)
 
-pub begun_in_hand : (size : ℕ) (head : MessageHead) → IsHead head → (h : MessageHead) → h ≡ head → IsInHand size head [] (begun h)
+pub begun_in_hand : (size : ℕ) (head : MessageHead) → IsHead head → (h : MessageHead) → h ≡ head → IsInHand size head [] (fresh_message h)
 begun_in_hand size head valid h is = record { head_is = is; bytes_are = refl; filled = omega arith; within = omega arith; valid = valid }
 
 pub said_valid : (words : Notes) (head : MessageHead) → TellsHead words (Some head) → IsHead head
@@ -139,12 +139,12 @@ module _ (size : ℕ) (header : NotedLine) (chunk : NotedChunk) (bytes : List �
 
   -- a first chunk
   pub raise_first : (st : Stage) → KeepsStage size header chunk bytes standing.Drafting st → (to : ℕ) (line drafted : Bool) → ((words : Notes) → IsLineOf header words → line ≡ is_whole_header words)
-      → ((h c : Notes) → IsLineOf header h → IsChunkOf chunk c → drafted ≡ is_drafted size (begun (head_of h)) c) → (line && drafted) ≡ may_raise size to st
+      → ((h c : Notes) → IsLineOf header h → IsChunkOf chunk c → drafted ≡ is_drafted size (fresh_message (head_of h)) c) → (line && drafted) ≡ may_raise size to st
   raise_first st (AtDraft h c a b) to line drafted lines chunks = λ i. lines h a i && chunks h c a b i
 
   -- a header line that says no head
   pub raise_unsaid : (st : Stage) → KeepsStage size header chunk bytes standing.Drafting st → (to : ℕ) → ((words : Notes) → IsLineOf header words → is_whole_header words ≡ false) → false ≡ may_raise size to st
-  raise_unsaid st (AtDraft h c a b) to none = sym (ap (λ (x : Bool). x && is_drafted size (begun (head_of h)) c) (none h a))
+  raise_unsaid st (AtDraft h c a b) to none = sym (ap (λ (x : Bool). x && is_drafted size (fresh_message (head_of h)) c) (none h a))
 
   -- a later chunk
   pub raise_later : (j : ℕ) (head : MessageHead) (st : Stage) → KeepsStage size header chunk bytes (standing.Filling j head) st → (to : ℕ) (drafted : Bool)

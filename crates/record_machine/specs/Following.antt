@@ -64,10 +64,10 @@ pub record Takes (old : Machine) (e : Event) (new : Machine) (answer : Result (O
       → FinishesCall answer new.work.bytes.items rec.calls (record_after old.setup old.rank rec e).calls
 
 -- a draft stands open where nothing was open
-abbrev pub opened : Stage → Stage
-opened Idle = Drafting [] []
-opened stage = stage
+abbrev pub with_draft_open : Stage → Stage
+with_draft_open Idle = Drafting [] []
+with_draft_open stage = stage
 
 -- a machine's work has opened a draft
 abbrev pub OpensDraft : Work → Work → Type 0
-OpensDraft old new = (rec : Record) → StandsFor old rec → StandsFor new (record rec { stage = opened rec.stage })
+OpensDraft old new = (rec : Record) → StandsFor old rec → StandsFor new (record rec { stage = with_draft_open rec.stage })

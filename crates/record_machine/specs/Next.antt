@@ -7,7 +7,7 @@ use Rattle.scc_base.specs.declared.events.Access.TheVariants.{Load, Store, Take,
 use Rattle.scc_base.specs.declared.events.Event.{Event}
 use Rattle.scc_base.specs.declared.signals.Signal.{Signal}
 use Rattle.scc_base.specs.declared.signals.Signal.TheVariants.{Sent, Ready}
-use Rattle.scc_proto.specs.Messages.{Notes, begun, head_of, is_whole}
+use Rattle.scc_proto.specs.Messages.{Notes, fresh_message, head_of, is_whole}
 use Rattle.scc_proto.specs.Moves.{Move, DraftHeader, DraftChunk, RaiseSignal, LookSignal, ReadHeader, ReadChunk, LowerSignal, FlipGather, LookGather, WriteRelease, LookRelease, StoreHeap, NoMove, Misplaced}
 use Rattle.scc_proto.specs.Permission.{is_drafted, is_empty, is_whole_header}
 use Rattle.scc_proto.specs.Records.{chunk_of, flags_noted}
@@ -24,7 +24,7 @@ abbrev pub store_allowed : ℕ → Stage → Option OnItsWay → (ℕ → Option
 store_allowed size Idle None notes = may.Begin
 store_allowed size Idle (Some post) notes = may.BesidePost post.to
 store_allowed size (Drafting header chunk) post notes =
-    if is_whole_header header && is_drafted size (begun (head_of header)) chunk then may.Raise else may.Draft
+    if is_whole_header header && is_drafted size (fresh_message (head_of header)) chunk then may.Raise else may.Draft
 store_allowed size (Sending to Filling message chunk) post notes =
     if is_empty chunk then may.FillFirst to else (if is_drafted size message chunk then may.RaiseMore to else may.Fill to)
 store_allowed size (Sending to Raised message chunk) post notes = may.SeeReady to

@@ -1,7 +1,7 @@
 -- Noted words as a machine keeps them: of each word the newest value.
 use Rattle.std.specs.Prelude.{◌≡◌, ℕ, ◌<◌, true, false, not, List, Option, None, Some, slice_index_or}
 use Rattle.scc_base.specs.Heads.{MessageHead}
-use Rattle.scc_proto.specs.Messages.{Notes, noted, head_of}
+use Rattle.scc_proto.specs.Messages.{Notes, noted_word, head_of}
 use Rattle.scc_proto.specs.Permission.{is_empty, says_head}
 use Rattle.record_machine.specs.declared.chunks.NotedChunk.{NotedChunk}
 use Rattle.record_machine.specs.declared.lines.NotedLine.{NotedLine}
@@ -9,7 +9,7 @@ use Rattle.scc_base.specs.Layouts.{most_chunk_words}
 
 -- each of the first n slots has what is noted under its number
 abbrev pub AreSlotsOf : ℕ → List (Option ℕ) → Notes → Type 0
-AreSlotsOf n slots notes = (k : ℕ) → k < n → slice_index_or slots k None ≡ noted notes k
+AreSlotsOf n slots notes = (k : ℕ) → k < n → slice_index_or slots k None ≡ noted_word notes k
 
 -- a machine's header line has exactly the words that are noted
 abbrev pub IsLineOf : NotedLine → Notes → Type 0

@@ -3,7 +3,7 @@
 ghost use Rattle.std.specs.Prelude.{◌≡◌, ◌&&◌, ℕ, Option, false, is_some, option_and_then, option_map};
 ghost use Rattle.scc_proto.specs.Records.{flags_in, set_flags};
 ghost use Rattle.scc_proto.specs.Stages.{FlagWords};
-ghost use Rattle.scc_proto.specs.Tables.{put};
+ghost use Rattle.scc_proto.specs.Tables.{table_with};
 ghost use Rattle.record_machine.specs.Held.{KeepsHeld, flag_words};
 ghost use Rattle.record_machine.specs.Uses.{forget_by, is_flags_use, note_by};
 
@@ -58,7 +58,7 @@ pub(crate) fn note_flags(
     ensures tells { (records : ℕ → Option FlagWords) → KeepsHeld held.old records
         → result ≡ (is_flags_use of.now && is_some (records core)) }
     ensures notes { (records : ℕ → Option FlagWords) → KeepsHeld held.old records
-        → KeepsHeld held.new (put records core (option_map (note_by of.now value) (records core))) }
+        → KeepsHeld held.new (table_with records core (option_map (note_by of.now value) (records core))) }
     ensures other { result ≡ false → held.new ≡ held.old }
 {
     let at = core.number() as usize;
@@ -84,7 +84,7 @@ pub(crate) fn note_flags(
 /// A word of bit flags is noted no more once it is stored.
 pub(crate) fn forget_flags(held: &mut [Option<NotedFlags>; 48], of: &Use, core: CoreId)
     ensures forgets { (records : ℕ → Option FlagWords) → KeepsHeld held.old records
-        → KeepsHeld held.new (put records core (option_map (forget_by of.now) (records core))) }
+        → KeepsHeld held.new (table_with records core (option_map (forget_by of.now) (records core))) }
 {
     let at = core.number() as usize;
     let Some(flags) = held[at] else {

@@ -1,7 +1,7 @@
 -- What was loaded, and what a file that was read holds.
 use Rattle.std.proofs.Common.{◌≡◌, ℕ, ◌≤◌, List, length, codes, refl, sym, subst, ap, ◌∙◌, inl, inr, Option, Some, None, Result, Ok, Err}
 use Rattle.rcce_io.specs.Files.{FilesView, NamedFile}
-use Rattle.outcomes.specs.Coming.{Comes, Holds}
+use Rattle.outcomes.specs.Coming.{Comes, FileHolds}
 use Rattle.outcomes.specs.Complaints.{ReadsFile, complaint_outcome}
 use Rattle.outcomes.specs.Outcomes.{Outcome, file_refused, no_memory, words_refused}
 use Rattle.outcomes.specs.Plans.{Plan}
@@ -83,7 +83,7 @@ loads_less plan asks less before after (Err why) weaker came = came
 
 -- a script's file, behind the hosts of a host file
 pub loads_listed : (list file : List ℕ) (told : Option (List NamedFile)) (job : Job) (hosts bytes : List ℕ) (before after : FilesView) (answer : Result Loaded Complaint)
-    → parse_hosts bytes job.nue ≡ Ok hosts → length bytes ≤ 65536 → Holds told list bytes → LoadsPlan (file_plan file job.nue) (AsksOn file told job hosts) before after answer
+    → parse_hosts bytes job.nue ≡ Ok hosts → length bytes ≤ 65536 → FileHolds told list bytes → LoadsPlan (file_plan file job.nue) (AsksOn file told job hosts) before after answer
     → LoadsPlan (hosts_plan list job.nue (file_plan file job.nue) bytes) (AsksListed list file told job) before after answer
 loads_listed list file told job hosts bytes before after answer gives few holds leads =
     let less = loads_less (file_plan file job.nue) (AsksOn file told job hosts) (AsksListed list file told job) before after answer

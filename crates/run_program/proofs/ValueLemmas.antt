@@ -6,7 +6,7 @@ use Rattle.std.proofs.lemmas.List.{take_all}
 use Rattle.std.proofs.lemmas.List.FromFn.{get_or-range_with_len, length-range_with_len}
 use Rattle.groups.specs.declared.operations.Ty.{Ty}
 use Rattle.groups.specs.Folds.{bytes_in, typed_value_at, value_of}
-use Rattle.rcce_io.specs.Sending.{joined}
+use Rattle.rcce_io.specs.Sending.{joined_texts}
 use Rattle.rcce_io.proofs.SendingLemmas.{joined-more, joined-parts}
 use Rattle.run_program.specs.Texts.{value_text, values_text}
 
@@ -27,19 +27,19 @@ module _ (ty : Ty) (bytes : List ℕ) (i w : ℕ) (same : w ≡ bytes_in ty) whe
       omega (arith, get_or-range_with_len 0 (length bytes / bytes_in ty) i 0 (subst P same below))
 
   -- the first values, and the next one
-  pub values-more : i < length bytes / w → joined (map (value_text ty bytes) (take (i + 1) (range_with_len 0 (length bytes / bytes_in ty)))) ≡ joined (map (value_text ty bytes) (take i (range_with_len 0 (length bytes / bytes_in ty)))) ++ value_text ty bytes i
+  pub values-more : i < length bytes / w → joined_texts (map (value_text ty bytes) (take (i + 1) (range_with_len 0 (length bytes / bytes_in ty)))) ≡ joined_texts (map (value_text ty bytes) (take i (range_with_len 0 (length bytes / bytes_in ty)))) ++ value_text ty bytes i
   values-more below =
       joined-more (value_text ty bytes) (range_with_len 0 (length bytes / bytes_in ty)) i 0 (within below)
-      ∙ ap (λ (n : ℕ). joined (map (value_text ty bytes) (take i (range_with_len 0 (length bytes / bytes_in ty)))) ++ value_text ty bytes n) (here below)
+      ∙ ap (λ (n : ℕ). joined_texts (map (value_text ty bytes) (take i (range_with_len 0 (length bytes / bytes_in ty)))) ++ value_text ty bytes n) (here below)
 
   -- and the rest
-  pub values-parts : i < length bytes / w → values_text ty bytes ≡ joined (map (value_text ty bytes) (take i (range_with_len 0 (length bytes / bytes_in ty)))) ++ (value_text ty bytes i ++ joined (map (value_text ty bytes) (drop (i + 1) (range_with_len 0 (length bytes / bytes_in ty)))))
+  pub values-parts : i < length bytes / w → values_text ty bytes ≡ joined_texts (map (value_text ty bytes) (take i (range_with_len 0 (length bytes / bytes_in ty)))) ++ (value_text ty bytes i ++ joined_texts (map (value_text ty bytes) (drop (i + 1) (range_with_len 0 (length bytes / bytes_in ty)))))
   values-parts below =
       joined-parts (value_text ty bytes) (range_with_len 0 (length bytes / bytes_in ty)) i 0 (within below)
-      ∙ ap (λ (n : ℕ). joined (map (value_text ty bytes) (take i (range_with_len 0 (length bytes / bytes_in ty)))) ++ (value_text ty bytes n ++ joined (map (value_text ty bytes) (drop (i + 1) (range_with_len 0 (length bytes / bytes_in ty)))))) (here below)
+      ∙ ap (λ (n : ℕ). joined_texts (map (value_text ty bytes) (take i (range_with_len 0 (length bytes / bytes_in ty)))) ++ (value_text ty bytes n ++ joined_texts (map (value_text ty bytes) (drop (i + 1) (range_with_len 0 (length bytes / bytes_in ty)))))) (here below)
 
   -- all values
-  pub values-all : length bytes / w ≤ i → joined (map (value_text ty bytes) (take i (range_with_len 0 (length bytes / bytes_in ty)))) ≡ values_text ty bytes
+  pub values-all : length bytes / w ≤ i → joined_texts (map (value_text ty bytes) (take i (range_with_len 0 (length bytes / bytes_in ty)))) ≡ values_text ty bytes
   values-all past =
       let P : ℕ → Type 0 = λ n. length bytes / n ≤ i in
-      ap (λ (l : List ℕ). joined (map (value_text ty bytes) l)) (take_all i (range_with_len 0 (length bytes / bytes_in ty)) (omega (arith, length-range_with_len 0 (length bytes / bytes_in ty), subst P same past)))
+      ap (λ (l : List ℕ). joined_texts (map (value_text ty bytes) l)) (take_all i (range_with_len 0 (length bytes / bytes_in ty)) (omega (arith, length-range_with_len 0 (length bytes / bytes_in ty), subst P same past)))

@@ -7,7 +7,7 @@ use Rattle.scc_base.specs.declared.layouts.Layout.TheVariants.{LineFlags, BitFla
 use Rattle.scc_mesh.specs.Scenes.{ChipView}
 use Rattle.script_reader.specs.Script.{Script, rules_of}
 use Rattle.script_gen.specs.Scripts.{gen_script_of}
-use Rattle.outcomes.specs.Coming.{ByTest, Holds}
+use Rattle.outcomes.specs.Coming.{ByTest, FileHolds}
 use Rattle.outcomes.specs.Outcomes.{Outcome, Ran, run_outcome}
 use Rattle.outcomes.specs.Statuses.{is_quiet}
 use Rattle.rcce_words.specs.FaultTexts.{word_numbered}
@@ -31,7 +31,7 @@ setup_by job hosts script = record { nue = job.nue; layout = layout_by job.bits;
 -- a host file of at most 65,536 bytes has these hosts, where files are told
 abbrev pub HostsIn : List ℕ → Option (List NamedFile) → ℕ → List ℕ → Type 0
 HostsIn file told nue hosts =
-    (bytes : List ℕ) × (length bytes ≤ most_host_bytes) × Holds told file bytes × (parse_hosts bytes nue ≡ Ok hosts)
+    (bytes : List ℕ) × (length bytes ≤ most_host_bytes) × FileHolds told file bytes × (parse_hosts bytes nue ≡ Ok hosts)
 
 -- the hosts that words ask for: rank r on core r, or those of the host file
 abbrev pub AreHosts : List (List ℕ) → Option (List NamedFile) → ℕ → Option ℕ → List ℕ → Type 0

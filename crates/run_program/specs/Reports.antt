@@ -6,7 +6,7 @@ use Rattle.script_machine.specs.Printed.{Printed}
 use Rattle.script_plain.specs.Ends.{Ended, all_finished}
 use Rattle.script_plain.specs.Meaning.{plain_ends}
 use Rattle.script_reader.specs.Script.{Script}
-use Rattle.rcce_io.specs.Sending.{joined}
+use Rattle.rcce_io.specs.Sending.{joined_texts}
 use Rattle.outcomes.specs.Outcomes.{Ran}
 use Rattle.script_gen.specs.Outcome.{script_line}
 use Rattle.run_program.specs.Texts.{item_line, call_pieces, waiting_line, mismatch_line}
@@ -22,7 +22,7 @@ printed_line names rank item = item_line rank (slice_index_or names item.reg [])
 
 -- what a unit of execution printed, a line each, in the order of printing
 abbrev pub printed_text : List (List ℕ) → ℕ → Ended → List ℕ
-printed_text names rank ue = joined (map (printed_line names rank) ue.printed)
+printed_text names rank ue = joined_texts (map (printed_line names rank) ue.printed)
 
 -- where a unit of execution stands that has not finished
 abbrev pub end_text : ℕ → UeEnd → List ℕ

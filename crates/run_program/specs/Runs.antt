@@ -2,11 +2,11 @@
 use Rattle.std.specs.Prelude.{◌≡◌, ℕ, ◌*◌, ◌<◌, ◌≤◌, Option, None, Some, List, length, slice_get, slice_index_or, sum_by}
 use Rattle.script_reader.specs.Script.{Script}
 use Rattle.script_plain.specs.Ends.{ended_at}
-use Rattle.script_machine.specs.Local.{cost_of, local_start}
+use Rattle.script_machine.specs.Local.{most_steps_left, local_start}
 use Rattle.script_plain.specs.Meaning.{State, plain_end, plain_ends}
 use Rattle.script_gen.specs.Outcome.{sends_of_call, sent_bytes_of}
 use Rattle.script_gen.specs.Scripts.{gen_script_of}
-use Rattle.rcce_ue.specs.Ues.{UeView, counted}
+use Rattle.rcce_ue.specs.Ues.{UeView, capped_count}
 use Rattle.chip_run.specs.declared.members.Member.{Member}
 use Rattle.rcce_run.specs.Crews.{EndsAs}
 use Rattle.rcce_run.specs.UeRuns.{ShowsEnd}
@@ -26,9 +26,9 @@ pub record HaveEnded (script : Script) (crew : List (Member UeView)) : Type 0 wh
 pub record CountsPlain (script : Script) (rank : ℕ) (ue : UeView) : Type 0 where
   pub state : State
   pub there : slice_get (plain_end script).cells rank ≡ Some state
-  pub sent : ue.sent ≡ counted (sum_by sends_of_call state.matched)
-  pub bytes : ue.sent_bytes ≡ counted (sum_by sent_bytes_of state.matched)
-  pub few : sum_by sends_of_call state.matched ≤ cost_of (local_start script rank)
+  pub sent : ue.sent ≡ capped_count (sum_by sends_of_call state.matched)
+  pub bytes : ue.sent_bytes ≡ capped_count (sum_by sent_bytes_of state.matched)
+  pub few : sum_by sends_of_call state.matched ≤ most_steps_left (local_start script rank)
   pub short : sum_by sent_bytes_of state.matched ≤ most_message * sum_by sends_of_call state.matched
 
 -- each unit of execution has counted what its rank sent

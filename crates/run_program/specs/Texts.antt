@@ -6,7 +6,7 @@ use Rattle.groups.specs.declared.operations.Ty.{Ty}
 use Rattle.groups.specs.declared.operations.Ty.TheVariants.{Int, Long}
 use Rattle.groups.specs.Folds.{bytes_in, typed_value_at}
 use Rattle.rcce_io.specs.Digits.{hex_text}
-use Rattle.rcce_io.specs.Sending.{joined}
+use Rattle.rcce_io.specs.Sending.{joined_texts}
 use Rattle.scc_base.specs.Heads.{MessageHead, kind_at, kind_text}
 use Rattle.script_reader.specs.declared.script.Form.{Form}
 use Rattle.script_reader.specs.declared.script.Form.TheVariants as form
@@ -39,21 +39,23 @@ value_text ty bytes i = codes " " ++ signed_decimal (typed_value_at ty bytes i)
 
 -- the values of a list of bytes, each behind a blank
 abbrev pub values_text : Ty → List ℕ → List ℕ
-values_text ty bytes = joined (map (value_text ty bytes) (range_with_len 0 (length bytes / bytes_in ty)))
+values_text ty bytes = joined_texts (map (value_text ty bytes) (range_with_len 0 (length bytes / bytes_in ty)))
 
 -- a register that a unit of execution printed, by the form that it was printed in
 abbrev pub item_line : ℕ → List ℕ → Form → List ℕ → List ℕ
-item_line rank name form.Hex bytes = joined (codes "ue " ∷ decimal rank ∷ codes " " ∷ name ∷ codes " " ∷ hex_text bytes ∷ codes "\n" ∷ [])
+item_line rank name form.Hex bytes =
+    joined_texts (codes "ue " ∷ decimal rank ∷ codes " " ∷ name ∷ codes " " ∷ hex_text bytes ∷ codes "\n" ∷ [])
 item_line rank name (form.Decimal ty) bytes =
-    joined (codes "ue " ∷ decimal rank ∷ codes " " ∷ name ∷ codes " " ∷ type_text ty ∷ values_text ty bytes ∷ codes "\n" ∷ [])
+    joined_texts (codes "ue " ∷ decimal rank ∷ codes " " ∷ name ∷ codes " " ∷ type_text ty ∷ values_text ty bytes ∷ codes "\n" ∷ [])
 
 -- a unit of execution that waits at a line of the script
 abbrev pub waiting_line : ℕ → ℕ → List (List ℕ) → List ℕ
 waiting_line rank line pieces =
-    joined ((codes "ue " ∷ decimal rank ∷ codes " waits at line " ∷ decimal line ∷ codes ": " ∷ []) ++ pieces ++ (codes "\n" ∷ []))
+    joined_texts ((codes "ue " ∷ decimal rank ∷ codes " waits at line " ∷ decimal line ∷ codes ": " ∷ []) ++ pieces ++ (codes "\n" ∷ []))
 
 -- a unit of execution whose receive met another head than it asked for
 abbrev pub mismatch_line : ℕ → ℕ → ℕ → MessageHead → MessageHead → List ℕ
 mismatch_line rank line from sent asked =
-    joined ((codes "ue " ∷ decimal rank ∷ codes " mismatch at line " ∷ decimal line ∷ codes ": from " ∷ decimal from ∷ codes " sent " ∷ [])
+    joined_texts ((codes "ue " ∷ decimal rank ∷ codes " mismatch at line " ∷ decimal line ∷ codes ": from " ∷ decimal from
+    ∷ codes " sent " ∷ [])
     ++ head_pieces sent ++ (codes ", asked " ∷ []) ++ head_pieces asked ++ (codes "\n" ∷ []))

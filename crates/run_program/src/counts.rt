@@ -3,7 +3,7 @@
 ghost use Rattle.std.specs.Prelude.{◌≡◌, ◌<◌, ◌+◌, ◌%◌, ◌^◌, length};
 ghost use Rattle.std.specs.List.{sum};
 ghost use Rattle.rcce_io.specs.Sending.{Sends};
-ghost use Rattle.rcce_ue.specs.Ues.{counted};
+ghost use Rattle.rcce_ue.specs.Ues.{capped_count};
 ghost use Rattle.script_gen.specs.Outcome.{all_sends, all_sent_bytes, counts_line, item_bytes, printed_sum};
 ghost use Rattle.script_plain.specs.Ends.{ended_at};
 ghost use Rattle.script_plain.specs.Meaning.{plain_end};
@@ -20,7 +20,7 @@ use script_reader::Scripts;
 /// How many messages the ranks of a run have sent. The count stays at the largest value of u64 once it is there.
 pub fn sends_in(scripts: &Scripts, crew: &[Crew<'_, Choice>]) -> u64
     requires { HaveSent scripts.now crew.now }
-    ensures { result ≡ counted (all_sends (plain_end scripts.now)) }
+    ensures { result ≡ capped_count (all_sends (plain_end scripts.now)) }
 {
     let mut sends: u64 = 0;
     for number in 0..scripts.nue() {
@@ -32,7 +32,7 @@ pub fn sends_in(scripts: &Scripts, crew: &[Crew<'_, Choice>]) -> u64
 /// How many bytes these messages have. The count stays at the largest value of u64 once it is there.
 pub fn sent_bytes_in(scripts: &Scripts, crew: &[Crew<'_, Choice>]) -> u64
     requires { HaveSent scripts.now crew.now }
-    ensures { result ≡ counted (all_sent_bytes (plain_end scripts.now)) }
+    ensures { result ≡ capped_count (all_sent_bytes (plain_end scripts.now)) }
 {
     let mut sent: u64 = 0;
     for number in 0..scripts.nue() {

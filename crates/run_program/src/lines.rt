@@ -2,7 +2,7 @@
 
 ghost use Rattle.std.specs.Prelude.{◌≡◌, [], ◌∷◌, codes, decimal};
 ghost use Rattle.rcce_io.specs.Sending.{Sends};
-ghost use Rattle.script_plain.specs.Ends.{is_finished};
+ghost use Rattle.script_plain.specs.Ends.{is_rank_finished};
 ghost use Rattle.run_program.specs.Reports.{end_text};
 ghost use Rattle.run_program.specs.Texts.{call_pieces, item_line, message_pieces, mismatch_line, type_text, waiting_line};
 
@@ -70,7 +70,7 @@ impl TextSource for ItemLine<'_> {
 
 /// Whether a unit of execution has finished.
 pub fn is_finished(end: &UeEnd) -> bool
-    ensures { result ≡ is_finished end.now }
+    ensures { result ≡ is_rank_finished end.now }
 {
     matches!(end, UeEnd::Finished)
 }

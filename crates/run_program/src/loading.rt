@@ -4,7 +4,7 @@
 ghost use Rattle.std.specs.Prelude.{◌≡◌, ◌≤◌, map, string_bytes, length, List, ℕ};
 ghost use Rattle.rcce_io.specs.Files.{FilesView};
 ghost use Rattle.scc_base.specs.Setups.{AreApart};
-ghost use Rattle.outcomes.specs.Coming.{Holds};
+ghost use Rattle.outcomes.specs.Coming.{FileHolds};
 ghost use Rattle.outcomes.specs.Complaints.{complaint_outcome};
 ghost use Rattle.outcomes.specs.Outcomes.{file_refused};
 ghost use Rattle.outcomes.specs.Plans.Plan.{Reads};
@@ -141,7 +141,7 @@ fn load_listed<'a, F: Files>(
     requires some { 1 ≤ job.nue }
     requires most { job.nue ≤ 48 }
     requires within { length bytes.now ≤ most_host_bytes }
-    ensures { Holds (F.seen files.old).told list.now bytes.now
+    ensures { FileHolds (F.seen files.old).told list.now bytes.now
         → LoadsPlan (hosts_plan list.now job.nue (file_plan script.now job.nue) bytes.now)
         (AsksListed list.now script.now (F.seen files.old).told job) (F.seen files.old) (F.seen files.new) result }
 {

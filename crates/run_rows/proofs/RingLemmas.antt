@@ -31,10 +31,10 @@ use Rattle.waiting_laws.proofs.Messages.{receives_here, sends_here}
 use Rattle.waiting_laws.proofs.Waited.{turn_waited}
 use Rattle.chip_teams.specs.Teams.{sight_alone}
 use Rattle.scc_mesh.specs.Scenes.{ChipView, IsNew, about_in, events_in}
-use Rattle.chip_run.specs.Away.{IsAtHome, members_of}
+use Rattle.chip_run.specs.Away.{IsAtHome, conduct_of_members}
 use Rattle.chip_run.specs.Crews.{IsCrew}
 use Rattle.chip_run.specs.declared.members.Member.{Member}
-use Rattle.run_rows.specs.Rings.{IsAtMessage, IsPassing, IsSeated, begun, after_receiving, after_sending, left_by, left_of_receive, left_of_send, passer_conduct, passer_seen}
+use Rattle.run_rows.specs.Rings.{IsAtMessage, IsPassing, IsSeated, message_to_begin, after_receiving, after_sending, ring_left, left_of_receive, left_of_send, passer_conduct, passer_seen}
 use Rattle.run_rows.specs.declared.rings.Message.{Message}
 use Rattle.run_rows.specs.declared.rings.Message.TheVariants.{Sending, Receiving, Over}
 use Rattle.run_rows.specs.declared.rings.Passer.{Passer}
@@ -69,7 +69,7 @@ module _ (p q : Passer) (s t : Sight) (events : List Event) (did : Did s events 
 
 -- a message that may begin, begins
 begins : (s : Sight) (c : Private) (slot : SlotAt) (number : List ℕ) (sends gets : Bool) (head : MessageHead) (from to : ℕ) → IsBetweenMessages s c slot → are_peers s.seat.setup s.seat.rank from ≡ true
-    → are_peers s.seat.setup s.seat.rank to ≡ true → IsHead head → length number ≡ head.len → IsAtMessage s c slot number (begun sends gets head from to)
+    → are_peers s.seat.setup s.seat.rank to ≡ true → IsHead head → length number ≡ head.len → IsAtMessage s c slot number (message_to_begin sends gets head from to)
 begins s c slot number true gets head from to free before next valid long = send_starts free to head false number next valid (λ posted. absurd (cc (posted))) long
 begins s c slot number false true head from to free before next valid long = (receive_starts free from head number before valid long, free.slot_stands)
 begins s c slot number false false head from to free before next valid long = free
@@ -78,7 +78,7 @@ one_byte : IsHead (plain_head 1)
 one_byte = record { kind_below = omega arith; comm_below = omega arith; len_within = omega arith; plain_in_world = λ is. refl }
 
 -- before its first event a rank begins its first message
-pub starts : (p : Passer) (s : SetupView) (rank : ℕ) → p.core.out ≡ None → p.slot ≡ empty_slot → length p.number ≡ 1 → p.head ≡ plain_head 1 → p.message ≡ begun p.is_first (not p.is_first) p.head p.from p.to
+pub starts : (p : Passer) (s : SetupView) (rank : ℕ) → p.core.out ≡ None → p.slot ≡ empty_slot → length p.number ≡ 1 → p.head ≡ plain_head 1 → p.message ≡ message_to_begin p.is_first (not p.is_first) p.head p.from p.to
     → are_peers s rank p.from ≡ true → are_peers s rank p.to ≡ true → IsPassing p s rank []
 unfolding record_of
 starts p s rank empty new long head begins_it before next =
@@ -107,16 +107,16 @@ one_fewer old now next less = omega (arith, less)
 
 module _ (s : SetupView) (head : MessageHead) (from to : ℕ) where
   less_sent : (slot after : SlotAt) (is_first : Bool) (op : SendAt)
-      → left_by s after (begun false is_first head from to) (begun (not is_first) false head from to) (begun false is_first head from to)
-      < left_by s slot (begun false is_first head from to) (begun (not is_first) false head from to) (Sending op)
-  less_sent slot after true op = fewer (send_left s.layout (chunk_of s) op slot) (left_of_receive s (begun false true head from to))
+      → ring_left s after (message_to_begin false is_first head from to) (message_to_begin (not is_first) false head from to) (message_to_begin false is_first head from to)
+      < ring_left s slot (message_to_begin false is_first head from to) (message_to_begin (not is_first) false head from to) (Sending op)
+  less_sent slot after true op = fewer (send_left s.layout (chunk_of s) op slot) (left_of_receive s (message_to_begin false true head from to))
   less_sent slot after false op = none_left (send_left s.layout (chunk_of s) op slot) 0
 
   less_received : (slot : SlotAt) (is_first : Bool) (op : RecvAt)
-      → left_by s slot (begun false is_first head from to) (begun (not is_first) false head from to) (begun (not is_first) false head from to)
-      < left_by s slot (begun false is_first head from to) (begun (not is_first) false head from to) (Receiving op)
+      → ring_left s slot (message_to_begin false is_first head from to) (message_to_begin (not is_first) false head from to) (message_to_begin (not is_first) false head from to)
+      < ring_left s slot (message_to_begin false is_first head from to) (message_to_begin (not is_first) false head from to) (Receiving op)
   less_received slot true op = none_left (recv_left (chunk_of s) op) 0
-  less_received slot false op = fewer (recv_left (chunk_of s) op) (left_of_send s slot (begun true false head from to))
+  less_received slot false op = fewer (recv_left (chunk_of s) op) (left_of_send s slot (message_to_begin true false head from to))
 
 -- a turn, behind which the rank stands where its events stand
 pub record Passes (stepped : Seat → List Event → Event → Type 0) (p : Passer) (s : Sight) (now : Passer) (t : Sight) (answer : Turn) : Type 0 where
@@ -287,7 +287,7 @@ pub seated_at : {m : Member Passer} {x y from to : ℕ} → IsSeated m x y → x
 seated_at {m} {x} {y} {from} {to} seated is_from is_to = subst (λ (j : ℕ). IsSeated m from j) is_to (subst (λ (k : ℕ). IsSeated m k y) is_from seated)
 
 pub four_seated : (chip : ChipView) (a b c e : Member Passer) → IsNew (about_in chip) chip → (about_in chip).nue ≡ 4 → IsSeated a 3 1 → IsSeated b 0 2 → IsSeated c 1 3 → IsSeated e 2 0
-    → IsCrew (members_of passer_conduct) chip (a ∷ b ∷ c ∷ e ∷ [])
+    → IsCrew (conduct_of_members passer_conduct) chip (a ∷ b ∷ c ∷ e ∷ [])
 four_seated chip a b c e new four one two three last = record { whole = new.whole; each = sym four; ties = ties }
   where
     at : (m : Member Passer) (from to k : ℕ) → IsSeated m from to → are_peers (about_in chip) k from ≡ true → are_peers (about_in chip) k to ≡ true → IsAtHome (IsPassing m.worker) m.token (about_in chip) k (events_in chip k)

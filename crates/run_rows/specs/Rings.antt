@@ -21,18 +21,18 @@ use Rattle.run_rows.specs.declared.rings.Message.TheVariants.{Sending, Receiving
 use Rattle.run_rows.specs.declared.rings.Passer.{Passer}
 
 -- the message that a rank begins: a send to the next one, a receive from the one before, or none
-abbrev pub begun : (sends gets : Bool) → MessageHead → (from to : ℕ) → Message
-begun true gets head from to = Sending (new_send to head false)
-begun false true head from to = Receiving (new_receive from head)
-begun false false head from to = Over
+abbrev pub message_to_begin : (sends gets : Bool) → MessageHead → (from to : ℕ) → Message
+message_to_begin true gets head from to = Sending (new_send to head false)
+message_to_begin false true head from to = Receiving (new_receive from head)
+message_to_begin false false head from to = Over
 
 -- what a rank begins behind its send: the first one gets the number last
 abbrev pub after_sending : Passer → Message
-after_sending p = begun false p.is_first p.head p.from p.to
+after_sending p = message_to_begin false p.is_first p.head p.from p.to
 
 -- what a rank begins behind its receive: any rank but the first sends the number last
 abbrev pub after_receiving : Passer → Message
-after_receiving p = begun (not p.is_first) false p.head p.from p.to
+after_receiving p = message_to_begin (not p.is_first) false p.head p.from p.to
 
 -- in a send, in a receive, or in no call
 abbrev pub IsAtMessage : Sight → Private → SlotAt → List ℕ → Message → Type 0
@@ -68,16 +68,16 @@ left_of_send s slot (Receiving op) = 0
 left_of_send s slot Over = 0
 
 -- how many are left of the message under way and of the one behind it
-abbrev pub left_by : SetupView → SlotAt → (gets sends : Message) → Message → ℕ
-left_by s slot gets sends (Sending op) = left_of_send s slot (Sending op) + left_of_receive s gets
-left_by s slot gets sends (Receiving op) = left_of_receive s (Receiving op) + left_of_send s slot sends
-left_by s slot gets sends Over = 0
+abbrev pub ring_left : SetupView → SlotAt → (gets sends : Message) → Message → ℕ
+ring_left s slot gets sends (Sending op) = left_of_send s slot (Sending op) + left_of_receive s gets
+ring_left s slot gets sends (Receiving op) = left_of_receive s (Receiving op) + left_of_send s slot sends
+ring_left s slot gets sends Over = 0
 
 -- what a run sees of it
 abbrev pub passer_seen : SetupView → ℕ → Passer → WorkerView
 passer_seen s rank p = record {
   want = want_by p.message;
-  left = left_by s p.slot (after_sending p) (after_receiving p) p.message;
+  left = ring_left s p.slot (after_sending p) (after_receiving p) p.message;
   is_stopped = p.stopped;
 }
 

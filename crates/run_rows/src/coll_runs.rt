@@ -1,7 +1,7 @@
 //! Whole runs of a collective call: each kind, over chips of several sizes.
 
 ghost use Rattle.std.specs.Prelude.{◌≡◌, ◌≤◌, IfOk, length};
-ghost use Rattle.coll_run.specs.Teams.{AreFresh};
+ghost use Rattle.coll_run.specs.Teams.{AreFreshMembers};
 
 use crate::coll_pieces::{KINDS, is_right, src_of};
 use crate::evictors::Fresh;
@@ -23,7 +23,7 @@ fn team_of<V: Fresh>(
     requires few { nue ≤ 48 }
     requires short { len ≤ 1024 }
     ensures each { IfOk result (λ team. length team.items ≡ nue) }
-    ensures fresh { IfOk result (λ team. AreFresh more len nue team.items) }
+    ensures fresh { IfOk result (λ team. AreFreshMembers more len nue team.items) }
 {
     let mut team = Vec::new(alloc);
     for number in 0..nue {

@@ -2,7 +2,7 @@
 
 ghost use Rattle.std.specs.Prelude.{◌≡◌};
 ghost use Rattle.scc_base.specs.Heads.{plain_head};
-ghost use Rattle.run_rows.specs.Rings.{IsSeated, begun};
+ghost use Rattle.run_rows.specs.Rings.{IsSeated, message_to_begin};
 
 use chip_run::{Member, Worker};
 use line_cache::Never;
@@ -84,7 +84,7 @@ impl Worker for Passer {
 
 /// The message that a rank begins: a send to the next one, a receive from the one before, or none.
 fn begun(sends: bool, gets: bool, head: Head, from: Rank, to: Rank) -> Message
-    ensures { result ≡ begun sends gets head from to }
+    ensures { result ≡ message_to_begin sends gets head from to }
 {
     if sends {
         return Message::Sending(SendOp::new(to, head));

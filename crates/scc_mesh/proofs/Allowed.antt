@@ -12,8 +12,8 @@ use Rattle.scc_proto.specs.Words.{IsStep, memory_after, SameWords}
 use Rattle.scc_proto.specs.Records.{IsPermitted, record_of}
 use Rattle.scc_proto.specs.Registers.{Holder, Nobody, HeldBy}
 use Rattle.scc_proto.specs.Memories.{word_number, register_number, memory_of}
-use Rattle.scc_mesh.specs.SeatViews.{View, list_at, IsKnown, with_event}
-use Rattle.scc_mesh.specs.Keeping.{records_by, Together, Kept, Holds, Made, Looked, MayAccess, event_found}
+use Rattle.scc_mesh.specs.SeatViews.{SeatView, list_at, IsKnown, with_event}
+use Rattle.scc_mesh.specs.Keeping.{records_by, Together, Kept, KeepsRule, Made, Looked, MayAccess, event_found}
 use Rattle.scc_proto.proofs.Words.MemoryLemmas.{word_is, register_is, words_kept, word_stored, register_freed, register_taken}
 use Rattle.scc_mesh.proofs.TableLaws.{step_keeps, step_tells, look_tells, look_keeps}
 
@@ -63,15 +63,15 @@ pub makes_free : (s : SetupView) (r : ℕ) (events : List Event) (core : ℕ) �
     → Makes s r events (λ n. free_of core) (register_number core) (λ n. 0)
 makes_free s r events core below may words lists long together lt = record { event = (below, refl, refl); step = tt; may = may; same = register_freed words core below long }
 
-module _ {S : Type 0} (s : SetupView) (slots id : ℕ) (me : Me S View) where
+module _ {S : Type 0} (s : SetupView) (slots id : ℕ) (me : Me S SeatView) where
   -- `told` is what the play is told of the number found
   pub allowed_event : (about : SetupView) (rank r : ℕ) (picked event : ℕ → Event) (told f : ℕ → ℕ) (word i : ℕ) → about ≡ s → rank ≡ r → ((n : ℕ) → picked (told n) ≡ event n) → word ≡ i
       → IsKnown me.0 r → Makes s r (list_at me.0 r) event i f
-      → Allows (Holds s) slots id me word f (λ n now. Made about rank me.0 (picked (told n)) now.0 × (now.1 ≡ me.1))
+      → Allows (KeepsRule s) slots id me word f (λ n now. Made about rank me.0 (picked (told n)) now.0 × (now.1 ≡ me.1))
   allowed_event about rank r picked event told f word i about_is rank_is event_is word_is here makes =
-      subst (λ x. Allows (Holds s) slots id me x f (λ n now. Made about rank me.0 (picked (told n)) now.0 × (now.1 ≡ me.1))) (sym word_is) at_word
+      subst (λ x. Allows (KeepsRule s) slots id me x f (λ n now. Made about rank me.0 (picked (told n)) now.0 × (now.1 ≡ me.1))) (sym word_is) at_word
     where
-      at_word : Allows (Holds s) slots id me i f (λ n now. Made about rank me.0 (picked (told n)) now.0 × (now.1 ≡ me.1))
+      at_word : Allows (KeepsRule s) slots id me i f (λ n now. Made about rank me.0 (picked (told n)) now.0 × (now.1 ≡ me.1))
       at_word table kept homes at_id lt =
           let words = table.words in
           let n = slice_index words i in
@@ -85,7 +85,7 @@ module _ {S : Type 0} (s : SetupView) (slots id : ℕ) (me : Me S View) where
           (subst (λ x. Made s x me.0 (picked (told n)) w) (sym rank_is) (subst (λ (x : Event). Made s r me.0 x w) (sym (event_is n)) tell)) in
           (w, keeps, tt, keep, (told_so, refl))
 
-  pub allowed_look : (about : SetupView) → about ≡ s → Allows (Holds s) slots id me 0 (λ n. n) (λ n now. Looked about me.0 now.0 × (now.1 ≡ me.1))
+  pub allowed_look : (about : SetupView) → about ≡ s → Allows (KeepsRule s) slots id me 0 (λ n. n) (λ n now. Looked about me.0 now.0 × (now.1 ≡ me.1))
   allowed_look about about_is table kept homes at_id lt =
       let keep : Kept s table.words (slice_set table.views id me.0) = look_keeps s table.words table.views kept id me.0 at_id in
       let kept_now : Kept s (slice_set table.words 0 (slice_index table.words 0)) (slice_set table.views id me.0) = subst (λ (x : List ℕ). Kept s x (slice_set table.views id me.0)) (sym (set-get_or table.words 0 0)) keep in
@@ -93,7 +93,7 @@ module _ {S : Type 0} (s : SetupView) (slots id : ℕ) (me : Me S View) where
 
 -- ---- an access, by its kind
 
-module _ {S : Type 0} (s now : SetupView) (key : s ≡ now) (slots id : ℕ) (me : Me S View) (about : SetupView) (rank r : ℕ) (picked : ℕ → Event) (access : Access) (place : WordAt) (value : ℕ)
+module _ {S : Type 0} (s now : SetupView) (key : s ≡ now) (slots id : ℕ) (me : Me S SeatView) (about : SetupView) (rank r : ℕ) (picked : ℕ → Event) (access : Access) (place : WordAt) (value : ℕ)
     (aim : (about ≡ now) × (rank ≡ r) × (picked ≡ (λ n. event_found access place value n))) (here : IsKnown me.0 r) (may : MayAccess now r (list_at me.0 r) access place value) where
   picks : (kind : Access) → access ≡ kind → (n : ℕ) → picked n ≡ event_found kind place value n
   picks kind is n = (λ i. aim.2 i n) ∙ ap (λ (a : Access). event_found a place value n) is
@@ -105,21 +105,21 @@ module _ {S : Type 0} (s now : SetupView) (key : s ≡ now) (slots id : ℕ) (me
   about_is = aim.0 ∙ sym key
 
   pub allowed_load : access ≡ Load → IsPlace place → (word : ℕ) → word ≡ word_number place.core place.line place.word
-      → Allows (Holds s) slots id me word (λ n. n) (λ n now. Made about rank me.0 (picked n) now.0 × (now.1 ≡ me.1))
+      → Allows (KeepsRule s) slots id me word (λ n. n) (λ n now. Made about rank me.0 (picked n) now.0 × (now.1 ≡ me.1))
   allowed_load is valid word at = allowed_event s slots id me about rank r picked (load_of place) (λ n. n) (λ n. n) word (word_number place.core place.line place.word)
       about_is aim.1 (picks Load is) at here (makes_load s r (list_at me.0 r) place valid)
 
   pub allowed_store : access ≡ Store → IsPlace place → value < 2 ^ 64 → (word : ℕ) → word ≡ word_number place.core place.line place.word
-      → Allows (Holds s) slots id me word (λ n. value) (λ n now. Made about rank me.0 (picked value) now.0 × (now.1 ≡ me.1))
+      → Allows (KeepsRule s) slots id me word (λ n. value) (λ n now. Made about rank me.0 (picked value) now.0 × (now.1 ≡ me.1))
   allowed_store is valid fits word at = allowed_event s slots id me about rank r picked (λ n. store_of place value) (λ n. value) (λ n. value) word (word_number place.core place.line place.word)
       about_is aim.1 (λ n. picks Store is value) at here (makes_store s r (list_at me.0 r) place value valid fits (may_as Store is))
 
   pub allowed_take : access ≡ Take → place.core < 48 → (word : ℕ) → word ≡ register_number place.core
-      → Allows (Holds s) slots id me word (λ n. 1) (λ n now. Made about rank me.0 (picked n) now.0 × (now.1 ≡ me.1))
+      → Allows (KeepsRule s) slots id me word (λ n. 1) (λ n now. Made about rank me.0 (picked n) now.0 × (now.1 ≡ me.1))
   allowed_take is valid word at = allowed_event s slots id me about rank r picked (λ n. take_of place.core (n == 0)) (λ n. n) (λ n. 1) word (register_number place.core)
       about_is aim.1 (picks Take is) at here (makes_take s r (list_at me.0 r) place.core valid (may_as Take is))
 
   pub allowed_free : access ≡ Free → place.core < 48 → (word : ℕ) → word ≡ register_number place.core
-      → Allows (Holds s) slots id me word (λ n. 0) (λ n now. Made about rank me.0 (picked 0) now.0 × (now.1 ≡ me.1))
+      → Allows (KeepsRule s) slots id me word (λ n. 0) (λ n now. Made about rank me.0 (picked 0) now.0 × (now.1 ≡ me.1))
   allowed_free is valid word at = allowed_event s slots id me about rank r picked (λ n. free_of place.core) (λ n. 0) (λ n. 0) word (register_number place.core)
       about_is aim.1 (λ n. picks Free is 0) at here (makes_free s r (list_at me.0 r) place.core valid (may_as Free is))

@@ -8,7 +8,7 @@ use Rattle.scc_base.specs.declared.events.Event.{Event}
 use Rattle.scc_proto.specs.Records.{IsPermitted, record_of}
 use Rattle.scc_proto.specs.Soundness.{IsSound}
 use Rattle.scc_proto.specs.Ports.{Did, MayMake, IsSoundPort, record_in, and_then}
-use Rattle.scc_mesh.specs.SeatViews.{View, known, list_or_none, list_at, IsKnown, IsLoneSeat, alone, joined_seats}
+use Rattle.scc_mesh.specs.SeatViews.{SeatView, events_of_rank, list_or_none, list_at, IsKnown, IsLoneSeat, lone_view, joined_seats}
 use Rattle.scc_mesh.specs.Keeping.{Knows, Made}
 use Rattle.scc_mesh.specs.AwayRanks.{Ticket, Away, IsSoundAway, MadeAway}
 use Rattle.scc_mesh.specs.Scenes.{WasSeatStep, sight_away}
@@ -17,25 +17,25 @@ use Rattle.scc_proto.proofs.Agreement.SoundLaw.{sound_law}
 use Rattle.scc_mesh.specs.Keeping.{records_by}
 
 module _ {S : Type 0} where
-  pub lone_known : (r : ℕ) (me : Me S View) → IsLoneSeat r me → IsKnown me.0 r
-  lone_known r me lone = ap (λ (m : Me S View). known m.0 r) lone ∙ alone_here r (Some (list_at me.0 r))
+  pub lone_known : (r : ℕ) (me : Me S SeatView) → IsLoneSeat r me → IsKnown me.0 r
+  lone_known r me lone = ap (λ (m : Me S SeatView). events_of_rank m.0 r) lone ∙ alone_here r (Some (list_at me.0 r))
 
   -- a seat that was just handed out
-  pub lone_new : (r : ℕ) (v : View) (me : Me S View) → IsKnown v r → me ≡ (alone r (known v r), []) → IsLoneSeat r me
+  pub lone_new : (r : ℕ) (v : SeatView) (me : Me S SeatView) → IsKnown v r → me ≡ (lone_view r (events_of_rank v r), []) → IsLoneSeat r me
   lone_new r v me here is =
-      let list : list_at me.0 r ≡ list_at v r = ap (λ (m : Me S View). list_at m.0 r) is ∙ ap list_or_none (alone_here r (known v r)) in
-      is ∙ (λ i. (alone r (here i), [])) ∙ (λ i. (alone r (Some (sym list i)), []))
+      let list : list_at me.0 r ≡ list_at v r = ap (λ (m : Me S SeatView). list_at m.0 r) is ∙ ap list_or_none (alone_here r (events_of_rank v r)) in
+      is ∙ (λ i. (lone_view r (here i), [])) ∙ (λ i. (lone_view r (Some (sym list i)), []))
 
-  pub new_list : (r : ℕ) (v : View) (me : Me S View) → me ≡ (alone r (known v r), []) → list_at me.0 r ≡ list_at v r
-  new_list r v me is = ap (λ (m : Me S View). list_at m.0 r) is ∙ ap list_or_none (alone_here r (known v r))
+  pub new_list : (r : ℕ) (v : SeatView) (me : Me S SeatView) → me ≡ (lone_view r (events_of_rank v r), []) → list_at me.0 r ≡ list_at v r
+  new_list r v me is = ap (λ (m : Me S SeatView). list_at m.0 r) is ∙ ap list_or_none (alone_here r (events_of_rank v r))
 
-  module _ (s : SetupView) (r : ℕ) (old new : Me S View) (e : Event) (lone : IsLoneSeat r old) (made : Made s r old.0 e new.0) (held : new.1 ≡ old.1) where
+  module _ (s : SetupView) (r : ℕ) (old new : Me S SeatView) (e : Event) (lone : IsLoneSeat r old) (made : Made s r old.0 e new.0) (held : new.1 ≡ old.1) where
     pub lone_after : IsLoneSeat r new
     lone_after =
         let events : List Event = list_at old.0 r ++ e ∷ [] in
-        let changed : new.0 ≡ alone r (Some (list_at old.0 r ++ e ∷ [])) = made.view ∙ ap (λ (m : Me S View). slice_set m.0 r (Some (list_at old.0 r ++ e ∷ []))) lone ∙ alone_set r (Some (list_at old.0 r)) (Some (list_at old.0 r ++ e ∷ [])) in
-        let view : new.0 ≡ alone r (Some (list_at new.0 r)) = changed ∙ (λ i. alone r (Some (sym made.list i))) in
-        let none : new.1 ≡ [] = held ∙ ap (λ (m : Me S View). m.1) lone in
+        let changed : new.0 ≡ lone_view r (Some (list_at old.0 r ++ e ∷ [])) = made.view ∙ ap (λ (m : Me S SeatView). slice_set m.0 r (Some (list_at old.0 r ++ e ∷ []))) lone ∙ alone_set r (Some (list_at old.0 r)) (Some (list_at old.0 r ++ e ∷ [])) in
+        let view : new.0 ≡ lone_view r (Some (list_at new.0 r)) = changed ∙ (λ i. lone_view r (Some (sym made.list i))) in
+        let none : new.1 ≡ [] = held ∙ ap (λ (m : Me S SeatView). m.1) lone in
         λ i. (view i, none i)
 
     pub made_away : (table : TableId) → MadeAway s (record { table = table; rank = r; events = list_at old.0 r }) e (record { table = table; rank = r; events = list_at new.0 r })
@@ -54,7 +54,7 @@ module _ {S : Type 0} where
       sound = (made.knows.below r (list_at new.0 r) made.known, made.sound);
     }
 
-  pub knows_away : (s : SetupView) (r : ℕ) (me : Me S View) (table : TableId) → IsLoneSeat r me → Knows s me.0 → IsSoundAway s (record { table = table; rank = r; events = list_at me.0 r })
+  pub knows_away : (s : SetupView) (r : ℕ) (me : Me S SeatView) (table : TableId) → IsLoneSeat r me → Knows s me.0 → IsSoundAway s (record { table = table; rank = r; events = list_at me.0 r })
   knows_away s r me table lone knows =
       let here = lone_known r me lone in
       let below = knows.below r (list_at me.0 r) here in (
@@ -108,10 +108,10 @@ module _ (token : Ticket) (s : SetupView) (port : Away) (e : Event) (view_is : r
 
 -- ---- a rank comes home
 
-module _ (s : SetupView) (home : View) (r : ℕ) (events : List Event) (now : View) (is : now ≡ joined_seats home (alone r (Some events))) (knows : Knows s now) (ranks : length home ≡ s.nue) where
+module _ (s : SetupView) (home : SeatView) (r : ℕ) (events : List Event) (now : SeatView) (is : now ≡ joined_seats home (lone_view r (Some events))) (knows : Knows s now) (ranks : length home ≡ s.nue) where
   within_home : r < length home
   within_home =
-      let here : known now r ≡ Some events = ap (λ (v : View). known v r) is ∙ joined_here home r events in
+      let here : events_of_rank now r ≡ Some events = ap (λ (v : SeatView). events_of_rank v r) is ∙ joined_here home r events in
       let below = knows.below r events here in
       omega (arith, below, ranks)
 
@@ -119,10 +119,10 @@ module _ (s : SetupView) (home : View) (r : ℕ) (events : List Event) (now : Vi
   gathered = is ∙ joined_alone home r events within_home
 
   pub gathered_ranks : length now ≡ s.nue
-  gathered_ranks = ap (λ (v : View). length v) gathered ∙ length-set home r (Some events) ∙ ranks
+  gathered_ranks = ap (λ (v : SeatView). length v) gathered ∙ length-set home r (Some events) ∙ ranks
 
   pub gathered_below : r < s.nue
   gathered_below = let lt = within_home in omega (arith, lt, ranks)
 
-  pub gathered_known : known now r ≡ Some events
-  gathered_known = ap (λ (v : View). known v r) is ∙ joined_here home r events
+  pub gathered_known : events_of_rank now r ≡ Some events
+  gathered_known = ap (λ (v : SeatView). events_of_rank v r) is ∙ joined_here home r events

@@ -6,11 +6,11 @@ use Rattle.atomic_table.specs.Seated.{table_id_coded}
 use Rattle.scc_base.specs.declared.events.Event.{Event}
 use Rattle.scc_proto.specs.Ports.{Seat}
 use Rattle.scc_mesh.specs.AwayRanks.{Away}
-use Rattle.scc_mesh.specs.SeatViews.{View, list_or_none, list_at, IsKnown, without}
+use Rattle.scc_mesh.specs.SeatViews.{SeatView, list_or_none, list_at, IsKnown, without}
 use Rattle.scc_mesh.specs.Scenes.{ChipView, IsWhole, IsHomeFrom, IsHomeBelow, about_in, home_in, events_in, with_home, sight_away}
 use Rattle.scc_mesh.proofs.ViewLemmas.{is_known, known_within, known_here, known_there}
 
-room_for : (home : View) (nue : ℕ) → ((r : ℕ) → r < nue → IsKnown home r) → nue ≤ length home
+room_for : (home : SeatView) (nue : ℕ) → ((r : ℕ) → r < nue → IsKnown home r) → nue ≤ length home
 room_for home zero all = omega arith
 room_for home (suc n) all = let within = known_within home n (list_at home n) (all n (omega arith)) in omega (arith, within)
 

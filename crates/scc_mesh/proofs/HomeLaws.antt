@@ -8,7 +8,7 @@ use Rattle.scc_proto.specs.Soundness.{IsSound}
 use Rattle.scc_proto.specs.Ports.{IsSoundPort, record_in}
 use Rattle.scc_proto.proofs.Tests.{both_first, both_second}
 use Rattle.scc_proto.proofs.Agreement.SoundLaw.{sound_law}
-use Rattle.scc_mesh.specs.SeatViews.{View, known, list_or_none, list_at, IsKnown, newcomer}
+use Rattle.scc_mesh.specs.SeatViews.{SeatView, events_of_rank, list_or_none, list_at, IsKnown, newcomer}
 use Rattle.scc_mesh.specs.Keeping.{records_by, Together}
 use Rattle.scc_mesh.specs.Scenes.{ChipView, Scene, about_in, events_in, IsWhole, IsNew, KnowsHome, AgreesAtHome, is_port_of, sight_in}
 use Rattle.scc_mesh.specs.Scenes as scenes
@@ -50,8 +50,8 @@ pub port_is_sound : (chip : ChipView) (r hold : ℕ) → is_port_of chip r ≡ t
 unfolding record_in
 port_is_sound None r hold t knows = absurd (cc (t))
 port_is_sound (Some scene) r hold t knows =
-    let here = known_if (known scene.home r) (both_first (scenes.is_at_home (known scene.home r)) (nat_lt r scene.about.nue) t) in
-    let below : r < scene.about.nue = lt_tells r scene.about.nue (both_second (scenes.is_at_home (known scene.home r)) (nat_lt r scene.about.nue) t) in
+    let here = known_if (events_of_rank scene.home r) (both_first (scenes.is_at_home (events_of_rank scene.home r)) (nat_lt r scene.about.nue) t) in
+    let below : r < scene.about.nue = lt_tells r scene.about.nue (both_second (scenes.is_at_home (events_of_rank scene.home r)) (nat_lt r scene.about.nue) t) in
     let list = knows.0.list r (list_at scene.home r) here in
     subst (λ (l : List Event). IsSound scene.about r (record_of scene.about r l)) list
     (sound_law scene.about knows.0.memory (records_by scene.about knows.0.lists) knows.0.together.agree r below)
@@ -60,6 +60,6 @@ port_is_sound (Some scene) r hold t knows =
 pub new_chip : (s : SetupView) (scene : Scene) → scene.about ≡ s → scene.home ≡ newcomer s → IsNew s (Some scene)
 new_chip s scene about home = record {
   about = about;
-  whole = record { opened = refl; home = λ r lt. subst (λ (v : View). IsKnown v r) (sym home) (newcomer_here s r (subst (λ (x : SetupView). r < x.nue) about lt)) };
-  empty = λ r. ap (λ (v : View). list_at v r) home ∙ newcomer_list s r;
+  whole = record { opened = refl; home = λ r lt. subst (λ (v : SeatView). IsKnown v r) (sym home) (newcomer_here s r (subst (λ (x : SetupView). r < x.nue) about lt)) };
+  empty = λ r. ap (λ (v : SeatView). list_at v r) home ∙ newcomer_list s r;
 }

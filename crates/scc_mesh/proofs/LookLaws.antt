@@ -5,12 +5,12 @@ use Rattle.scc_base.specs.Places.{WordAt}
 use Rattle.scc_base.specs.Events.{load_of}
 use Rattle.scc_base.specs.declared.events.Event.{Event}
 use Rattle.scc_proto.specs.Stages.{Record}
-use Rattle.scc_proto.specs.Tables.{put}
+use Rattle.scc_proto.specs.Tables.{table_with}
 use Rattle.scc_proto.specs.Records.{record_of}
 use Rattle.scc_proto.specs.Agreement.{Agrees}
 use Rattle.scc_proto.specs.Ports.{Seat, Sight, Did}
 use Rattle.scc_proto.proofs.Tests.{same_or_other, put_here, put_there}
-use Rattle.scc_mesh.specs.SeatViews.{View, known, without}
+use Rattle.scc_mesh.specs.SeatViews.{SeatView, events_of_rank, without}
 use Rattle.scc_mesh.specs.Keeping.{records_by}
 use Rattle.scc_mesh.specs.Scenes.{ChipView, WasSeatStep, IsWhole, about_in, home_in, events_in, records_in, view_coded, sight_in}
 use Rattle.scc_mesh.specs.Turns.{Saw, AgreesThen, AgreesNow}
@@ -24,7 +24,7 @@ saw_at chip r hold events e was =
         memory = was.step.memory;
         lists = was.step.lists;
         own = was.step.own;
-        others = λ q list ne is. was.step.others q list ne (ap (λ (v : View). known v q) (sym same) ∙ known_there (home_in chip) r None q ne ∙ is);
+        others = λ q list ne is. was.step.others q list ne (ap (λ (v : SeatView). events_of_rank v q) (sym same) ∙ known_there (home_in chip) r None q ne ∙ is);
         before = was.step.before;
         step = was.step.step;
         after = was.step.after;
@@ -40,7 +40,7 @@ saw_later old now r hold before events e did was =
 module _ (chip : ChipView) (r : ℕ) (events : List Event) (place : WordAt) (value : ℕ) (whole : IsWhole chip) (beyond : (q : ℕ) → (about_in chip).nue ≤ q → events_in chip q ≡ [])
     (saw : Saw chip r events (load_of place value)) where
   abbrev then_lists : ℕ → List Event
-  then_lists = put (events_in chip) r (events ++ load_of place value ∷ [])
+  then_lists = table_with (events_in chip) r (events ++ load_of place value ∷ [])
 
   same_there : (q : ℕ) → q ≢ r → saw.step.lists q ≡ events_in chip q
   same_there q ne = by (nat_lt q (about_in chip).nue) refl
@@ -49,9 +49,9 @@ module _ (chip : ChipView) (r : ℕ) (events : List Event) (place : WordAt) (val
       by true t = let below : q < (about_in chip).nue = grind (arith, nat_tests) in saw.step.others q (events_in chip q) ne (whole.home q below)
       by false f = let out : (about_in chip).nue ≤ q = grind (arith, nat_tests) in saw.step.before.beyond q out ∙ sym (beyond q out)
 
-  same_lists : (q : ℕ) → put saw.step.lists r (events ++ load_of place value ∷ []) q ≡ then_lists q
-  same_lists q = same_or_other (put saw.step.lists r (events ++ load_of place value ∷ []) q ≡ then_lists q) q r
-      (λ t is. subst (λ k. put saw.step.lists r (events ++ load_of place value ∷ []) k ≡ then_lists k) (sym is)
+  same_lists : (q : ℕ) → table_with saw.step.lists r (events ++ load_of place value ∷ []) q ≡ then_lists q
+  same_lists q = same_or_other (table_with saw.step.lists r (events ++ load_of place value ∷ []) q ≡ then_lists q) q r
+      (λ t is. subst (λ k. table_with saw.step.lists r (events ++ load_of place value ∷ []) k ≡ then_lists k) (sym is)
       (put_here saw.step.lists r (events ++ load_of place value ∷ []) ∙ sym (put_here (events_in chip) r (events ++ load_of place value ∷ []))))
       (λ t ne. put_there saw.step.lists r (events ++ load_of place value ∷ []) q ne ∙ same_there q ne ∙ sym (put_there (events_in chip) r (events ++ load_of place value ∷ []) q ne))
 

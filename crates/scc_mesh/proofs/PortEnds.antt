@@ -6,7 +6,7 @@ use Rattle.scc_base.specs.Setups.{SetupView}
 use Rattle.scc_base.specs.declared.events.Event.{Event}
 use Rattle.scc_proto.specs.Ports.{Sight, Did}
 use Rattle.scc_proto.proofs.Tests.{both_first}
-use Rattle.scc_mesh.specs.SeatViews.{View, known, list_at, without}
+use Rattle.scc_mesh.specs.SeatViews.{SeatView, events_of_rank, list_at, without}
 use Rattle.scc_mesh.specs.AwayRanks.{Ticket}
 use Rattle.scc_mesh.specs.Scenes.{ChipView, Scene, IsOpen, is_at_home, is_port_of, home_in, events_in, with_home, view_coded, sight_in, sight_away}
 use Rattle.scc_mesh.proofs.ViewLemmas.{set_twice}
@@ -24,17 +24,17 @@ module _ (s t : SetupView) (old new : Ticket) (events : List Event) (did : Did (
 
 -- and so has a rank at home, where no other rank's list has changed
 module _ (old new : Scene) (r hold later : ℕ) (events : List Event) (port : is_port_of (Some new) r ≡ true) (did : Did (sight_in (Some old) r hold) events (sight_in (Some new) r later)) where
-  new_known : known new.home r ≡ Some (list_at new.home r)
-  new_known = known_if (known new.home r) (both_first (is_at_home (known new.home r)) (nat_lt r new.about.nue) port)
+  new_known : events_of_rank new.home r ≡ Some (list_at new.home r)
+  new_known = known_if (events_of_rank new.home r) (both_first (is_at_home (events_of_rank new.home r)) (nat_lt r new.about.nue) port)
 
   same_others : without new.home r ≡ without old.home r
   same_others = view_coded.inj (without new.home r) (without old.home r) (ap (λ (x : Sight). x.seat.rest) did.continues)
 
   home_ends : new.home ≡ slice_set old.home r (Some (list_at old.home r ++ events))
   home_ends = sym (set-get_or new.home r None)
-      ∙ sym (set_twice new.home r None (known new.home r))
-      ∙ ap (λ (v : View). slice_set v r (known new.home r)) same_others
-      ∙ set_twice old.home r None (known new.home r)
+      ∙ sym (set_twice new.home r None (events_of_rank new.home r))
+      ∙ ap (λ (v : SeatView). slice_set v r (events_of_rank new.home r)) same_others
+      ∙ set_twice old.home r None (events_of_rank new.home r)
       ∙ ap (λ (x : Option (List Event)). slice_set old.home r x) (new_known ∙ (λ i. Some ((did.continues i).events)))
 
   scene_ends : new ≡ record old { home = slice_set old.home r (Some (list_at old.home r ++ events)) }

@@ -5,14 +5,14 @@ use Rattle.scc_base.specs.declared.events.Event.{Event}
 use Rattle.scc_proto.specs.Records.{IsPermitted, record_of}
 use Rattle.scc_proto.specs.Soundness.{IsSound}
 use Rattle.scc_proto.specs.Ports.{Did, MayMake, IsSoundPort, record_in, and_then}
-use Rattle.scc_mesh.specs.SeatViews.{View, list_at, without}
+use Rattle.scc_mesh.specs.SeatViews.{SeatView, list_at, without}
 use Rattle.scc_mesh.specs.Keeping.{Made}
 use Rattle.scc_mesh.specs.Scenes.{ChipView, about_in, table_in, home_in, events_in, mark_of, rest_of_seats, view_coded, WasSeatStep, sight_in}
 use Rattle.scc_mesh.proofs.ViewLemmas.{known_there, set_twice}
 
 module _ (old new : ChipView) (r hold : ℕ) (e : Event) (made : Made (about_in old) r (home_in old) e (home_in new)) (about_same : about_in new ≡ about_in old) (table_same : table_in new ≡ table_in old) where
   same_rest : rest_of_seats (home_in new) r ≡ rest_of_seats (home_in old) r
-  same_rest = ap view_coded.code (ap (λ (v : View). without v r) made.view ∙ set_twice (home_in old) r _ _)
+  same_rest = ap view_coded.code (ap (λ (v : SeatView). without v r) made.view ∙ set_twice (home_in old) r _ _)
 
   continues : sight_in new r hold ≡ and_then (sight_in old r hold) (e ∷ [])
   continues = λ i. record {

@@ -7,7 +7,7 @@ use Rattle.scc_base.specs.Places.{WordAt}
 use Rattle.scc_base.specs.Events.{IsEvent, load_of, store_of}
 use Rattle.scc_base.specs.Setups.{SetupView, IsSetup}
 use Rattle.scc_base.specs.declared.events.Event.{Event}
-use Rattle.scc_proto.specs.Tables.{put}
+use Rattle.scc_proto.specs.Tables.{table_with}
 use Rattle.scc_proto.specs.Stages.{Record}
 use Rattle.scc_proto.specs.Words.{Memory, zeros, word_at, IsStep, memory_after, SameWords, Role, HeapWord, role_of}
 use Rattle.scc_proto.specs.Records.{IsPermitted, IsHonest, record_of}
@@ -22,7 +22,7 @@ use Rattle.scc_proto.proofs.Agreement.SoundLaw.{sound_law}
 use Rattle.scc_proto.proofs.Words.HeapLaw.{heap_listed}
 use Rattle.scc_proto.proofs.Agreement.HonestLaw.{told_law}
 use Rattle.scc_proto.specs.Memories.{memory_of}
-use Rattle.scc_mesh.specs.SeatViews.{View, known, list_or_none, list_at, IsKnown, with_event, newcomer}
+use Rattle.scc_mesh.specs.SeatViews.{SeatView, events_of_rank, list_or_none, list_at, IsKnown, with_event, newcomer}
 use Rattle.scc_mesh.specs.Keeping.{records_by, IsStoredAt, HeapIsTold, Together, IsSeatOf, Kept, Knows, Made}
 use Rattle.scc_proto.proofs.Words.MemoryLemmas.{words_at_start, same_words}
 use Rattle.scc_mesh.proofs.ViewLemmas.{known_within, known_here, known_there, is_known, newcomer_known, elem_set}
@@ -34,10 +34,10 @@ module _ (s : SetupView) (words : List ℕ) (clear : (k : ℕ) → slice_index w
   agree_at_start = agrees_same s zeros (memory_of words) (records_by s (λ r. [])) (words_at_start words clear)
       (subst (λ (x : ℕ → Record). Agrees s zeros x) (λ i r. sym (record_of-nil s r) i) (agrees_at_start s))
 
-  first_seat : (seat : ℕ) (v : View) → get_elem? (newcomer s ∷ []) seat ≡ some v → (r : ℕ) (events : List Event) → known v r ≡ Some events → IsSeatOf s (λ q. 0) (λ q. []) seat r events
+  first_seat : (seat : ℕ) (v : SeatView) → get_elem? (newcomer s ∷ []) seat ≡ some v → (r : ℕ) (events : List Event) → events_of_rank v r ≡ Some events → IsSeatOf s (λ q. 0) (λ q. []) seat r events
   first_seat zero v is_at r events is =
       let same : newcomer s ≡ v = cc (is_at) in
-      let k = newcomer_known s r events (subst (λ (x : View). known x r ≡ Some events) (sym same) is) in
+      let k = newcomer_known s r events (subst (λ (x : SeatView). events_of_rank x r ≡ Some events) (sym same) is) in
       record { owns = refl; list = sym k.0; below = k.1 }
   first_seat (suc n) v is_at r events is = absurd (cc (is_at))
 
@@ -53,14 +53,14 @@ module _ (s : SetupView) (words : List ℕ) (clear : (k : ℕ) → slice_index w
 
 -- ---- a step with one event
 
-module _ (s : SetupView) (words now : List ℕ) (views : List View) (kept : Kept s words views) (id : ℕ) (v : View) (at_id : get_elem? views id ≡ some v) (r : ℕ) (here : IsKnown v r)
+module _ (s : SetupView) (words now : List ℕ) (views : List SeatView) (kept : Kept s words views) (id : ℕ) (v : SeatView) (at_id : get_elem? views id ≡ some v) (r : ℕ) (here : IsKnown v r)
     (e : Event) (event : IsEvent e) (step : IsStep (memory_of words) e) (may : IsPermitted s r (record_of s r (list_at v r)) e) (long : length now ≡ 49200)
     (same : SameWords (memory_after (memory_of words) e) (memory_of now)) where
   own_seat : IsSeatOf s kept.owner kept.lists id r (list_at v r)
   own_seat = kept.suits id v at_id r (list_at v r) here
 
   abbrev later : ℕ → List Event
-  later = put kept.lists r (list_at v r ++ e ∷ [])
+  later = table_with kept.lists r (list_at v r ++ e ∷ [])
 
   own_later : later r ≡ list_at v r ++ e ∷ []
   own_later = put_here kept.lists r (list_at v r ++ e ∷ [])
@@ -121,22 +121,22 @@ module _ (s : SetupView) (words now : List ℕ) (views : List View) (kept : Kept
   within : r < length v
   within = known_within v r (list_at v r) here
 
-  fits : (q : ℕ) (events : List Event) → known (with_event v r e) q ≡ Some events → IsSeatOf s kept.owner later id q events
+  fits : (q : ℕ) (events : List Event) → events_of_rank (with_event v r e) q ≡ Some events → IsSeatOf s kept.owner later id q events
   fits q events is = same_or_other (IsSeatOf s kept.owner later id q events) q r
       (λ t q_is.
-      let found : known (with_event v r e) r ≡ Some events = subst (λ k. known (with_event v r e) k ≡ Some events) q_is is in
+      let found : events_of_rank (with_event v r e) r ≡ Some events = subst (λ k. events_of_rank (with_event v r e) k ≡ Some events) q_is is in
       let own : list_at v r ++ e ∷ [] ≡ events = ap list_or_none (sym (known_here v r (Some (list_at v r ++ e ∷ [])) within) ∙ found) in
       subst (λ k. IsSeatOf s kept.owner later id k events) (sym q_is) (record { owns = own_seat.owns; list = own_later ∙ own; below = own_seat.below }))
       (λ t ne.
       let old = kept.suits id v at_id q events (sym (known_there v r (Some (list_at v r ++ e ∷ [])) q ne) ∙ is) in
       record { owns = old.owns; list = other_later q ne ∙ old.list; below = old.below })
 
-  seats_after : (seat : ℕ) (w : View) → get_elem? (slice_set views id (with_event v r e)) seat ≡ some w → (q : ℕ) (events : List Event) → known w q ≡ Some events
+  seats_after : (seat : ℕ) (w : SeatView) → get_elem? (slice_set views id (with_event v r e)) seat ≡ some w → (q : ℕ) (events : List Event) → events_of_rank w q ≡ Some events
       → IsSeatOf s kept.owner later seat q events
   seats_after seat w is_at q events is = or (elem_set views id (with_event v r e) seat w is_at)
     where
       or : ((seat ≡ id) × (w ≡ with_event v r e)) ⊎ ((seat ≢ id) × (get_elem? views seat ≡ some w)) → IsSeatOf s kept.owner later seat q events
-      or (inl own) = subst (λ k. IsSeatOf s kept.owner later k q events) (sym own.0) (fits q events (subst (λ (x : View). known x q ≡ Some events) own.1 is))
+      or (inl own) = subst (λ k. IsSeatOf s kept.owner later k q events) (sym own.0) (fits q events (subst (λ (x : SeatView). events_of_rank x q ≡ Some events) own.1 is))
       or (inr other) =
           let old = kept.suits seat w other.1 q events is in
           let ne : q ≢ r = λ q_is. other.0 (sym old.owns ∙ ap kept.owner q_is ∙ own_seat.owns) in
@@ -176,7 +176,7 @@ module _ (s : SetupView) (words now : List ℕ) (views : List View) (kept : Kept
 
 -- ---- a look
 
-pub look_tells : (s : SetupView) (words : List ℕ) (views : List View) → Kept s words views → (id : ℕ) (v : View) → get_elem? views id ≡ some v → Knows s v
+pub look_tells : (s : SetupView) (words : List ℕ) (views : List SeatView) → Kept s words views → (id : ℕ) (v : SeatView) → get_elem? views id ≡ some v → Knows s v
 look_tells s words views kept id v at_id = record {
   valid = kept.valid;
   memory = memory_of words;
@@ -186,12 +186,12 @@ look_tells s words views kept id v at_id = record {
   below = λ r events is. (kept.suits id v at_id r events is).below;
 }
 
-pub look_keeps : (s : SetupView) (words : List ℕ) (views : List View) → Kept s words views → (id : ℕ) (v : View) → get_elem? views id ≡ some v → Kept s words (slice_set views id v)
+pub look_keeps : (s : SetupView) (words : List ℕ) (views : List SeatView) → Kept s words views → (id : ℕ) (v : SeatView) → get_elem? views id ≡ some v → Kept s words (slice_set views id v)
 look_keeps s words views kept id v at_id = record { valid = kept.valid; count = kept.count; owner = kept.owner; lists = kept.lists; together = kept.together; suits = seats }
   where
-    seats : (seat : ℕ) (w : View) → get_elem? (slice_set views id v) seat ≡ some w → (r : ℕ) (events : List Event) → known w r ≡ Some events → IsSeatOf s kept.owner kept.lists seat r events
+    seats : (seat : ℕ) (w : SeatView) → get_elem? (slice_set views id v) seat ≡ some w → (r : ℕ) (events : List Event) → events_of_rank w r ≡ Some events → IsSeatOf s kept.owner kept.lists seat r events
     seats seat w is_at r events is = or (elem_set views id v seat w is_at)
       where
         or : ((seat ≡ id) × (w ≡ v)) ⊎ ((seat ≢ id) × (get_elem? views seat ≡ some w)) → IsSeatOf s kept.owner kept.lists seat r events
-        or (inl own) = subst (λ k. IsSeatOf s kept.owner kept.lists k r events) (sym own.0) (kept.suits id v at_id r events (subst (λ (x : View). known x r ≡ Some events) own.1 is))
+        or (inl own) = subst (λ k. IsSeatOf s kept.owner kept.lists k r events) (sym own.0) (kept.suits id v at_id r events (subst (λ (x : SeatView). events_of_rank x r ≡ Some events) own.1 is))
         or (inr other) = kept.suits seat w other.1 r events is

@@ -5,31 +5,31 @@ use lib.ListN.{get_elem?}
 use Rattle.std.proofs.lemmas.List.{get_or-set_same, get_or-set_other}
 use Rattle.scc_base.specs.Setups.{SetupView}
 use Rattle.scc_base.specs.declared.events.Event.{Event}
-use Rattle.scc_mesh.specs.SeatViews.{View, known, list_or_none, list_at, IsKnown, newcomer, alone, joined_seats}
+use Rattle.scc_mesh.specs.SeatViews.{SeatView, events_of_rank, list_or_none, list_at, IsKnown, newcomer, lone_view, joined_seats}
 
-pub known_within : (v : View) (r : ℕ) (events : List Event) → known v r ≡ Some events → r < length v
+pub known_within : (v : SeatView) (r : ℕ) (events : List Event) → events_of_rank v r ≡ Some events → r < length v
 known_within [] r events is = absurd (cc (is))
 known_within (x ∷ v) zero events is = omega arith
 known_within (x ∷ v) (suc r) events is = let lt = known_within v r events is in omega (arith, lt)
 
-pub known_list : (v : View) (r : ℕ) (events : List Event) → known v r ≡ Some events → list_at v r ≡ events
+pub known_list : (v : SeatView) (r : ℕ) (events : List Event) → events_of_rank v r ≡ Some events → list_at v r ≡ events
 known_list v r events is = ap list_or_none is
 
-pub is_known : (v : View) (r : ℕ) (events : List Event) → known v r ≡ Some events → IsKnown v r
+pub is_known : (v : SeatView) (r : ℕ) (events : List Event) → events_of_rank v r ≡ Some events → IsKnown v r
 is_known v r events is = is ∙ ap (λ (l : List Event). Some l) (sym (known_list v r events is))
 
-pub known_here : (v : View) (r : ℕ) (x : Option (List Event)) → r < length v → known (slice_set v r x) r ≡ x
+pub known_here : (v : SeatView) (r : ℕ) (x : Option (List Event)) → r < length v → events_of_rank (slice_set v r x) r ≡ x
 known_here v r x lt = get_or-set_same v r x None lt
 
-pub known_there : (v : View) (r : ℕ) (x : Option (List Event)) (q : ℕ) → q ≢ r → known (slice_set v r x) q ≡ known v q
+pub known_there : (v : SeatView) (r : ℕ) (x : Option (List Event)) (q : ℕ) → q ≢ r → events_of_rank (slice_set v r x) q ≡ events_of_rank v q
 known_there v r x q ne = get_or-set_other v r q x None ne
 
-newcomer_from : (n r : ℕ) (events : List Event) → known (replicate n (Some [])) r ≡ Some events → (events ≡ []) × (r < n)
+newcomer_from : (n r : ℕ) (events : List Event) → events_of_rank (replicate n (Some [])) r ≡ Some events → (events ≡ []) × (r < n)
 newcomer_from zero r events is = absurd (cc (is))
 newcomer_from (suc n) zero events is = (sym (ap list_or_none is), omega arith)
 newcomer_from (suc n) (suc r) events is = let rest = newcomer_from n r events is in (rest.0, omega (arith, rest.1))
 
-pub newcomer_known : (s : SetupView) (r : ℕ) (events : List Event) → known (newcomer s) r ≡ Some events → (events ≡ []) × (r < s.nue)
+pub newcomer_known : (s : SetupView) (r : ℕ) (events : List Event) → events_of_rank (newcomer s) r ≡ Some events → (events ≡ []) × (r < s.nue)
 unfolding newcomer
 newcomer_known s r events is = newcomer_from s.nue r events is
 
@@ -74,66 +74,66 @@ module _ {A : Type 0} where
 
 -- ---- a seat of one rank, and two seats in one
 
-alone_own : (r : ℕ) (x : Option (List Event)) → known (replicate r None ++ x ∷ []) r ≡ x
+alone_own : (r : ℕ) (x : Option (List Event)) → events_of_rank (replicate r None ++ x ∷ []) r ≡ x
 alone_own zero x = refl
 alone_own (suc r) x = alone_own r x
 
-pub alone_here : (r : ℕ) (x : Option (List Event)) → known (alone r x) r ≡ x
-unfolding alone
+pub alone_here : (r : ℕ) (x : Option (List Event)) → events_of_rank (lone_view r x) r ≡ x
+unfolding lone_view
 alone_here r x = alone_own r x
 
-alone_others : (r : ℕ) (x : Option (List Event)) (q : ℕ) → q ≢ r → known (replicate r None ++ x ∷ []) q ≡ None
+alone_others : (r : ℕ) (x : Option (List Event)) (q : ℕ) → q ≢ r → events_of_rank (replicate r None ++ x ∷ []) q ≡ None
 alone_others zero x zero ne = absurd (ne refl)
 alone_others zero x (suc q) ne = refl
 alone_others (suc r) x zero ne = refl
 alone_others (suc r) x (suc q) ne = alone_others r x q (λ e. ne (ap suc e))
 
-pub alone_there : (r : ℕ) (x : Option (List Event)) (q : ℕ) → q ≢ r → known (alone r x) q ≡ None
-unfolding alone
+pub alone_there : (r : ℕ) (x : Option (List Event)) (q : ℕ) → q ≢ r → events_of_rank (lone_view r x) q ≡ None
+unfolding lone_view
 alone_there r x q ne = alone_others r x q ne
 
 alone_change : (r : ℕ) (x y : Option (List Event)) → slice_set (replicate r None ++ x ∷ []) r y ≡ replicate r None ++ y ∷ []
 alone_change zero x y = refl
-alone_change (suc r) x y = ap (λ (v : View). None ∷ v) (alone_change r x y)
+alone_change (suc r) x y = ap (λ (v : SeatView). None ∷ v) (alone_change r x y)
 
-pub alone_set : (r : ℕ) (x y : Option (List Event)) → slice_set (alone r x) r y ≡ alone r y
-unfolding alone
+pub alone_set : (r : ℕ) (x y : Option (List Event)) → slice_set (lone_view r x) r y ≡ lone_view r y
+unfolding lone_view
 alone_set r x y = alone_change r x y
 
-pub joined_knows : (v w : View) (q : ℕ) (events : List Event) → known (joined_seats v w) q ≡ Some events → (known w q ≡ Some events) ⊎ (known v q ≡ Some events)
+pub joined_knows : (v w : SeatView) (q : ℕ) (events : List Event) → events_of_rank (joined_seats v w) q ≡ Some events → (events_of_rank w q ≡ Some events) ⊎ (events_of_rank v q ≡ Some events)
 joined_knows [] w q events is = inl is
 joined_knows (x ∷ v) [] q events is = inr is
 joined_knows (x ∷ v) (None ∷ w) zero events is = inr is
 joined_knows (x ∷ v) (Some y ∷ w) zero events is = inl is
 joined_knows (x ∷ v) (y ∷ w) (suc q) events is = joined_knows v w q events is
 
-joined_from : (v : View) (r : ℕ) (events : List Event) → r < length v → joined_seats v (replicate r None ++ Some events ∷ []) ≡ slice_set v r (Some events)
+joined_from : (v : SeatView) (r : ℕ) (events : List Event) → r < length v → joined_seats v (replicate r None ++ Some events ∷ []) ≡ slice_set v r (Some events)
 joined_from [] r events lt = absurd (omega (arith, lt))
 joined_from (x ∷ []) zero events lt = refl
 joined_from (x ∷ y ∷ v) zero events lt = refl
-joined_from (x ∷ v) (suc r) events lt = ap (λ (z : View). x ∷ z) (joined_from v r events (omega (arith, lt)))
+joined_from (x ∷ v) (suc r) events lt = ap (λ (z : SeatView). x ∷ z) (joined_from v r events (omega (arith, lt)))
 
-pub joined_alone : (v : View) (r : ℕ) (events : List Event) → r < length v → joined_seats v (alone r (Some events)) ≡ slice_set v r (Some events)
-unfolding alone
+pub joined_alone : (v : SeatView) (r : ℕ) (events : List Event) → r < length v → joined_seats v (lone_view r (Some events)) ≡ slice_set v r (Some events)
+unfolding lone_view
 joined_alone v r events lt = joined_from v r events lt
 
-joined_own : (v : View) (r : ℕ) (x : Option (List Event)) (events : List Event) → x ≡ Some events → known (joined_seats v (replicate r None ++ x ∷ [])) r ≡ Some events
+joined_own : (v : SeatView) (r : ℕ) (x : Option (List Event)) (events : List Event) → x ≡ Some events → events_of_rank (joined_seats v (replicate r None ++ x ∷ [])) r ≡ Some events
 joined_own [] r x events is = alone_own r x ∙ is
 joined_own (y ∷ v) zero (Some z) events is = is
 joined_own (y ∷ v) zero None events is = absurd (cc (is))
 joined_own (y ∷ v) (suc r) x events is = joined_own v r x events is
 
-pub set_twice : (v : View) (r : ℕ) (x y : Option (List Event)) → slice_set (slice_set v r x) r y ≡ slice_set v r y
+pub set_twice : (v : SeatView) (r : ℕ) (x y : Option (List Event)) → slice_set (slice_set v r x) r y ≡ slice_set v r y
 set_twice [] r x y = refl
 set_twice (z ∷ v) zero x y = refl
-set_twice (z ∷ v) (suc r) x y = ap (λ (w : View). z ∷ w) (set_twice v r x y)
+set_twice (z ∷ v) (suc r) x y = ap (λ (w : SeatView). z ∷ w) (set_twice v r x y)
 
-pub list_past : (v : View) (r : ℕ) → length v ≤ r → list_at v r ≡ []
+pub list_past : (v : SeatView) (r : ℕ) → length v ≤ r → list_at v r ≡ []
 list_past [] r out = refl
 list_past (x ∷ v) zero out = absurd (omega (arith, out))
 list_past (x ∷ v) (suc r) out = list_past v r (omega (arith, out))
 
-newcomers_here : (n r : ℕ) → r < n → known (replicate n (Some [])) r ≡ Some []
+newcomers_here : (n r : ℕ) → r < n → events_of_rank (replicate n (Some [])) r ≡ Some []
 newcomers_here zero r lt = absurd (omega (arith, lt))
 newcomers_here (suc n) zero lt = refl
 newcomers_here (suc n) (suc r) lt = newcomers_here n r (omega (arith, lt))
@@ -151,6 +151,6 @@ pub newcomer_list : (s : SetupView) (r : ℕ) → list_at (newcomer s) r ≡ []
 unfolding newcomer
 newcomer_list s r = newcomers_list s.nue r
 
-pub joined_here : (v : View) (r : ℕ) (events : List Event) → known (joined_seats v (alone r (Some events))) r ≡ Some events
-unfolding alone
+pub joined_here : (v : SeatView) (r : ℕ) (events : List Event) → events_of_rank (joined_seats v (lone_view r (Some events))) r ≡ Some events
+unfolding lone_view
 joined_here v r events = joined_own v r (Some events) events refl

@@ -9,14 +9,14 @@ use Rattle.scc_base.specs.Setups.{SetupView, IsSetup}
 use Rattle.scc_base.specs.declared.events.Access.{Access}
 use Rattle.scc_base.specs.declared.events.Access.TheVariants.{Load, Store, Take, Free}
 use Rattle.scc_base.specs.declared.events.Event.{Event}
-use Rattle.scc_proto.specs.Tables.{put}
+use Rattle.scc_proto.specs.Tables.{table_with}
 use Rattle.scc_proto.specs.Stages.{Record}
 use Rattle.scc_proto.specs.Words.{Memory, IsStep, memory_after, HeapWord, role_of}
 use Rattle.scc_proto.specs.Records.{IsPermitted, IsHonest, record_of}
 use Rattle.scc_proto.specs.Soundness.{IsSound}
 use Rattle.scc_proto.specs.Agreement.{Agrees}
 use Rattle.scc_proto.specs.Memories.{memory_of, number_count}
-use Rattle.scc_mesh.specs.SeatViews.{View, known, list_at, IsKnown, with_event}
+use Rattle.scc_mesh.specs.SeatViews.{SeatView, events_of_rank, list_at, IsKnown, with_event}
 
 -- the record of each rank's events
 abbrev pub records_by : SetupView → (ℕ → List Event) → ℕ → Record
@@ -45,43 +45,43 @@ pub record IsSeatOf (s : SetupView) (owner : ℕ → ℕ) (lists : ℕ → List 
   pub below : r < s.nue
 
 -- The rule: the table's words and the lists of all views agree.
-pub record Kept (s : SetupView) (words : List ℕ) (views : List View) : Type 0 where
+pub record Kept (s : SetupView) (words : List ℕ) (views : List SeatView) : Type 0 where
   pub valid : IsSetup s
   pub count : length words ≡ number_count
   -- the seat that stands for each rank, and the rank's list
   pub owner : ℕ → ℕ
   pub lists : ℕ → List Event
   pub together : Together s (memory_of words) lists
-  pub suits : (seat : ℕ) (v : View) → get_elem? views seat ≡ some v → (r : ℕ) (events : List Event) → known v r ≡ Some events
+  pub suits : (seat : ℕ) (v : SeatView) → get_elem? views seat ≡ some v → (r : ℕ) (events : List Event) → events_of_rank v r ≡ Some events
       → IsSeatOf s owner lists seat r events
 
 -- a table keeps the rule
-abbrev pub Holds : {S : Type 0} → SetupView → State S View → Type 0
-Holds s table = Kept s table.words table.views
+abbrev pub KeepsRule : {S : Type 0} → SetupView → State S SeatView → Type 0
+KeepsRule s table = Kept s table.words table.views
 
 -- what any seat knows: its lists are among lists of all ranks that agree with some memory
-pub record Knows (s : SetupView) (v : View) : Type 0 where
+pub record Knows (s : SetupView) (v : SeatView) : Type 0 where
   pub valid : IsSetup s
   pub memory : Memory
   pub lists : ℕ → List Event
   pub together : Together s memory lists
-  pub list : (r : ℕ) (events : List Event) → known v r ≡ Some events → lists r ≡ events
-  pub below : (r : ℕ) (events : List Event) → known v r ≡ Some events → r < s.nue
+  pub list : (r : ℕ) (events : List Event) → events_of_rank v r ≡ Some events → lists r ≡ events
+  pub below : (r : ℕ) (events : List Event) → events_of_rank v r ≡ Some events → r < s.nue
 
 -- An event of a rank was a step, made after these events of its own: the lists of all ranks agreed with the
 -- memory before it, the event was a step of that memory, and they agree after it. The other ranks that are
 -- known have kept their lists.
-pub record WasStep (s : SetupView) (v : View) (r : ℕ) (events : List Event) (e : Event) : Type 0 where
+pub record WasStep (s : SetupView) (v : SeatView) (r : ℕ) (events : List Event) (e : Event) : Type 0 where
   pub memory : Memory
   pub lists : ℕ → List Event
   pub own : lists r ≡ events
-  pub others : (q : ℕ) (known_events : List Event) → q ≢ r → known v q ≡ Some known_events → lists q ≡ known_events
+  pub others : (q : ℕ) (known_events : List Event) → q ≢ r → events_of_rank v q ≡ Some known_events → lists q ≡ known_events
   pub before : Together s memory lists
   pub step : IsStep memory e
-  pub after : Together s (memory_after memory e) (put lists r (events ++ e ∷ []))
+  pub after : Together s (memory_after memory e) (table_with lists r (events ++ e ∷ []))
 
 -- what a step with one event of a rank does to the view of its seat, and tells
-pub record Made (s : SetupView) (r : ℕ) (old : View) (e : Event) (new : View) : Type 0 where
+pub record Made (s : SetupView) (r : ℕ) (old : SeatView) (e : Event) (new : SeatView) : Type 0 where
   pub view : new ≡ with_event old r e
   pub step : WasStep s old r (list_at old r) e
   pub honest : IsHonest s r (record_of s r (list_at old r)) e
@@ -91,7 +91,7 @@ pub record Made (s : SetupView) (r : ℕ) (old : View) (e : Event) (new : View) 
   pub knows : Knows s new
 
 -- what a look tells
-pub record Looked (s : SetupView) (old new : View) : Type 0 where
+pub record Looked (s : SetupView) (old new : SeatView) : Type 0 where
   pub view : new ≡ old
   pub knows : Knows s new
 

@@ -10,7 +10,7 @@ use Rattle.scc_base.specs.declared.layouts.Layout.TheVariants.{LineFlags}
 use Rattle.scc_proto.specs.Stages.{Record}
 use Rattle.scc_proto.specs.Words.{Memory}
 use Rattle.scc_proto.specs.Ports.{Seat, Sight}
-use Rattle.scc_mesh.specs.SeatViews.{View, known, list_at, IsKnown, without}
+use Rattle.scc_mesh.specs.SeatViews.{SeatView, events_of_rank, list_at, IsKnown, without}
 use Rattle.scc_mesh.specs.AwayRanks.{Ticket}
 use Rattle.scc_mesh.specs.Keeping.{WasStep, Together, Knows, records_by}
 use Rattle.scc_mesh.specs.Spaces.{ChipId}
@@ -19,7 +19,7 @@ use Rattle.scc_mesh.specs.Spaces.{ChipId}
 pub record Scene : Type 0 where
   pub about : SetupView
   pub table : ChipId
-  pub home : View
+  pub home : SeatView
 
 -- a chip is blank, or open
 abbrev pub ChipView : Type 0
@@ -44,12 +44,12 @@ table_in None = blank_table
 table_in (Some scene) = scene.table
 
 -- the lists of the ranks at home
-abbrev pub home_in : ChipView → View
+abbrev pub home_in : ChipView → SeatView
 home_in None = []
 home_in (Some scene) = scene.home
 
 -- the chip with these lists of ranks at home
-abbrev pub with_home : ChipView → View → ChipView
+abbrev pub with_home : ChipView → SeatView → ChipView
 with_home None home = None
 with_home (Some scene) home = Some (record scene { home = home })
 
@@ -98,7 +98,7 @@ is_at_home (Some events) = true
 
 -- whether a port of the rank can be on the chip
 abbrev pub is_port_of : ChipView → ℕ → Bool
-is_port_of chip r = is_chip_open chip && (is_at_home (known (home_in chip) r) && nat_lt r (about_in chip).nue)
+is_port_of chip r = is_chip_open chip && (is_at_home (events_of_rank (home_in chip) r) && nat_lt r (about_in chip).nue)
 
 -- a chip that was just opened: all ranks are at home and have made no event
 pub record IsNew (s : SetupView) (chip : ChipView) : Type 0 where
@@ -112,7 +112,7 @@ KnowsHome None = Unit {0}
 KnowsHome (Some scene) = Knows scene.about scene.home × (length scene.home ≡ scene.about.nue)
 
 -- how what a seat knows is coded as a number: a list of lists of events, by rank
-abbrev pub view_coded : Coded View
+abbrev pub view_coded : Coded SeatView
 view_coded = coded_list (coded_option (coded_list the_row.coded))
 
 -- which chip, as a port tells it
@@ -120,7 +120,7 @@ abbrev pub mark_of : ChipId → Gv
 mark_of table = table_id_coded.code table
 
 -- the lists of the other ranks, where they rest at home meanwhile
-abbrev pub rest_of_seats : View → ℕ → Gv
+abbrev pub rest_of_seats : SeatView → ℕ → Gv
 rest_of_seats home r = view_coded.code (without home r)
 
 -- a port of a chip with the name of the chip that it holds, at a rank
@@ -144,6 +144,6 @@ pub record AgreesAtHome (chip : ChipView) : Type 0 where
 
 -- an event of a port's rank was a step, made while the other ranks that rest had these lists
 pub record WasSeatStep (seat : Seat) (events : List Event) (e : Event) : Type 0 where
-  pub resting : View
+  pub resting : SeatView
   pub rest : seat.rest ≡ view_coded.code resting
   pub step : WasStep seat.setup resting seat.rank events e

@@ -4,7 +4,7 @@ use Rattle.scc_base.specs.Places.{WordAt}
 use Rattle.scc_base.specs.Events.{load_of}
 use Rattle.scc_base.specs.Setups.{SetupView}
 use Rattle.scc_base.specs.declared.events.Event.{Event}
-use Rattle.scc_proto.specs.Tables.{put}
+use Rattle.scc_proto.specs.Tables.{table_with}
 use Rattle.scc_proto.specs.Words.{Memory, word_at}
 use Rattle.scc_proto.specs.Agreement.{Agrees}
 use Rattle.scc_mesh.specs.Keeping.{WasStep, records_by}
@@ -37,7 +37,8 @@ pub record Saw (chip : ChipView) (r : ℕ) (events : List Event) (e : Event) : T
 -- right after a load of a rank at home: some memory agrees with the records of the events until then, and has the value
 pub record AgreesThen (chip : ChipView) (r : ℕ) (events : List Event) (place : WordAt) (value : ℕ) : Type 0 where
   pub memory : Memory
-  pub agree : Agrees (about_in chip) memory (records_by (about_in chip) (put (events_in chip) r (events ++ load_of place value ∷ [])))
+  pub agree : Agrees (about_in chip) memory
+      (records_by (about_in chip) (table_with (events_in chip) r (events ++ load_of place value ∷ [])))
   pub word : word_at memory place ≡ value
 
 -- some memory agrees with the chip's records as they are, and has the value

@@ -1,7 +1,7 @@
 //! An open chip: its words, and the seat of the ranks at home.
 
 ghost use Rattle.std.specs.Prelude.{◌≡◌, ◌<◌, length, slice_set, Some, IfOk};
-ghost use Rattle.scc_mesh.specs.SeatViews.{IsKnown, known, list_at, newcomer, without};
+ghost use Rattle.scc_mesh.specs.SeatViews.{IsKnown, events_of_rank, list_at, newcomer, without};
 ghost use Rattle.scc_mesh.specs.Keeping.{Knows, Made, MayAccess, event_found};
 
 use crate::away::Words;
@@ -88,7 +88,7 @@ impl Board {
         requires of_chip { token.table ≡ self.old.table }
         ensures board { self.new ≡ record self.old { home = slice_set self.old.home token.rank (Some token.events) } }
         ensures below { token.rank < self.old.about.nue }
-        ensures home { known self.new.home token.rank ≡ Some token.events }
+        ensures home { events_of_rank self.new.home token.rank ≡ Some token.events }
     {
         let space = &self.space;
         space.join(&mut self.seat, token.into_seat());

@@ -3,9 +3,9 @@
 ghost use Rattle.std.specs.Prelude.{◌≡◌, ℕ, []};
 ghost use Rattle.scc_base.specs.Setups.{SetupView};
 ghost use Rattle.scc_base.specs.declared.events.Event.{Event};
-ghost use Rattle.scc_mesh.specs.SeatViews.{newcomer, known, without, alone, joined_seats};
+ghost use Rattle.scc_mesh.specs.SeatViews.{newcomer, events_of_rank, without, lone_view, joined_seats};
 ghost use Rattle.scc_mesh.specs.Scenes.{no_setup};
-ghost use Rattle.scc_mesh.specs.Keeping.{Holds, Made, Looked, no_event};
+ghost use Rattle.scc_mesh.specs.Keeping.{KeepsRule, Made, Looked, no_event};
 
 use atomic_table::{Join, Play, Split, TableRule};
 use scc_base::{Event, Setup};
@@ -20,7 +20,7 @@ pub(crate) type View = LinkedList<Option<LinkedList<Event>>>;
 pub(crate) struct Agreement;
 
 impl TableRule<(), View, Setup> for Agreement {
-    ghost holds = { Holds };
+    ghost holds = { KeepsRule };
 
     ghost first = { newcomer };
 }
@@ -68,7 +68,7 @@ pub(crate) struct HandsOut<N> {
 impl<N: Aim> Split<View> for HandsOut<N> {
     ghost left = { λ v. without v N.rank };
 
-    ghost right = { λ v. alone N.rank (known v N.rank) };
+    ghost right = { λ v. lone_view N.rank (events_of_rank v N.rank) };
 }
 
 /// A seat's ranks go into another seat.

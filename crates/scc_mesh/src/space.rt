@@ -1,7 +1,7 @@
 //! The shared words of an open chip, and the steps on them.
 
 ghost use Rattle.std.specs.Prelude.{◌≡◌, ℕ, [], length, slice_index, IfOk};
-ghost use Rattle.scc_mesh.specs.SeatViews.{IsKnown, list_at, known, newcomer, without, alone, joined_seats};
+ghost use Rattle.scc_mesh.specs.SeatViews.{IsKnown, list_at, events_of_rank, newcomer, without, lone_view, joined_seats};
 ghost use Rattle.scc_mesh.specs.Keeping.{Made, Looked, MayAccess, event_found};
 
 use crate::rule::{Agreement, Aim, Goes, HandsOut, Looks, TakesIn, View};
@@ -136,7 +136,7 @@ impl Space {
         requires known { IsKnown seat.old.me.0 rank }
         ensures table { (seat.new.table_id ≡ seat.old.table_id) × (result.table_id ≡ seat.old.table_id) }
         ensures left { seat.new.me ≡ (without seat.old.me.0 rank, seat.old.me.1) }
-        ensures right { result.me ≡ (alone rank (known seat.old.me.0 rank), []) }
+        ensures right { result.me ≡ (lone_view rank (events_of_rank seat.old.me.0 rank), []) }
     {
         self.table.shared.split_seat::<HandsOut<N>>(seat)
     }
@@ -147,7 +147,7 @@ impl Space {
         requires known { IsKnown seat.old.me.0 rank }
         ensures table { (seat.new.table_id ≡ seat.old.table_id) × (result.table_id ≡ seat.old.table_id) }
         ensures left { seat.new.me ≡ (without seat.old.me.0 rank, seat.old.me.1) }
-        ensures right { result.me ≡ (alone rank (known seat.old.me.0 rank), []) }
+        ensures right { result.me ≡ (lone_view rank (events_of_rank seat.old.me.0 rank), []) }
     {
         self.split_as::<Brand>(seat, rank)
     }

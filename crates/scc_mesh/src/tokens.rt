@@ -1,7 +1,7 @@
 //! A rank that is away from its chip.
 
 ghost use Rattle.std.specs.Prelude.{◌≡◌, Some, []};
-ghost use Rattle.scc_mesh.specs.SeatViews.{IsLoneSeat, alone, list_at};
+ghost use Rattle.scc_mesh.specs.SeatViews.{IsLoneSeat, lone_view, list_at};
 ghost use Rattle.scc_mesh.specs.Keeping.{MayAccess, event_found};
 ghost use Rattle.scc_mesh.specs.AwayRanks.{IsSoundAway, MadeAway};
 
@@ -40,7 +40,7 @@ impl Token {
 
     pub(crate) fn into_seat(self) -> Seat<(), View>
         ensures table { result.table_id ≡ self.table }
-        ensures lone { result.me ≡ (alone self.rank (Some self.events), []) }
+        ensures lone { result.me ≡ (lone_view self.rank (Some self.events), []) }
     {
         let Token { seat, rank: _ } = self;
         seat

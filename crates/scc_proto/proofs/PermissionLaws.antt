@@ -6,7 +6,7 @@ use Rattle.scc_base.specs.Places.{WordAt}
 use Rattle.scc_base.specs.Setups.{SetupView}
 use Rattle.scc_base.specs.declared.signals.Signal.{Signal}
 use Rattle.scc_base.specs.declared.signals.Signal.TheVariants.{Sent, Ready}
-use Rattle.scc_proto.specs.Messages.{Notes, Progress, begun, head_of, is_whole}
+use Rattle.scc_proto.specs.Messages.{Notes, Progress, fresh_message, head_of, is_whole}
 use Rattle.scc_proto.specs.Stages.{Part, Filling, Raised, Answered, Stage, Idle, Drafting, Sending, Between, Taking, Barrier, OnItsWay, Record}
 use Rattle.scc_proto.specs.Moves.{Move, DraftHeader, DraftChunk, RaiseSignal, LowerSignal, FlipGather, WriteRelease, Misplaced}
 use Rattle.scc_proto.specs.Permission.{drafts_header, drafts_chunk, is_whole_header, says_head, is_drafted, may_raise, may_take, has_taken, is_answered_by, may_go_on, is_idle, may_release, leaves_heap, permits}
@@ -163,7 +163,7 @@ chunk_where size k v rec = with_no_post rec.post (drafts_chunk rec.stage) (Draft
 -- ---- raising and lowering
 
 abbrev RaisesSent : ℕ → ℕ → Stage → Type 0
-RaisesSent size to stage = ((header chunk : Notes) × (stage ≡ Drafting header chunk) × (is_whole_header header ≡ true) × (is_drafted size (begun (head_of header)) chunk ≡ true))
+RaisesSent size to stage = ((header chunk : Notes) × (stage ≡ Drafting header chunk) × (is_whole_header header ≡ true) × (is_drafted size (fresh_message (head_of header)) chunk ≡ true))
     ⊎ ((message : Progress) × (chunk : Notes) × (stage ≡ Sending to Filling message chunk) × (is_drafted size message chunk ≡ true))
 
 sent_raises : (size to : ℕ) (stage : Stage) → may_raise size to stage ≡ true → RaisesSent size to stage
@@ -172,8 +172,8 @@ sent_raises size to (Drafting header chunk) t = inl (
   header,
   chunk,
   refl,
-  both_first (is_whole_header header) (is_drafted size (begun (head_of header)) chunk) t,
-  both_second (is_whole_header header) (is_drafted size (begun (head_of header)) chunk) t,
+  both_first (is_whole_header header) (is_drafted size (fresh_message (head_of header)) chunk) t,
+  both_second (is_whole_header header) (is_drafted size (fresh_message (head_of header)) chunk) t,
 )
 sent_raises size to (Sending j Filling message chunk) t = inr (
   message,
@@ -188,7 +188,7 @@ sent_raises size to (Taking from message chunk) t = absurd (cc)
 sent_raises size to (Barrier comm seen released) t = absurd (cc)
 
 sent_may : (size to : ℕ) (stage : Stage) → RaisesSent size to stage → may_raise size to stage ≡ true
-sent_may size to stage (inl x) = ap (may_raise size to) x.2 ∙ both (is_whole_header x.0) (is_drafted size (begun (head_of x.0)) x.1) x.3 x.4
+sent_may size to stage (inl x) = ap (may_raise size to) x.2 ∙ both (is_whole_header x.0) (is_drafted size (fresh_message (head_of x.0)) x.1) x.3 x.4
 sent_may size to stage (inr x) = ap (may_raise size to) x.2 ∙ both (to == to) (is_drafted size x.0 x.1) (eqb_same to) x.3
 
 pub raise_where : (size to : ℕ) (rec : Record) → (permits size (RaiseSignal Sent to) rec ≡ true) ↔ ((rec.post ≡ None) × RaisesSent size to rec.stage)

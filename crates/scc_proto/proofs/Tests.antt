@@ -4,13 +4,13 @@ use Rattle.std.proofs.lemmas.Bool.Decides.{nat_tests, eqb_tells}
 use Rattle.scc_base.specs.Setups.{SetupView}
 use Rattle.scc_base.specs.declared.signals.Signal.{Signal}
 use Rattle.scc_base.specs.declared.signals.Signal.TheVariants.{Sent, Ready}
-use Rattle.scc_proto.specs.Tables.{put, put_two, put_signal}
+use Rattle.scc_proto.specs.Tables.{table_with, put_two, put_signal}
 use Rattle.scc_proto.specs.Words.{are_peers}
 
-pub put_here : {A : Type 0} (table : ℕ → A) (i : ℕ) (x : A) → put table i x i ≡ x
+pub put_here : {A : Type 0} (table : ℕ → A) (i : ℕ) (x : A) → table_with table i x i ≡ x
 put_here table i x = grind (arith, nat_tests)
 
-pub put_there : {A : Type 0} (table : ℕ → A) (i : ℕ) (x : A) (k : ℕ) → k ≢ i → put table i x k ≡ table k
+pub put_there : {A : Type 0} (table : ℕ → A) (i : ℕ) (x : A) (k : ℕ) → k ≢ i → table_with table i x k ≡ table k
 put_there table i x k ne = grind (arith, nat_tests)
 
 pub put_two_here : {A : Type 0} (table : ℕ → ℕ → A) (i j : ℕ) (x : A) → put_two table i j x i j ≡ x

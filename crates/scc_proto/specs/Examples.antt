@@ -21,8 +21,8 @@ abbrev pub stores : ℕ → ℕ → ℕ → ℕ → ℕ → RankEvent
 stores rank core line word value = record { rank = rank; event = store_of (record { core = core; line = line; word = word }) value }
 
 -- a rank takes a core's register, which is free
-abbrev pub takes : ℕ → ℕ → RankEvent
-takes rank core = record { rank = rank; event = take_of core true }
+abbrev pub takes_register : ℕ → ℕ → RankEvent
+takes_register rank core = record { rank = rank; event = take_of core true }
 
 -- a rank frees a core's register
 abbrev pub frees : ℕ → ℕ → RankEvent
@@ -109,7 +109,7 @@ two_ranks_bits = two_ranks_by BitFlags
 -- a rank changes a word of line 1 of a core, under the core's register
 abbrev pub changes : (rank core sent ready word new : ℕ) → List RankEvent
 changes rank core sent ready word new =
-    takes rank core ∷ loads rank core 1 0 sent ∷ loads rank core 1 1 ready ∷ loads rank core 1 2 0 ∷ loads rank core 1 3 0
+    takes_register rank core ∷ loads rank core 1 0 sent ∷ loads rank core 1 1 ready ∷ loads rank core 1 2 0 ∷ loads rank core 1 3 0
     ∷ stores rank core 1 word new ∷ frees rank core ∷ []
 
 -- rank 1 sends one byte to rank 0: it sets bit 1 of the `sent` flags of rank 0, which lowers it and sets
@@ -129,14 +129,14 @@ abbrev pub one_byte_bits : List RankEvent
 one_byte_bits = byte_by_bits 0
 
 -- the record after moves, where a whole chunk has `size` bytes
-abbrev pub moved : ℕ → Record → List Move → Record
-moved size rec [] = rec
-moved size rec (move ∷ moves) = moved size (after size move rec) moves
+abbrev pub after_moves : ℕ → Record → List Move → Record
+after_moves size rec [] = rec
+after_moves size rec (move ∷ moves) = after_moves size (after size move rec) moves
 
 -- what stands for the numbers 0 to n - 1, in this order
-unfoldable pub for_each : {A : Type 0} → (ℕ → A) → ℕ → List A
-for_each of zero = []
-for_each of (suc n) = for_each of n ++ of n ∷ []
+unfoldable pub for_numbers : {A : Type 0} → (ℕ → A) → ℕ → List A
+for_numbers of zero = []
+for_numbers of (suc n) = for_numbers of n ++ of n ∷ []
 
 -- rank 0 stores word k of its chunk buffer
 abbrev pub drafts_word : Layout → (ℕ → ℕ) → ℕ → RankEvent
@@ -190,8 +190,9 @@ goes_second layout = lowers_ready layout
 -- a message of one byte more than a whole chunk goes from rank 0 to rank 1: the first chunk has these words, and the one
 -- byte of the second one is 07
 abbrev pub two_chunks_by : Layout → (ℕ → ℕ) → List RankEvent
-two_chunks_by layout word = drafts_head layout ++ (for_each (drafts_word layout word) (4 * chunk_lines layout)
-    ++ (begins_first layout ++ (for_each (loads_word layout word) (4 * chunk_lines layout) ++ (raises_ready layout ++ goes_second layout))))
+two_chunks_by layout word = drafts_head layout ++ (for_numbers (drafts_word layout word) (4 * chunk_lines layout)
+    ++ (begins_first layout
+    ++ (for_numbers (loads_word layout word) (4 * chunk_lines layout) ++ (raises_ready layout ++ goes_second layout))))
 
 -- a message of 3,585 bytes from rank 0 to rank 1, of two chunks, whatever its words are
 abbrev pub two_chunks : (ℕ → ℕ) → List RankEvent
@@ -202,5 +203,5 @@ abbrev pub two_chunks_bits : (ℕ → ℕ) → List RankEvent
 two_chunks_bits word = two_chunks_by BitFlags word
 
 -- the first n bytes of words of eight bytes, the lowest first
-unfoldable pub bytes_of : (ℕ → ℕ) → ℕ → List ℕ
-bytes_of word n = map (λ b. byte_of_word (word (b / 8)) (b % 8)) (range_with_len 0 n)
+unfoldable pub bytes_of_words : (ℕ → ℕ) → ℕ → List ℕ
+bytes_of_words word n = map (λ b. byte_of_word (word (b / 8)) (b % 8)) (range_with_len 0 n)

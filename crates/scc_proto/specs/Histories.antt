@@ -3,7 +3,7 @@ use Rattle.std.specs.Prelude.{ℕ, ◌<◌, ◌==◌, if◌then◌else◌, List,
 use Rattle.scc_base.specs.Events.{IsEvent}
 use Rattle.scc_base.specs.Setups.{SetupView}
 use Rattle.scc_base.specs.declared.events.Event.{Event}
-use Rattle.scc_proto.specs.Tables.{put}
+use Rattle.scc_proto.specs.Tables.{table_with}
 use Rattle.scc_proto.specs.Stages.{Record}
 use Rattle.scc_proto.specs.Words.{Memory, memory_after, RankEvent}
 use Rattle.scc_proto.specs.Records.{IsPermitted, record_after, record_of}
@@ -20,7 +20,7 @@ records_of s run = λ r. record_of s r (events_of r run)
 -- the records of all ranks after more events of all ranks, from these records on
 abbrev pub records_from : SetupView → (ℕ → Record) → List RankEvent → ℕ → Record
 records_from s records [] = records
-records_from s records (e ∷ es) = records_from s (put records e.rank (record_after s e.rank (records e.rank) e.event)) es
+records_from s records (e ∷ es) = records_from s (table_with records e.rank (record_after s e.rank (records e.rank) e.event)) es
 
 -- the memory after all events of a list
 abbrev pub memory_from : Memory → List RankEvent → Memory
@@ -31,4 +31,4 @@ memory_from memory (e ∷ es) = memory_from (memory_after memory e.event) es
 abbrev pub IsPermittedRun : SetupView → (ℕ → Record) → List RankEvent → Type 0
 IsPermittedRun s records [] = Unit {0}
 IsPermittedRun s records (e ∷ es) = (e.rank < s.nue) × IsEvent e.event × IsPermitted s e.rank (records e.rank) e.event
-    × IsPermittedRun s (put records e.rank (record_after s e.rank (records e.rank) e.event)) es
+    × IsPermittedRun s (table_with records e.rank (record_after s e.rank (records e.rank) e.event)) es

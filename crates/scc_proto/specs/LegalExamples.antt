@@ -25,12 +25,12 @@ abbrev pub four_bytes : ℕ → Outgoing
 four_bytes to = record { to = to; head = plain_head 4; bytes = 1 ∷ 2 ∷ 3 ∷ 4 ∷ [] }
 
 -- the call that sends a message
-abbrev pub sending : Outgoing → DataCall
-sending m = DataCall.Send m.to m.head m.bytes
+abbrev pub send_of_message : Outgoing → DataCall
+send_of_message m = DataCall.Send m.to m.head m.bytes
 
 -- the call that receives a message from this rank
-abbrev pub receiving : ℕ → Outgoing → DataCall
-receiving from m = DataCall.Recv from m.head m.bytes
+abbrev pub receive_of_message : ℕ → Outgoing → DataCall
+receive_of_message from m = DataCall.Recv from m.head m.bytes
 
 -- the call that posts a message
 abbrev pub posting : Outgoing → DataCall

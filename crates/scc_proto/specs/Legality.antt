@@ -68,11 +68,11 @@ call_at (Pairing from message) k = if k == from then Send message.to message.hea
 call_at (Meeting comm root) k = Bar comm
 
 -- the rank on whose slot a step looks: none for a barrier
-abbrev pub slot_at : CallStep → ℕ → Bool
-slot_at (Posting from message) = only from
-slot_at (Taking from message) = only from
-slot_at (Pairing from message) = only from
-slot_at (Meeting comm root) = λ k. false
+abbrev pub looks_at_slot : CallStep → ℕ → Bool
+looks_at_slot (Posting from message) = only from
+looks_at_slot (Taking from message) = only from
+looks_at_slot (Pairing from message) = only from
+looks_at_slot (Meeting comm root) = λ k. false
 
 -- what stands in a step's slot before it: a post and a send wait for an empty slot
 abbrev pub slot_before : CallStep → Option Outgoing
@@ -92,7 +92,7 @@ slot_after (Meeting comm root) = None
 pub record Makes (nue : ℕ) (keys : ℕ → ℕ → ℕ) (step : CallStep) (old new : Standing) : Type 0 where
   pub proper : IsProper nue keys step
   pub calls : Change (callers nue keys step) (λ k before after. before ≡ call_at step k ∷ after) old.calls new.calls
-  pub slots : Change (slot_at step) (λ k before after. (before ≡ slot_before step) × (after ≡ slot_after step)) old.slots new.slots
+  pub slots : Change (looks_at_slot step) (λ k before after. (before ≡ slot_before step) × (after ≡ slot_after step)) old.slots new.slots
 
 -- a step of this owner leads from one standing to another
 abbrev pub OwnStep : ℕ → (ℕ → ℕ → ℕ) → ℕ → Standing → Standing → Type 0
@@ -118,21 +118,21 @@ abbrev pub UsesUp : ℕ → (ℕ → ℕ → ℕ) → (ℕ → Option Outgoing) 
 UsesUp nue keys old calls new = (n : ℕ) × Runs (OwnStep nue keys) (IsUsedUp new) n (record { calls = calls; slots = old })
 
 -- the calls of a step, as lists: one call of each of its callers
-abbrev pub calls_of : ℕ → (ℕ → ℕ → ℕ) → CallStep → ℕ → List DataCall
-calls_of nue keys step k = if callers nue keys step k then call_at step k ∷ [] else []
+abbrev pub calls_of_step : ℕ → (ℕ → ℕ → ℕ) → CallStep → ℕ → List DataCall
+calls_of_step nue keys step k = if callers nue keys step k then call_at step k ∷ [] else []
 
 -- the slots after a step
 abbrev pub slots_after : CallStep → (ℕ → Option Outgoing) → ℕ → Option Outgoing
-slots_after step slots k = if slot_at step k then slot_after step else slots k
+slots_after step slots k = if looks_at_slot step k then slot_after step else slots k
 
 -- a step can be made with these slots
 pub record CanFollow (nue : ℕ) (keys : ℕ → ℕ → ℕ) (step : CallStep) (slots : ℕ → Option Outgoing) : Type 0 where
   pub proper : IsProper nue keys step
-  pub slot : (k : ℕ) → slot_at step k ≡ true → slots k ≡ slot_before step
+  pub slot : (k : ℕ) → looks_at_slot step k ≡ true → slots k ≡ slot_before step
 
 -- each rank has made the calls of a step at the end of its list
 abbrev pub HaveMade : ℕ → (ℕ → ℕ → ℕ) → CallStep → (ℕ → List DataCall) → (ℕ → List DataCall) → Type 0
-HaveMade nue keys step old new = (k : ℕ) → new k ≡ old k ++ calls_of nue keys step k
+HaveMade nue keys step old new = (k : ℕ) → new k ≡ old k ++ calls_of_step nue keys step k
 
 -- the slots are those after a step
 abbrev pub HaveMoved : CallStep → (ℕ → Option Outgoing) → (ℕ → Option Outgoing) → Type 0

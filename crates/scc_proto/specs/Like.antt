@@ -4,12 +4,12 @@ use Rattle.std.specs.Prelude.{◌≡◌, ℕ, false, option_map}
 use Rattle.scc_proto.specs.Stages.{OnItsWay, Record}
 
 -- a posted message on its way, as it is before its `ready` is seen
-abbrev pub unanswered : OnItsWay → OnItsWay
-unanswered post = record post { is_answered = false }
+abbrev pub as_unanswered : OnItsWay → OnItsWay
+as_unanswered post = record post { is_answered = false }
 
 -- two records of one rank that are alike up to looks and the answer to a posted message
 pub record Like (rec other : Record) : Type 0 where
   pub stage : rec.stage ≡ other.stage
-  pub post : option_map unanswered rec.post ≡ option_map unanswered other.post
+  pub post : option_map as_unanswered rec.post ≡ option_map as_unanswered other.post
   pub flips : (comm : ℕ) → rec.flips comm ≡ other.flips comm
   pub calls : rec.calls ≡ other.calls

@@ -3,7 +3,7 @@ use Rattle.std.specs.Prelude.{◌≡◌, ℕ, ◌<◌, List, [], map, length}
 use base.Stored.{gnil}
 use Rattle.scc_base.specs.Setups.{SetupView, IsSetup}
 use Rattle.scc_base.specs.declared.events.Event.{Event}
-use Rattle.scc_proto.specs.Tables.{put}
+use Rattle.scc_proto.specs.Tables.{table_with}
 use Rattle.scc_proto.specs.Stages.{Record}
 use Rattle.scc_proto.specs.Words.{Memory, zeros, SameWords}
 use Rattle.scc_proto.specs.Records.{record_of}
@@ -18,7 +18,7 @@ memory_since me events = memory_from zeros (map (λ (e : Event). record { rank =
 
 -- the lists of the events of all ranks, where one rank alone has made some
 abbrev pub lists_alone : ℕ → List Event → ℕ → List Event
-lists_alone me events = put (λ r. []) me events
+lists_alone me events = table_with (λ r. []) me events
 
 -- the records of all ranks, where one rank alone has made events
 abbrev pub records_alone : SetupView → ℕ → List Event → ℕ → Record

@@ -16,9 +16,9 @@ abbrev pub Notes : Type 0
 Notes = List Note
 
 -- what is noted under a number
-abbrev pub noted : Notes → ℕ → Option ℕ
-noted [] k = None
-noted (note ∷ notes) k = if k == note.number then Some note.word else noted notes k
+abbrev pub noted_word : Notes → ℕ → Option ℕ
+noted_word [] k = None
+noted_word (note ∷ notes) k = if k == note.number then Some note.word else noted_word notes k
 
 -- one more word is noted, and counts before what was noted of the same word
 abbrev pub note_word : ℕ → ℕ → Notes → Notes
@@ -26,16 +26,16 @@ note_word k v notes = record { number = k; word = v } ∷ notes
 
 -- each word that is noted stands in the buffer
 abbrev pub StandsIn : Notes → (ℕ → ℕ) → Type 0
-StandsIn notes buffer = (k v : ℕ) → noted notes k ≡ Some v → buffer k ≡ v
+StandsIn notes buffer = (k v : ℕ) → noted_word notes k ≡ Some v → buffer k ≡ v
 
 -- the first n words are all noted
 unfoldable pub has_all : Notes → ℕ → Bool
 has_all notes zero = true
-has_all notes (suc n) = is_some (noted notes n) && has_all notes n
+has_all notes (suc n) = is_some (noted_word notes n) && has_all notes n
 
 -- byte b of the noted words, 0 where its word is not noted
 abbrev pub byte_at : Notes → ℕ → ℕ
-byte_at notes b = byte_of_word (unwrap_or (noted notes (b / 8)) 0) (b % 8)
+byte_at notes b = byte_of_word (unwrap_or (noted_word notes (b / 8)) 0) (b % 8)
 
 -- n bytes of the noted words, from byte `start` on
 unfoldable pub bytes_from : Notes → ℕ → ℕ → List ℕ
@@ -56,7 +56,8 @@ header_word head posted (suc (suc (suc _))) = if posted then 1 else 0
 
 -- the head that the noted header words say
 abbrev pub head_of : Notes → MessageHead
-head_of notes = record { kind = unwrap_or (noted notes 0) 0; comm = unwrap_or (noted notes 1) 0; len = unwrap_or (noted notes 2) 0 }
+head_of notes =
+    record { kind = unwrap_or (noted_word notes 0) 0; comm = unwrap_or (noted_word notes 1) 0; len = unwrap_or (noted_word notes 2) 0 }
 
 -- a head that a message may have
 abbrev pub is_head : MessageHead → Bool
@@ -74,8 +75,8 @@ pub record Progress : Type 0 where
   pub bytes : List ℕ
 
 -- a message of which nothing is through yet
-abbrev pub begun : MessageHead → Progress
-begun head = record { head = head; chunks = 0; bytes = [] }
+abbrev pub fresh_message : MessageHead → Progress
+fresh_message head = record { head = head; chunks = 0; bytes = [] }
 
 -- the bytes of the chunk in hand, where a whole chunk has `size` bytes
 abbrev pub chunk_bytes : ℕ → Progress → ℕ

@@ -5,8 +5,8 @@ use Rattle.scc_base.specs.Calls.{DataCall, Bar}
 use Rattle.scc_base.specs.Places.{WordAt}
 use Rattle.scc_base.specs.declared.signals.Signal.{Signal}
 use Rattle.scc_base.specs.declared.signals.Signal.TheVariants.{Sent, Ready}
-use Rattle.scc_proto.specs.Tables.{put}
-use Rattle.scc_proto.specs.Messages.{Notes, noted, note_word, head_of, begun, is_last, with_chunk, message_of, send_to, recv_from, post_to}
+use Rattle.scc_proto.specs.Tables.{table_with}
+use Rattle.scc_proto.specs.Messages.{Notes, noted_word, note_word, head_of, fresh_message, is_last, with_chunk, message_of, send_to, recv_from, post_to}
 use Rattle.scc_proto.specs.Stages.{Filling, Raised, Answered, Stage, Idle, Drafting, Sending, Between, Taking, Barrier, OnItsWay, HeapStore, Record}
 
 -- what one event is to the messages, the barriers and the heap. `last` is the place of the last member in
@@ -31,7 +31,7 @@ pub data Move : Type 0 where
 
 -- the message is to be posted: word 3 of its header line is 1
 abbrev pub is_posted : Notes → Bool
-is_posted header = unwrap_or (noted header 3) 0 == 1
+is_posted header = unwrap_or (noted_word header 3) 0 == 1
 
 -- a header word is drafted
 abbrev pub draft_header : ℕ → ℕ → Stage → Stage
@@ -48,7 +48,7 @@ draft_chunk k v stage = stage
 
 -- a posted message leaves the stage at its raise, any other stays in it
 abbrev pub raise_sent : ℕ → Stage → Stage
-raise_sent to (Drafting header chunk) = if is_posted header then Idle else Sending to Raised (begun (head_of header)) chunk
+raise_sent to (Drafting header chunk) = if is_posted header then Idle else Sending to Raised (fresh_message (head_of header)) chunk
 raise_sent to (Sending j Filling message chunk) = Sending to Raised message chunk
 raise_sent to stage = stage
 
@@ -59,7 +59,7 @@ read_chunk from k v stage = stage
 
 -- a first chunk is taken behind the header that was loaded, a later one behind the chunk before it
 abbrev pub lower_sent : ℕ → Notes → Stage → Stage
-lower_sent from header Idle = Taking from (begun (head_of header)) []
+lower_sent from header Idle = Taking from (fresh_message (head_of header)) []
 lower_sent from header (Between i message) = Taking from message []
 lower_sent from header stage = stage
 
@@ -137,13 +137,13 @@ post_after move rec = rec.post
 -- whose `sent` was seen, with the header words loaded since
 abbrev pub notes_after : Move → (ℕ → Option Notes) → ℕ → Option Notes
 notes_after (LookSignal Sent is_set) notes = λ j. if is_set j then Some [] else notes j
-notes_after (ReadHeader from k v) notes = put notes from (option_map (note_word k v) (notes from))
-notes_after (LowerSignal Sent from) notes = put notes from None
+notes_after (ReadHeader from k v) notes = table_with notes from (option_map (note_word k v) (notes from))
+notes_after (LowerSignal Sent from) notes = table_with notes from None
 notes_after move notes = notes
 
 -- how often each own gather flag was flipped, after a move
 abbrev pub flips_after : Move → (ℕ → ℕ) → ℕ → ℕ
-flips_after (FlipGather comm value last) flips = put flips comm (suc (flips comm))
+flips_after (FlipGather comm value last) flips = table_with flips comm (suc (flips comm))
 flips_after move flips = flips
 
 -- the own stores to heap words, after a move
@@ -158,7 +158,7 @@ finished_if is_finished call calls = if is_finished then calls ++ call ∷ [] el
 -- the calls after a raise of `sent`: a post is finished by it
 abbrev pub calls_raised : ℕ → ℕ → Stage → List DataCall → List DataCall
 calls_raised size to (Drafting header chunk) calls =
-    finished_if (is_posted header) (post_to to (message_of (with_chunk size (begun (head_of header)) chunk))) calls
+    finished_if (is_posted header) (post_to to (message_of (with_chunk size (fresh_message (head_of header)) chunk))) calls
 calls_raised size to stage calls = calls
 
 -- the calls after a raise of `ready`: a receive is finished with its last chunk

@@ -2,7 +2,7 @@
 use Rattle.std.specs.Prelude.{◌≡◌, ℕ, ◌==◌, if◌then◌else◌, [], ◌∷◌, ◌++◌, Option, Some, None}
 use Rattle.scc_base.specs.Calls.{Message}
 use Rattle.scc_base.specs.Setups.{SetupView}
-use Rattle.scc_proto.specs.Messages.{begun, with_chunk, message_of, sent_messages, received_messages}
+use Rattle.scc_proto.specs.Messages.{fresh_message, with_chunk, message_of, sent_messages, received_messages}
 use Rattle.scc_proto.specs.Stages.{Stage, Sending, OnItsWay, Record}
 use Rattle.scc_proto.specs.Records.{chunk_of}
 use Rattle.scc_proto.specs.Passed.{in_hand}
@@ -15,7 +15,8 @@ open_message size to stage = None
 -- the message that was posted to a rank and is on its way
 abbrev pub posted_message : ℕ → ℕ → Option OnItsWay → Option Message
 posted_message size to None = None
-posted_message size to (Some post) = if post.to == to then Some (message_of (with_chunk size (begun post.head) post.chunk)) else None
+posted_message size to (Some post) =
+    if post.to == to then Some (message_of (with_chunk size (fresh_message post.head) post.chunk)) else None
 
 -- what a rank has received of another one, against what that one has sent and posted to it: the same; or the open
 -- message besides; or all but the last, which was posted and is on its way

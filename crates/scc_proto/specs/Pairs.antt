@@ -4,7 +4,7 @@ use Rattle.std.specs.Prelude.{◌≡◌, ℕ, ◌<◌, Bool, true, false, ◌==�
 use Rattle.scc_base.specs.Calls.{Message}
 use Rattle.scc_base.specs.declared.signals.Signal.TheVariants.{Sent, Ready}
 use Rattle.scc_base.specs.Heads.{MessageHead}
-use Rattle.scc_proto.specs.Messages.{Notes, StandsIn, header_word, Progress, begun, is_last, with_chunk, message_of, sent_messages, received_messages}
+use Rattle.scc_proto.specs.Messages.{Notes, StandsIn, header_word, Progress, fresh_message, is_last, with_chunk, message_of, sent_messages, received_messages}
 use Rattle.scc_proto.specs.Stages.{Part, Filling, Raised, Answered, Stage, Drafting, Sending, Between, Taking, OnItsWay, Record}
 use Rattle.scc_proto.specs.Views.{View}
 
@@ -28,7 +28,7 @@ side_of_part Answered message chunk = Offering true false message chunk
 -- the sender's side of a pair, by the message that it posted
 abbrev pub side_of_post : ℕ → Option OnItsWay → SendingSide
 side_of_post r None = Resting None
-side_of_post r (Some post) = if post.to == r then Offering post.is_answered true (begun post.head) post.chunk else Resting None
+side_of_post r (Some post) = if post.to == r then Offering post.is_answered true (fresh_message post.head) post.chunk else Resting None
 
 -- a rank's side toward a receiver
 abbrev pub sending_side : ℕ → Stage → Option OnItsWay → SendingSide
@@ -70,9 +70,9 @@ pair_of s r view sender receiver = record {
 }
 
 -- the message as it goes on, with nothing or something through
-abbrev pub resumed : Option Progress → MessageHead → Progress
-resumed None head = begun head
-resumed (Some message) head = message
+abbrev pub message_so_far : Option Progress → MessageHead → Progress
+message_so_far None head = fresh_message head
+message_so_far (Some message) head = message
 
 -- a posted message counts as sent from its raise on
 abbrev pub pending : ℕ → Bool → Progress → Notes → List Message
@@ -100,10 +100,10 @@ pub record AtRest (x : Pair) (through : Option Progress) : Type 0 where
 pub record IsRaised (size : ℕ) (x : Pair) (through : Option Progress) (head : MessageHead) (is_post : Bool) (chunk : Notes) : Type 0 where
   pub sent_flag : x.sent_flag ≡ 1
   pub ready_flag : x.ready_flag ≡ 0
-  pub sending : x.sending ≡ Offering false is_post (resumed through head) chunk
+  pub sending : x.sending ≡ Offering false is_post (message_so_far through head) chunk
   pub taking : x.taking ≡ Awaiting through
   pub notes : NotesStand x.notes x.header
-  pub level : x.sent ≡ x.received ++ pending size is_post (resumed through head) chunk
+  pub level : x.sent ≡ x.received ++ pending size is_post (message_so_far through head) chunk
 
 -- the receiver has lowered `sent` and loads the chunk
 pub record IsTaken (size : ℕ) (x : Pair) (message : Progress) (is_post : Bool) (chunk words : Notes) : Type 0 where

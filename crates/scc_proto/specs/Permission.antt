@@ -1,7 +1,7 @@
 -- Which move a record permits next (this project's profile).
 use Rattle.std.specs.Prelude.{ℕ, suc, ◌-◌, ◌%◌, Bool, true, false, ◌&&◌, ◌==◌, if◌then◌else◌, [], ◌∷◌, Option, Some, None, unwrap_or, is_none}
 use Rattle.scc_base.specs.declared.signals.Signal.TheVariants.{Sent, Ready}
-use Rattle.scc_proto.specs.Messages.{Notes, noted, has_all, head_of, is_head, is_post_head, Progress, begun, is_whole, is_padded}
+use Rattle.scc_proto.specs.Messages.{Notes, noted_word, has_all, head_of, is_head, is_post_head, Progress, fresh_message, is_whole, is_padded}
 use Rattle.scc_proto.specs.Stages.{Filling, Answered, Stage, Idle, Drafting, Sending, Between, Taking, Barrier, OnItsWay, Record}
 use Rattle.scc_proto.specs.Moves.{Move, DraftHeader, DraftChunk, RaiseSignal, LowerSignal, FlipGather, WriteRelease, StoreHeap, Misplaced, is_posted}
 
@@ -20,7 +20,7 @@ drafts_chunk stage = false
 
 -- word 3 is 0, or it is 1 beside a head that a posted message may have
 abbrev pub is_post_word : Notes → Bool
-is_post_word header = if is_posted header then is_post_head (head_of header) else unwrap_or (noted header 3) 0 == 0
+is_post_word header = if is_posted header then is_post_head (head_of header) else unwrap_or (noted_word header 3) 0 == 0
 
 -- all four words of a header line that a message may have
 abbrev pub is_whole_header : Notes → Bool
@@ -36,7 +36,7 @@ is_drafted size message chunk = is_whole size message chunk && is_padded size me
 
 -- `sent` is raised over a whole header line and a whole chunk, and for a later chunk at the same rank
 abbrev pub may_raise : ℕ → ℕ → Stage → Bool
-may_raise size to (Drafting header chunk) = is_whole_header header && is_drafted size (begun (head_of header)) chunk
+may_raise size to (Drafting header chunk) = is_whole_header header && is_drafted size (fresh_message (head_of header)) chunk
 may_raise size to (Sending j Filling message chunk) = (j == to) && is_drafted size message chunk
 may_raise size to stage = false
 

@@ -9,8 +9,8 @@ use Rattle.scc_base.specs.declared.events.Access.TheVariants.{Load, Store, Take,
 use Rattle.scc_base.specs.declared.events.Event.{Event}
 use Rattle.scc_base.specs.declared.signals.Signal.{Signal}
 use Rattle.scc_base.specs.declared.signals.Signal.TheVariants.{Sent, Ready}
-use Rattle.scc_proto.specs.Tables.{put}
-use Rattle.scc_proto.specs.Messages.{Notes, noted}
+use Rattle.scc_proto.specs.Tables.{table_with}
+use Rattle.scc_proto.specs.Messages.{Notes, noted_word}
 use Rattle.scc_proto.specs.Stages.{Stage, Taking, FlagWords, Record, blank}
 use Rattle.scc_proto.specs.Moves.{Move, DraftHeader, DraftChunk, RaiseSignal, LookSignal, ReadHeader, ReadChunk, LowerSignal, FlipGather, LookGather, WriteRelease, LookRelease, StoreHeap, NoMove, Misplaced, after}
 use Rattle.scc_proto.specs.Permission.{permits}
@@ -98,34 +98,34 @@ store_by s me rec place value IdleWord = Misplaced
 
 -- what one event is to the record of its rank. Under the register of its core a word of bit flags is
 -- noted by a load, and changed by a store, which is the move.
-pub data Act : Type 0 where
-  Moving : Move → Act
-  NotingSignal : Signal → (core value : ℕ) → Act
-  ChangingSignal : Signal → (core : ℕ) → Move → Act
-  Holding : (core : ℕ) → Act
-  Freeing : (core : ℕ) → Act
+pub data EventAct : Type 0 where
+  Moving : Move → EventAct
+  NotingSignal : Signal → (core value : ℕ) → EventAct
+  ChangingSignal : Signal → (core : ℕ) → Move → EventAct
+  Holding : (core : ℕ) → EventAct
+  Freeing : (core : ℕ) → EventAct
 
 -- what a load is to the record: of bit flags under the own hold of their register it notes the word, else it is a move
-abbrev pub load_act : SetupView → ℕ → Record → WordAt → ℕ → Role → Act
+abbrev pub load_act : SetupView → ℕ → Record → WordAt → ℕ → Role → EventAct
 load_act s me rec place value (SignalFlags signal at) =
     if is_some (rec.held place.core) then NotingSignal signal place.core value else Moving (load_by s me value (SignalFlags signal at))
 load_act s me rec place value role = Moving (load_by s me value role)
 
 -- what a store is to the record: of bit flags it changes a noted word, else it is a move
-abbrev pub store_act : SetupView → ℕ → Record → WordAt → ℕ → Role → Act
+abbrev pub store_act : SetupView → ℕ → Record → WordAt → ℕ → Role → EventAct
 store_act s me rec place value (SignalFlags signal at) =
     ChangingSignal signal place.core (store_by s me rec place value (SignalFlags signal at))
 store_act s me rec place value role = Moving (store_by s me rec place value role)
 
 -- what an access to a place is to the record
-abbrev pub act_by : SetupView → ℕ → Record → Access → WordAt → ℕ → Act
+abbrev pub act_by : SetupView → ℕ → Record → Access → WordAt → ℕ → EventAct
 act_by s me rec Load place value = load_act s me rec place value (role_of s place)
 act_by s me rec Store place value = store_act s me rec place value (role_of s place)
 act_by s me rec Take place value = if value == 1 then Holding place.core else Moving NoMove
 act_by s me rec Free place value = Freeing place.core
 
 -- what the event of rank `me` is to its record
-unfoldable pub act_of : SetupView → ℕ → Record → Event → Act
+unfoldable pub act_of : SetupView → ℕ → Record → Event → EventAct
 act_of s me rec e = act_by s me rec e.access e.place e.value
 
 -- the words of a core with another word of a signal's flags, a noted one or none
@@ -143,18 +143,18 @@ forget_flags signal flags = set_flags signal None flags
 
 -- the flag words under the hold of one core's register, changed
 abbrev pub change_held : (FlagWords → FlagWords) → ℕ → Record → Record
-change_held change core rec = record rec { held = put rec.held core (option_map change (rec.held core)) }
+change_held change core rec = record rec { held = table_with rec.held core (option_map change (rec.held core)) }
 
 -- the record after an act that it permits
-abbrev pub after_act : ℕ → Act → Record → Record
+abbrev pub after_act : ℕ → EventAct → Record → Record
 after_act size (Moving move) rec = after size move rec
 after_act size (NotingSignal signal core value) rec = change_held (note_flags signal value) core rec
 after_act size (ChangingSignal signal core move) rec = change_held (forget_flags signal) core (after size move rec)
-after_act size (Holding core) rec = record rec { held = put rec.held core (Some (record { sent = None; ready = None })) }
-after_act size (Freeing core) rec = record rec { held = put rec.held core None }
+after_act size (Holding core) rec = record rec { held = table_with rec.held core (Some (record { sent = None; ready = None })) }
+after_act size (Freeing core) rec = record rec { held = table_with rec.held core None }
 
 -- the record permits the act: a move that it permits, a take of a register that it does not hold, a free of one that it holds
-abbrev pub permits_act : ℕ → Act → Record → Bool
+abbrev pub permits_act : ℕ → EventAct → Record → Bool
 permits_act size (Moving move) rec = permits size move rec
 permits_act size (ChangingSignal signal core move) rec = permits size move rec
 permits_act size (Holding core) rec = is_none (rec.held core)
@@ -191,12 +191,12 @@ record_of s me events = record_from s me blank events
 
 -- the value noted of a word of the chunk that is being taken from this rank
 abbrev pub noted_chunk : ℕ → ℕ → Stage → Option ℕ
-noted_chunk from k (Taking i message chunk) = if i == from then noted chunk k else None
+noted_chunk from k (Taking i message chunk) = if i == from then noted_word chunk k else None
 noted_chunk from k stage = None
 
 -- the value noted of the word that a load reads: a header word of a rank that was seen, or a chunk word
 abbrev pub noted_by : Move → Record → Option ℕ
-noted_by (ReadHeader from k value) rec = option_and_then (λ (header : Notes). noted header k) (rec.notes from)
+noted_by (ReadHeader from k value) rec = option_and_then (λ (header : Notes). noted_word header k) (rec.notes from)
 noted_by (ReadChunk from k value) rec = noted_chunk from k rec.stage
 noted_by move rec = None
 

@@ -10,7 +10,7 @@ use Rattle.scc_proto.specs.Moves.{Move, DraftHeader, DraftChunk, RaiseSignal, Lo
 use Rattle.scc_proto.specs.Permission.{permits}
 use Rattle.scc_proto.specs.Words.{RankEvent}
 use Rattle.scc_proto.specs.Records.{look_at, is_permitted, record_after}
-use Rattle.scc_proto.specs.Examples.{loads, stores, takes, frees}
+use Rattle.scc_proto.specs.Examples.{loads, stores, takes_register, frees}
 
 -- each of these moves is permitted in turn, and the next one is not, where a whole chunk has `size` bytes
 abbrev pub stops_before : ℕ → Move → Record → List Move → Bool
@@ -114,11 +114,11 @@ sees_bit = loads 0 0 1 0 2 ∷ reads_empty 0 1
 
 -- two ranks with bit flags: rank 0 has seen the bit of rank 1, read its head, and lowered the bit under its own register
 abbrev pub takes_bit : List RankEvent
-takes_bit = sees_bit ++ takes 0 0 ∷ loads 0 0 1 0 2 ∷ stores 0 0 1 0 0 ∷ frees 0 0 ∷ []
+takes_bit = sees_bit ++ takes_register 0 0 ∷ loads 0 0 1 0 2 ∷ stores 0 0 1 0 0 ∷ frees 0 0 ∷ []
 
 -- two ranks with bit flags: rank 1 has a draft and the register of rank 0
 abbrev pub holds_draft : List RankEvent
-holds_draft = drafts_empty 1 1 ++ takes 1 0 ∷ []
+holds_draft = drafts_empty 1 1 ++ takes_register 1 0 ∷ []
 
 -- two ranks with bit flags: rank 1 has a draft and the register of rank 0, and has set its bit there
 abbrev pub sets_bit : List RankEvent

@@ -3,7 +3,7 @@ use Rattle.std.specs.Prelude.{◌≡◌, ℕ, ◌+◌, ◌*◌, ◌<◌, ◌≤�
 use Rattle.scc_base.specs.Calls.{DataCall, Send, Recv, Post, Bar}
 use Rattle.scc_base.specs.Heads.{MessageHead}
 use Rattle.scc_base.specs.Setups.{SetupView, place_of}
-use Rattle.scc_proto.specs.Messages.{Notes, Progress, begun, is_whole, is_head, is_post_head, barriers_of}
+use Rattle.scc_proto.specs.Messages.{Notes, Progress, fresh_message, is_whole, is_head, is_post_head, barriers_of}
 use Rattle.scc_proto.specs.Stages.{Part, Filling, Raised, Answered, Stage, Drafting, Sending, Between, Taking, Barrier, OnItsWay, Record}
 use Rattle.scc_proto.specs.Words.{are_peers, is_present}
 use Rattle.scc_proto.specs.Records.{chunk_of, last_of}
@@ -20,11 +20,11 @@ pub record IsWholeMessage (s : SetupView) (me other : ℕ) (test : MessageHead �
   pub each : AreBytes bytes
 
 -- a call that a rank of the run can make, with all its bytes
-abbrev pub IsMade : SetupView → ℕ → DataCall → Type 0
-IsMade s me (Send to head bytes) = IsWholeMessage s me to is_head head bytes
-IsMade s me (Recv from head bytes) = IsWholeMessage s me from is_head head bytes
-IsMade s me (Post to head bytes) = IsWholeMessage s me to is_post_head head bytes
-IsMade s me (Bar comm) = is_present s comm ≡ true
+abbrev pub IsWholeCall : SetupView → ℕ → DataCall → Type 0
+IsWholeCall s me (Send to head bytes) = IsWholeMessage s me to is_head head bytes
+IsWholeCall s me (Recv from head bytes) = IsWholeMessage s me from is_head head bytes
+IsWholeCall s me (Post to head bytes) = IsWholeMessage s me to is_post_head head bytes
+IsWholeCall s me (Bar comm) = is_present s comm ≡ true
 
 -- a message with another rank of which the chunk in hand is not through: a head that messages have, whole
 -- chunks, and bytes left for this one
@@ -67,7 +67,7 @@ is_free stage = true
 pub record IsOnItsWay (s : SetupView) (me : ℕ) (stage : Stage) (post : OnItsWay) : Type 0 where
   pub peers : are_peers s me post.to ≡ true
   pub head : is_post_head post.head ≡ true
-  pub whole : is_whole (chunk_of s) (begun post.head) post.chunk ≡ true
+  pub whole : is_whole (chunk_of s) (fresh_message post.head) post.chunk ≡ true
   pub free : is_free stage ≡ true
 
 -- a posted message, if there is one, can be on its way beside this stage
@@ -89,4 +89,4 @@ pub record IsConsistent (s : SetupView) (me : ℕ) (rec : Record) : Type 0 where
   -- each flip entered a barrier, which is finished or open
   pub flips : (comm : ℕ) → rec.flips comm ≡ barriers_of comm rec.calls + open_barriers comm rec.stage
   -- each finished call is one that this rank can make
-  pub calls : All (IsMade s me) rec.calls
+  pub calls : All (IsWholeCall s me) rec.calls

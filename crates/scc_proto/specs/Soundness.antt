@@ -4,7 +4,7 @@ use Rattle.std.specs.Int.{bit_at}
 use Rattle.scc_base.specs.Heads.{MessageHead}
 use Rattle.scc_base.specs.Setups.{SetupView, host_of}
 use Rattle.scc_base.specs.declared.signals.Signal.TheVariants.{Sent, Ready}
-use Rattle.scc_proto.specs.Messages.{Notes, noted, header_word, is_head, is_post_head}
+use Rattle.scc_proto.specs.Messages.{Notes, noted_word, header_word, is_head, is_post_head}
 use Rattle.scc_proto.specs.Stages.{Filling, Answered, Stage, Sending, Taking, OnItsWay, Record}
 use Rattle.scc_proto.specs.Permission.{is_answered_by}
 use Rattle.scc_proto.specs.Words.{are_peers}
@@ -16,7 +16,7 @@ pub record AreOfHead (header : Notes) : Type 0 where
   pub is_post : Bool
   pub valid : is_head head ≡ true
   pub post : is_post ≡ true → is_post_head head ≡ true
-  pub words : (k v : ℕ) → k < 4 → noted header k ≡ Some v → v ≡ header_word head is_post k
+  pub words : (k v : ℕ) → k < 4 → noted_word header k ≡ Some v → v ≡ header_word head is_post k
 
 -- no chunk of this rank is raised
 abbrev pub is_drafting : Stage → Option OnItsWay → Bool
@@ -26,9 +26,9 @@ is_drafting stage None = true
 is_drafting stage (Some post) = false
 
 -- a chunk from rank j is being taken
-abbrev pub is_taking : ℕ → Stage → Bool
-is_taking j (Taking from message chunk) = from == j
-is_taking j stage = false
+abbrev pub is_taking_from : ℕ → Stage → Bool
+is_taking_from j (Taking from message chunk) = from == j
+is_taking_from j stage = false
 
 -- the `ready` of the raised chunk was seen
 abbrev pub is_answered : ℕ → Stage → Option OnItsWay → Bool
@@ -43,7 +43,8 @@ pub record IsSound (s : SetupView) (me : ℕ) (rec : Record) : Type 0 where
   -- may raise next are clear
   pub sent_clear : (j word : ℕ) → are_peers s me j ≡ true → flags_noted Sent rec (host_of s.hosts j) ≡ Some word
       → is_drafting rec.stage rec.post ≡ true → bit_at word me ≡ 0
-  pub ready_clear : (j word : ℕ) → flags_noted Ready rec (host_of s.hosts j) ≡ Some word → is_taking j rec.stage ≡ true → bit_at word me ≡ 0
+  pub ready_clear : (j word : ℕ) → flags_noted Ready rec (host_of s.hosts j) ≡ Some word
+      → is_taking_from j rec.stage ≡ true → bit_at word me ≡ 0
   -- in a word of bit flags that was noted under the register of the own core: the bits that this rank may lower next
   -- are set
   pub sent_set : (j word : ℕ) (header : Notes) → flags_noted Sent rec (host_of s.hosts me) ≡ Some word → rec.notes j ≡ Some header

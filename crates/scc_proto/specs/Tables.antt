@@ -4,8 +4,8 @@ use Rattle.scc_base.specs.declared.signals.Signal.{Signal}
 use Rattle.scc_base.specs.declared.signals.Signal.TheVariants.{Sent, Ready}
 
 -- a table with another value at one number
-abbrev pub put : {A : Type 0} → (ℕ → A) → ℕ → A → ℕ → A
-put table i x = λ k. if k == i then x else table k
+abbrev pub table_with : {A : Type 0} → (ℕ → A) → ℕ → A → ℕ → A
+table_with table i x = λ k. if k == i then x else table k
 
 -- a table by two numbers with another value at one pair of them
 abbrev pub put_two : {A : Type 0} → (ℕ → ℕ → A) → ℕ → ℕ → A → ℕ → ℕ → A

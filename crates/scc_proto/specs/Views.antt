@@ -61,8 +61,8 @@ release_shown me (WriteRelease comm to place value last) release = put_two relea
 release_shown me move release = release
 
 -- what a move of rank `me` does to the words
-abbrev pub shown : ℕ → Move → View → View
-shown me move view = record {
+abbrev pub view_after_move : ℕ → Move → View → View
+view_after_move me move view = record {
   signal = signal_shown me move view.signal;
   header = header_shown me move view.header;
   chunk = chunk_shown me move view.chunk;

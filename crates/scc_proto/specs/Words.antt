@@ -14,7 +14,7 @@ use Rattle.scc_base.specs.declared.events.Access.TheVariants.{Load, Store, Take,
 use Rattle.scc_base.specs.declared.events.Event.{Event}
 use Rattle.scc_base.specs.declared.signals.Signal.{Signal}
 use Rattle.scc_base.specs.declared.signals.Signal.TheVariants.{Sent, Ready}
-use Rattle.scc_proto.specs.Tables.{put}
+use Rattle.scc_proto.specs.Tables.{table_with}
 
 -- a number for each buffer word, by core, line and word, and for each core's test-and-set register
 pub record Memory : Type 0 where
@@ -46,8 +46,9 @@ abbrev pub memory_by : Access → WordAt → ℕ → Memory → Memory
 memory_by Load place value memory = memory
 memory_by Store place value memory =
     record memory { word = λ core line word. if is_at place core line word then value else memory.word core line word }
-memory_by Take place value memory = record memory { register = if value == 1 then put memory.register place.core 1 else memory.register }
-memory_by Free place value memory = record memory { register = put memory.register place.core 0 }
+memory_by Take place value memory =
+    record memory { register = if value == 1 then table_with memory.register place.core 1 else memory.register }
+memory_by Free place value memory = record memory { register = table_with memory.register place.core 0 }
 
 -- the event is a step of the memory
 abbrev pub IsStep : Memory → Event → Type 0

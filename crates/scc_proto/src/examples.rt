@@ -7,9 +7,9 @@ ghost use Rattle.scc_base.specs.Calls.{Send, Recv, Post, Bar};
 ghost use Rattle.scc_proto.specs.Stages.{blank};
 ghost use Rattle.scc_proto.specs.Words.{IsRun, zeros};
 ghost use Rattle.scc_proto.specs.Histories.{IsPermittedRun, records_of};
-ghost use Rattle.scc_proto.specs.Passed.{open_of, open_call, passed_calls, slot_of};
+ghost use Rattle.scc_proto.specs.Passed.{call_in_stage, open_call, passed_calls, slot_of};
 ghost use Rattle.scc_proto.specs.Ports.{MayMake, Did, record_in};
-ghost use Rattle.scc_proto.specs.Examples.{two_ranks, four_bytes, no_bytes, three_ranks, barrier_of_three, four_bytes_elsewhere, posts_four, takes_four, two_ranks_bits, one_byte_bits, byte_by_bits, two_chunks, two_chunks_bits, bytes_of, sends_four, begins_four, nested_ranks, two_meet, stores, moved};
+ghost use Rattle.scc_proto.specs.Examples.{two_ranks, four_bytes, no_bytes, three_ranks, barrier_of_three, four_bytes_elsewhere, posts_four, takes_four, two_ranks_bits, one_byte_bits, byte_by_bits, two_chunks, two_chunks_bits, bytes_of_words, sends_four, begins_four, nested_ranks, two_meet, stores, after_moves};
 ghost use Rattle.scc_proto.specs.Refusals.{drafts_words, sends_first, takes_first};
 
 use crate::ports::Port;
@@ -48,9 +48,9 @@ pub fn two_chunks_arrive()
     ensures is_run { (word : ℕ → ℕ) → IsRun zeros (two_chunks word) }
     ensures permitted { (word : ℕ → ℕ) → ((k : ℕ) → word k < 2 ^ 64) → IsPermittedRun two_ranks (λ r. blank) (two_chunks word) }
     ensures received { (word : ℕ → ℕ)
-        → (records_of two_ranks (two_chunks word) 1).calls ≡ Recv 0 (plain_head 3585) (bytes_of word 3584 ++ 7 ∷ []) ∷ [] }
+        → (records_of two_ranks (two_chunks word) 1).calls ≡ Recv 0 (plain_head 3585) (bytes_of_words word 3584 ++ 7 ∷ []) ∷ [] }
     ensures sent { (word : ℕ → ℕ)
-        → (records_of two_ranks (two_chunks word) 0).calls ≡ Send 1 (plain_head 3585) (bytes_of word 3584 ++ 7 ∷ []) ∷ [] }
+        → (records_of two_ranks (two_chunks word) 0).calls ≡ Send 1 (plain_head 3585) (bytes_of_words word 3584 ++ 7 ∷ []) ∷ [] }
 {}
 
 /// A message of 6,625 bytes by bit flags, each change under its register: a whole chunk has 6,624 bytes there.
@@ -58,9 +58,9 @@ pub fn two_chunks_arrive_by_bits()
     ensures is_run { (word : ℕ → ℕ) → IsRun zeros (two_chunks_bits word) }
     ensures permitted { (word : ℕ → ℕ) → ((k : ℕ) → word k < 2 ^ 64) → IsPermittedRun two_ranks_bits (λ r. blank) (two_chunks_bits word) }
     ensures received { (word : ℕ → ℕ)
-        → (records_of two_ranks_bits (two_chunks_bits word) 1).calls ≡ Recv 0 (plain_head 6625) (bytes_of word 6624 ++ 7 ∷ []) ∷ [] }
+        → (records_of two_ranks_bits (two_chunks_bits word) 1).calls ≡ Recv 0 (plain_head 6625) (bytes_of_words word 6624 ++ 7 ∷ []) ∷ [] }
     ensures sent { (word : ℕ → ℕ)
-        → (records_of two_ranks_bits (two_chunks_bits word) 0).calls ≡ Send 1 (plain_head 6625) (bytes_of word 6624 ++ 7 ∷ []) ∷ [] }
+        → (records_of two_ranks_bits (two_chunks_bits word) 0).calls ≡ Send 1 (plain_head 6625) (bytes_of_words word 6624 ++ 7 ∷ []) ∷ [] }
 {}
 
 /// A barrier of three ranks that are not on the cores of their numbers.
@@ -122,8 +122,8 @@ pub fn calls_are_open()
     ensures not_received { passed_calls two_ranks (records_of two_ranks (sends_four ++ begins_four)) 1 ≡ [] }
     ensures not_sent { passed_calls two_ranks (records_of two_ranks (sends_four ++ begins_four)) 0 ≡ [] }
     ensures barrier { open_call nested_ranks (records_of nested_ranks (stores 2 2 98 1 1 ∷ []) 2) ≡ Some (Bar 9) }
-    ensures between { open_of 32 (moved 32 blank takes_first).stage ≡ Some (Recv 0 (plain_head 33) (7 ∷ replicate 31 0)) }
-    ensures sent_on { open_of 32 (moved 32 blank sends_first).stage ≡ Some (Send 1 (plain_head 33) (7 ∷ replicate 31 0)) }
-    ensures drafted { open_of 32 (moved 32 blank (drafts_words 7)).stage ≡ None }
+    ensures between { call_in_stage 32 (after_moves 32 blank takes_first).stage ≡ Some (Recv 0 (plain_head 33) (7 ∷ replicate 31 0)) }
+    ensures sent_on { call_in_stage 32 (after_moves 32 blank sends_first).stage ≡ Some (Send 1 (plain_head 33) (7 ∷ replicate 31 0)) }
+    ensures drafted { call_in_stage 32 (after_moves 32 blank (drafts_words 7)).stage ≡ None }
     ensures not_met { passed_calls nested_ranks (records_of nested_ranks (stores 2 2 98 1 1 ∷ [])) 2 ≡ [] }
 {}

@@ -14,11 +14,11 @@ ghost use Rattle.scc_proto.specs.Words.{Memory, zeros, IsStep, memory_after, Ran
 ghost use Rattle.scc_proto.specs.Records.{chunk_of, IsPermitted, IsHonest, record_after, record_from, record_of};
 ghost use Rattle.scc_proto.specs.Like.{Like};
 ghost use Rattle.scc_proto.specs.Resting.{is_resting};
-ghost use Rattle.scc_proto.specs.Tables.{put};
+ghost use Rattle.scc_proto.specs.Tables.{table_with};
 ghost use Rattle.scc_proto.specs.Histories.{records_of, memory_from, IsPermittedRun};
 ghost use Rattle.scc_proto.specs.Passed.{in_hand, IsPassed, open_call, passed_calls, slot_of};
 ghost use Rattle.scc_proto.specs.Views.{view_of, SameFlagWords};
-ghost use Rattle.scc_proto.specs.Singles.{IsMade};
+ghost use Rattle.scc_proto.specs.Singles.{IsWholeCall};
 ghost use Rattle.scc_proto.specs.Soundness.{IsSound};
 ghost use Rattle.scc_proto.specs.PairMessages.{PairMessages};
 ghost use Rattle.scc_proto.specs.Agreement.{Agrees};
@@ -127,12 +127,12 @@ pub fn agreement_law()
     ensures start { (s : SetupView) → Agrees s zeros (λ r. blank) }
     ensures event { (s : SetupView) (memory : Memory) (records : ℕ → Record) (me : ℕ) (e : Event)
         → IsSetup s → Agrees s memory records → me < s.nue → IsEvent e → IsStep memory e → IsPermitted s me (records me) e
-        → Agrees s (memory_after memory e) (put records me (record_after s me (records me) e)) }
+        → Agrees s (memory_after memory e) (table_with records me (record_after s me (records me) e)) }
     ensures grows { (s : SetupView) (memory : Memory) (records : ℕ → Record) (me : ℕ) (e : Event)
         → IsSetup s → Agrees s memory records → me < s.nue → IsEvent e → IsStep memory e → IsPermitted s me (records me) e
         → Grows s.nue (setup_key s) (passed_calls s records) (slot_of s records)
-        (passed_calls s (put records me (record_after s me (records me) e)))
-        (slot_of s (put records me (record_after s me (records me) e))) }
+        (passed_calls s (table_with records me (record_after s me (records me) e)))
+        (slot_of s (table_with records me (record_after s me (records me) e))) }
     ensures lists { (s : SetupView) (run : List RankEvent)
         → IsSetup s → IsRun zeros run → IsPermittedRun s (λ r. blank) run → Agrees s (memory_from zeros run) (records_of s run) }
 {}
@@ -166,7 +166,7 @@ pub fn open_call_law()
 /// Each finished call of a rank is one that it can make, with all its bytes.
 pub fn calls_law()
     ensures law { (s : SetupView) (memory : Memory) (records : ℕ → Record) (me : ℕ)
-        → Agrees s memory records → me < s.nue → All (IsMade s me) (records me).calls }
+        → Agrees s memory records → me < s.nue → All (IsWholeCall s me) (records me).calls }
 {}
 
 /// The test of a head says what a head is.

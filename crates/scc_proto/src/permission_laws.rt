@@ -6,7 +6,7 @@ ghost use Rattle.scc_base.specs.Places.{WordAt};
 ghost use Rattle.scc_base.specs.Setups.{SetupView};
 ghost use Rattle.scc_base.specs.declared.signals.Signal.{Signal};
 ghost use Rattle.scc_base.specs.declared.signals.Signal.TheVariants.{Sent, Ready};
-ghost use Rattle.scc_proto.specs.Messages.{Notes, Progress, begun, head_of};
+ghost use Rattle.scc_proto.specs.Messages.{Notes, Progress, fresh_message, head_of};
 ghost use Rattle.scc_proto.specs.Stages.{Part, Filling, Answered, Stage, Idle, Drafting, Sending, Between, Taking, Barrier, OnItsWay, Record};
 ghost use Rattle.scc_proto.specs.Moves.{DraftHeader, DraftChunk, RaiseSignal, LowerSignal, FlipGather, WriteRelease};
 ghost use Rattle.scc_proto.specs.Permission.{is_whole_header, says_head, is_drafted, permits};
@@ -62,7 +62,7 @@ pub fn draft_law()
 pub fn raise_sent_law()
     ensures law { (size to : ℕ) (rec : Record) → (permits size (RaiseSignal Sent to) rec ≡ true) ↔ ((rec.post ≡ None)
         × (((header chunk : Notes) × (rec.stage ≡ Drafting header chunk) × (is_whole_header header ≡ true)
-        × (is_drafted size (begun (head_of header)) chunk ≡ true))
+        × (is_drafted size (fresh_message (head_of header)) chunk ≡ true))
         ⊎ ((message : Progress) × (chunk : Notes) × (rec.stage ≡ Sending to Filling message chunk)
         × (is_drafted size message chunk ≡ true)))) }
 {}

@@ -6,7 +6,7 @@ ghost use Rattle.scc_base.specs.Places.{WordAt};
 ghost use Rattle.scc_base.specs.declared.signals.Signal.TheVariants.{Sent, Ready};
 ghost use Rattle.scc_proto.specs.Moves.{DraftHeader, DraftChunk, RaiseSignal, LookSignal, ReadHeader, ReadChunk, LowerSignal, FlipGather, LookGather, WriteRelease, LookRelease, StoreHeap};
 ghost use Rattle.scc_proto.specs.Records.{look_at};
-ghost use Rattle.scc_proto.specs.Examples.{two_ranks, two_ranks_bits, three_ranks, loads, stores, takes, frees};
+ghost use Rattle.scc_proto.specs.Examples.{two_ranks, two_ranks_bits, three_ranks, loads, stores, takes_register, frees};
 ghost use Rattle.scc_proto.specs.Refusals.{Refuses, RefusesEvent, drafts_line, drafts_words, raises_four, sees_ready, posts, sends_first, drafts_second, reads_plain, reads_head, begins_taking, reads_words, takes_first, sees_first, sees_all, drafts_empty, reads_empty, misses, sees_sent, raises_empty, sees_bit, takes_bit, holds_draft, sets_bit, three_ranks_bits, four_ranks};
 
 /// `sent` is not raised before all four words of the header line are drafted.
@@ -232,12 +232,12 @@ pub fn heap_waits()
 
 /// A register is taken only where this rank does not hold it, and freed only where it does.
 pub fn register_is_held()
-    ensures twice { RefusesEvent two_ranks 0 (takes 0 1 ∷ []) (takes 0 1) }
-    ensures twice_in_vain { RefusesEvent two_ranks 0 (takes 0 1 ∷ []) (misses 0 1) }
+    ensures twice { RefusesEvent two_ranks 0 (takes_register 0 1 ∷ []) (takes_register 0 1) }
+    ensures twice_in_vain { RefusesEvent two_ranks 0 (takes_register 0 1 ∷ []) (misses 0 1) }
     ensures free { RefusesEvent two_ranks 0 [] (frees 0 1) }
-    ensures freed { RefusesEvent two_ranks 0 (takes 0 1 ∷ frees 0 1 ∷ []) (frees 0 1) }
+    ensures freed { RefusesEvent two_ranks 0 (takes_register 0 1 ∷ frees 0 1 ∷ []) (frees 0 1) }
     ensures in_vain { RefusesEvent two_ranks 0 (misses 0 1 ∷ []) (frees 0 1) }
-    ensures other { RefusesEvent two_ranks 0 (takes 0 1 ∷ []) (frees 0 0) }
+    ensures other { RefusesEvent two_ranks 0 (takes_register 0 1 ∷ []) (frees 0 0) }
 {}
 
 /// A word of bit flags is stored only under the register of its core, and only once it was loaded there.
@@ -245,23 +245,24 @@ pub fn bits_are_held()
     ensures no_register { RefusesEvent two_ranks_bits 1 (drafts_empty 1 1 ++ loads 1 0 1 0 0 ∷ []) (stores 1 0 1 0 2) }
     ensures in_vain { RefusesEvent two_ranks_bits 1 (drafts_empty 1 1 ++ misses 1 0 ∷ loads 1 0 1 0 0 ∷ []) (stores 1 0 1 0 2) }
     ensures not_loaded { RefusesEvent two_ranks_bits 1 holds_draft (stores 1 0 1 0 2) }
-    ensures before { RefusesEvent two_ranks_bits 1 (drafts_empty 1 1 ++ loads 1 0 1 0 0 ∷ takes 1 0 ∷ []) (stores 1 0 1 0 2) }
-    ensures freed { RefusesEvent two_ranks_bits 1 (holds_draft ++ loads 1 0 1 0 0 ∷ frees 1 0 ∷ takes 1 0 ∷ []) (stores 1 0 1 0 2) }
+    ensures before { RefusesEvent two_ranks_bits 1 (drafts_empty 1 1 ++ loads 1 0 1 0 0 ∷ takes_register 1 0 ∷ []) (stores 1 0 1 0 2) }
+    ensures freed { RefusesEvent two_ranks_bits 1
+        (holds_draft ++ loads 1 0 1 0 0 ∷ frees 1 0 ∷ takes_register 1 0 ∷ []) (stores 1 0 1 0 2) }
     ensures let_go { RefusesEvent two_ranks_bits 1 (holds_draft ++ loads 1 0 1 0 0 ∷ frees 1 0 ∷ []) (stores 1 0 1 0 2) }
-    ensures other_core { RefusesEvent two_ranks_bits 1 (holds_draft ++ takes 1 1 ∷ loads 1 1 1 0 0 ∷ []) (stores 1 0 1 0 2) }
+    ensures other_core { RefusesEvent two_ranks_bits 1 (holds_draft ++ takes_register 1 1 ∷ loads 1 1 1 0 0 ∷ []) (stores 1 0 1 0 2) }
     ensures ready_for_sent { RefusesEvent two_ranks_bits 1 (holds_draft ++ loads 1 0 1 1 0 ∷ []) (stores 1 0 1 0 2) }
     ensures ready_no_register { RefusesEvent two_ranks_bits 0 (takes_bit ++ loads 0 1 1 1 0 ∷ []) (stores 0 1 1 1 1) }
-    ensures sent_for_ready { RefusesEvent two_ranks_bits 0 (takes_bit ++ takes 0 1 ∷ loads 0 1 1 0 0 ∷ []) (stores 0 1 1 1 1) }
+    ensures sent_for_ready { RefusesEvent two_ranks_bits 0 (takes_bit ++ takes_register 0 1 ∷ loads 0 1 1 0 0 ∷ []) (stores 0 1 1 1 1) }
 {}
 
 /// Under one hold a word of bit flags is stored once for each load of it, and by what it was at the last.
 pub fn bits_are_loaded_anew()
-    ensures sent { RefusesEvent two_ranks_bits 1 (sets_bit ++ loads 1 1 1 1 1 ∷ takes 1 1 ∷ loads 1 1 1 1 1 ∷ stores 1 1 1 1 0
+    ensures sent { RefusesEvent two_ranks_bits 1 (sets_bit ++ loads 1 1 1 1 1 ∷ takes_register 1 1 ∷ loads 1 1 1 1 1 ∷ stores 1 1 1 1 0
         ∷ drafts_empty 1 1) (stores 1 0 1 0 2) }
-    ensures ready { RefusesEvent two_ranks_bits 0 (takes_bit ++ takes 0 1 ∷ loads 0 1 1 1 0 ∷ stores 0 1 1 1 1
+    ensures ready { RefusesEvent two_ranks_bits 0 (takes_bit ++ takes_register 0 1 ∷ loads 0 1 1 1 0 ∷ stores 0 1 1 1 1
         ∷ takes_bit) (stores 0 1 1 1 1) }
     ensures last_sent { RefusesEvent two_ranks_bits 1 (holds_draft ++ loads 1 0 1 0 0 ∷ loads 1 0 1 0 4 ∷ []) (stores 1 0 1 0 2) }
-    ensures last_ready { RefusesEvent two_ranks_bits 0 (takes_bit ++ takes 0 1 ∷ loads 0 1 1 1 0 ∷ loads 0 1 1 1 4
+    ensures last_ready { RefusesEvent two_ranks_bits 0 (takes_bit ++ takes_register 0 1 ∷ loads 0 1 1 1 0 ∷ loads 0 1 1 1 4
         ∷ []) (stores 0 1 1 1 1) }
 {}
 
@@ -271,34 +272,35 @@ pub fn one_bit_changes()
     ensures other { RefusesEvent two_ranks_bits 1 (holds_draft ++ loads 1 0 1 0 0 ∷ []) (stores 1 0 1 0 1) }
     ensures none { RefusesEvent two_ranks_bits 1 (holds_draft ++ loads 1 0 1 0 0 ∷ []) (stores 1 0 1 0 0) }
     ensures is_set { RefusesEvent two_ranks_bits 1 (holds_draft ++ loads 1 0 1 0 2 ∷ []) (stores 1 0 1 0 4) }
-    ensures own_core { RefusesEvent two_ranks_bits 1 (drafts_empty 1 1 ++ takes 1 1 ∷ loads 1 1 1 0 0 ∷ []) (stores 1 1 1 0 2) }
-    ensures ready_two { RefusesEvent two_ranks_bits 0 (takes_bit ++ takes 0 1 ∷ loads 0 1 1 1 0 ∷ []) (stores 0 1 1 1 3) }
-    ensures ready_is_set { RefusesEvent two_ranks_bits 0 (takes_bit ++ takes 0 1 ∷ loads 0 1 1 1 1 ∷ []) (stores 0 1 1 1 2) }
+    ensures own_core { RefusesEvent two_ranks_bits 1 (drafts_empty 1 1 ++ takes_register 1 1 ∷ loads 1 1 1 0 0 ∷ []) (stores 1 1 1 0 2) }
+    ensures ready_two { RefusesEvent two_ranks_bits 0 (takes_bit ++ takes_register 0 1 ∷ loads 0 1 1 1 0 ∷ []) (stores 0 1 1 1 3) }
+    ensures ready_is_set { RefusesEvent two_ranks_bits 0 (takes_bit ++ takes_register 0 1 ∷ loads 0 1 1 1 1 ∷ []) (stores 0 1 1 1 2) }
 {}
 
 /// One bit is cleared at the own core: that of the other rank, whose flag was seen.
 pub fn one_bit_is_cleared()
-    ensures two { RefusesEvent two_ranks_bits 0 (sees_bit ++ takes 0 0 ∷ loads 0 0 1 0 6 ∷ []) (stores 0 0 1 0 0) }
-    ensures more { RefusesEvent two_ranks_bits 0 (sees_bit ++ takes 0 0 ∷ loads 0 0 1 0 2 ∷ []) (stores 0 0 1 0 1) }
-    ensures none { RefusesEvent two_ranks_bits 0 (sees_bit ++ takes 0 0 ∷ loads 0 0 1 0 2 ∷ []) (stores 0 0 1 0 2) }
-    ensures is_clear { RefusesEvent two_ranks_bits 0 (sees_bit ++ takes 0 0 ∷ loads 0 0 1 0 4 ∷ []) (stores 0 0 1 0 2) }
-    ensures unseen { RefusesEvent three_ranks_bits 0 (loads 0 0 1 0 2 ∷ reads_empty 0 2 ++ takes 0 0 ∷ loads 0 0 1 0 6
+    ensures two { RefusesEvent two_ranks_bits 0 (sees_bit ++ takes_register 0 0 ∷ loads 0 0 1 0 6 ∷ []) (stores 0 0 1 0 0) }
+    ensures more { RefusesEvent two_ranks_bits 0 (sees_bit ++ takes_register 0 0 ∷ loads 0 0 1 0 2 ∷ []) (stores 0 0 1 0 1) }
+    ensures none { RefusesEvent two_ranks_bits 0 (sees_bit ++ takes_register 0 0 ∷ loads 0 0 1 0 2 ∷ []) (stores 0 0 1 0 2) }
+    ensures is_clear { RefusesEvent two_ranks_bits 0 (sees_bit ++ takes_register 0 0 ∷ loads 0 0 1 0 4 ∷ []) (stores 0 0 1 0 2) }
+    ensures unseen { RefusesEvent three_ranks_bits 0 (loads 0 0 1 0 2 ∷ reads_empty 0 2 ++ takes_register 0 0 ∷ loads 0 0 1 0 6
         ∷ []) (stores 0 0 1 0 2) }
-    ensures other_core { RefusesEvent two_ranks_bits 0 (sees_bit ++ takes 0 1 ∷ loads 0 1 1 0 2 ∷ []) (stores 0 1 1 0 0) }
-    ensures ready_two { RefusesEvent two_ranks_bits 1 (sets_bit ++ loads 1 1 1 1 1 ∷ takes 1 1 ∷ loads 1 1 1 1 5 ∷ []) (stores 1 1 1 1 0) }
-    ensures ready_is_clear { RefusesEvent two_ranks_bits 1 (sets_bit ++ loads 1 1 1 1 1 ∷ takes 1 1 ∷ loads 1 1 1 1 2
+    ensures other_core { RefusesEvent two_ranks_bits 0 (sees_bit ++ takes_register 0 1 ∷ loads 0 1 1 0 2 ∷ []) (stores 0 1 1 0 0) }
+    ensures ready_two { RefusesEvent two_ranks_bits 1
+        (sets_bit ++ loads 1 1 1 1 1 ∷ takes_register 1 1 ∷ loads 1 1 1 1 5 ∷ []) (stores 1 1 1 1 0) }
+    ensures ready_is_clear { RefusesEvent two_ranks_bits 1 (sets_bit ++ loads 1 1 1 1 1 ∷ takes_register 1 1 ∷ loads 1 1 1 1 2
         ∷ []) (stores 1 1 1 1 1) }
 {}
 
 /// A look at bit flags is a load at the own core while its register is not held.
 pub fn bits_are_looked_at()
-    ensures sent_held { RefusesEvent two_ranks_bits 0 (takes 0 0 ∷ loads 0 0 1 0 2 ∷ reads_empty 0 1) (stores 0 0 1 0 0) }
-    ensures sent_elsewhere { RefusesEvent two_ranks_bits 0 (loads 0 1 1 0 2 ∷ reads_empty 0 1 ++ takes 0 0 ∷ loads 0 0 1 0 2
+    ensures sent_held { RefusesEvent two_ranks_bits 0 (takes_register 0 0 ∷ loads 0 0 1 0 2 ∷ reads_empty 0 1) (stores 0 0 1 0 0) }
+    ensures sent_elsewhere { RefusesEvent two_ranks_bits 0 (loads 0 1 1 0 2 ∷ reads_empty 0 1 ++ takes_register 0 0 ∷ loads 0 0 1 0 2
         ∷ []) (stores 0 0 1 0 0) }
-    ensures ready_held { RefusesEvent two_ranks_bits 1 (sets_bit ++ takes 1 1 ∷ loads 1 1 1 1 1 ∷ []) (stores 1 1 1 1 0) }
-    ensures ready_other { RefusesEvent two_ranks_bits 1 (sets_bit ++ loads 1 1 1 1 4 ∷ takes 1 1 ∷ loads 1 1 1 1 1
+    ensures ready_held { RefusesEvent two_ranks_bits 1 (sets_bit ++ takes_register 1 1 ∷ loads 1 1 1 1 1 ∷ []) (stores 1 1 1 1 0) }
+    ensures ready_other { RefusesEvent two_ranks_bits 1 (sets_bit ++ loads 1 1 1 1 4 ∷ takes_register 1 1 ∷ loads 1 1 1 1 1
         ∷ []) (stores 1 1 1 1 0) }
-    ensures ready_elsewhere { RefusesEvent two_ranks_bits 1 (sets_bit ++ frees 1 0 ∷ loads 1 0 1 1 1 ∷ takes 1 1 ∷ loads 1 1 1 1 1
+    ensures ready_elsewhere { RefusesEvent two_ranks_bits 1 (sets_bit ++ frees 1 0 ∷ loads 1 0 1 1 1 ∷ takes_register 1 1 ∷ loads 1 1 1 1 1
         ∷ []) (stores 1 1 1 1 0) }
 {}
 

@@ -18,7 +18,7 @@ use Rattle.barrier.proofs.OtherPort.{barrier_there, free_after_turn, free_at_sta
 use Rattle.barrier.proofs.RestLemmas.{barrier_starts, free_after_barrier}
 use Rattle.scc_mesh.specs.Scenes.{ChipView, IsNew, about_in, sight_in}
 use Rattle.chip_teams.specs.Teams.{sight_alone}
-use Rattle.scc_rows.specs.Entrants.{IsReady}
+use Rattle.scc_rows.specs.Entrants.{IsBarrierReady}
 
 -- what stands where a rank's events stand stands at a port that shows them, and the other way round
 pub shown : {s : Sight} {c : Private} {op : BarAt} {values : List Bool} → BarStands (sight_alone s.seat.setup s.seat.rank s.events) c op values → BarStands s c op values
@@ -36,7 +36,7 @@ starts s core comm op values fresh empty is unset small present =
     subst (λ (o : BarAt). BarStands s core o values) (sym is) (barrier_starts (free_at_start s core values fresh empty unset) comm small present)
 
 pub starts_ready : (s : SetupView) (r : ℕ) (core : Private) (comm : ℕ) (op : BarAt) (values : List Bool) → core.out ≡ None → op ≡ record { comm = comm; stage = Flip }
-    → ((c : ℕ) → value_at values c ≡ false) → comm < 16 → rule_of s.comms comm ≢ Absent → IsReady (sight_alone s r []) core comm op values
+    → ((c : ℕ) → value_at values c ≡ false) → comm < 16 → rule_of s.comms comm ≢ Absent → IsBarrierReady (sight_alone s r []) core comm op values
 starts_ready s r core comm op values empty is unset small present = record {
   stands = starts (sight_alone s r []) core comm op values refl empty is unset small present;
   same = ap (λ (o : BarAt). o.comm) is;
@@ -50,14 +50,14 @@ root_starts chip lent r hold core op values same new empty is unset present =
     (starts (sight_in chip r hold) core 0 op values (new.empty r) empty is unset (omega arith) present)
 
 -- after a turn the barrier is ready for the next one
-pub ready_next : (s : Sight) {t : Sight} {c d : Private} {op now : BarAt} {comm : ℕ} {values later : List Bool} → IsReady (sight_alone s.seat.setup s.seat.rank s.events) c comm op values
-    → now.comm ≡ op.comm → BarStands t d now later → IsReady (sight_alone t.seat.setup t.seat.rank t.events) d comm now later
+pub ready_next : (s : Sight) {t : Sight} {c d : Private} {op now : BarAt} {comm : ℕ} {values later : List Bool} → IsBarrierReady (sight_alone s.seat.setup s.seat.rank s.events) c comm op values
+    → now.comm ≡ op.comm → BarStands t d now later → IsBarrierReady (sight_alone t.seat.setup t.seat.rank t.events) d comm now later
 ready_next s ready same st = record { stands = alone st; same = same ∙ ready.same }
 
 -- where the barrier is passed a further one of its communicator can be entered
-pub ready_anew : {s t : Sight} {c d : Private} {op now next : BarAt} {comm : ℕ} {values later : List Bool} → IsReady (sight_alone s.seat.setup s.seat.rank s.events) c comm op values
+pub ready_anew : {s t : Sight} {c d : Private} {op now next : BarAt} {comm : ℕ} {values later : List Bool} → IsBarrierReady (sight_alone s.seat.setup s.seat.rank s.events) c comm op values
     → BarStands t d now later → BarTurned (meeting s c op values) (meeting t d now later) turn.Done → next ≡ record { comm = comm; stage = Flip }
-    → IsReady (sight_alone t.seat.setup t.seat.rank t.events) d comm next later
+    → IsBarrierReady (sight_alone t.seat.setup t.seat.rank t.events) d comm next later
 ready_anew {t = t} {d = d} {now = now} {next = next} {comm = comm} {later = later} ready st turned is =
     let same : now.comm ≡ comm = turned.same ∙ ready.same in
     let small : comm < 16 = subst (λ (k : ℕ). k < 16) same st.below in
@@ -70,12 +70,12 @@ ready_anew {t = t} {d = d} {now = now} {next = next} {comm = comm} {later = late
 -- ---- whole barriers
 
 -- a barrier that was taken out of its place is ready as it was there
-pub ready_taken : {s : Sight} {c : Private} {op taken : BarAt} {comm : ℕ} {values : List Bool} → taken ≡ op → IsReady s c comm op values → IsReady s c comm taken values
-ready_taken {s} {c} {op} {taken} {comm} {values} same ready = subst (λ (o : BarAt). IsReady s c comm o values) (sym same) ready
+pub ready_taken : {s : Sight} {c : Private} {op taken : BarAt} {comm : ℕ} {values : List Bool} → taken ≡ op → IsBarrierReady s c comm op values → IsBarrierReady s c comm taken values
+ready_taken {s} {c} {op} {taken} {comm} {values} same ready = subst (λ (o : BarAt). IsBarrierReady s c comm o values) (sym same) ready
 
 -- after a barrier that was passed a new one of its communicator can be entered
-pub passed_ready : {s t : Sight} {c d : Private} {op next : BarAt} {comm : ℕ} {values later : List Bool} → IsReady (sight_alone s.seat.setup s.seat.rank s.events) c comm op values
-    → Finishes (meeting s c op values) (with_parity t d later) → next ≡ record { comm = comm; stage = Flip } → IsReady (sight_alone t.seat.setup t.seat.rank t.events) d comm next later
+pub passed_ready : {s t : Sight} {c d : Private} {op next : BarAt} {comm : ℕ} {values later : List Bool} → IsBarrierReady (sight_alone s.seat.setup s.seat.rank s.events) c comm op values
+    → Finishes (meeting s c op values) (with_parity t d later) → next ≡ record { comm = comm; stage = Flip } → IsBarrierReady (sight_alone t.seat.setup t.seat.rank t.events) d comm next later
 passed_ready {s} {t} {c} {d} {op} {next} {comm} {values} {later} ready f is =
     let seat = seat_kept s f.events t f.did in
     let small : comm < 16 = subst (λ (k : ℕ). k < 16) ready.same ready.stands.below in
@@ -86,6 +86,6 @@ passed_ready {s} {t} {c} {d} {op} {next} {comm} {values} {later} ready f is =
     }
 
 -- a barrier that gave up can be gone on with
-pub stalled_ready : {s t : Sight} {c d : Private} {op : BarAt} {comm polls : ℕ} {values later : List Bool} {stop : BarStop} → IsReady (sight_alone s.seat.setup s.seat.rank s.events) c comm op values
-    → (stalls : Stalls (meeting s c op values) polls (with_parity t d later) stop) → IsReady (sight_alone t.seat.setup t.seat.rank t.events) d comm stalls.now later
+pub stalled_ready : {s t : Sight} {c d : Private} {op : BarAt} {comm polls : ℕ} {values later : List Bool} {stop : BarStop} → IsBarrierReady (sight_alone s.seat.setup s.seat.rank s.events) c comm op values
+    → (stalls : Stalls (meeting s c op values) polls (with_parity t d later) stop) → IsBarrierReady (sight_alone t.seat.setup t.seat.rank t.events) d comm stalls.now later
 stalled_ready ready stalls = record { stands = alone stalls.stands; same = stalls.same ∙ ready.same }

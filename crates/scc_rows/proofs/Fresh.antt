@@ -9,7 +9,7 @@ use Rattle.scc_proto.specs.Stages.{Record}
 use Rattle.scc_proto.specs.Records.{record_of}
 use Rattle.scc_proto.specs.Ports.{Sight, record_in}
 use Rattle.scc_proto.proofs.PortLaws.{record_of-nil}
-use Rattle.scc_mesh.specs.SeatViews.{View, list_or_none, without}
+use Rattle.scc_mesh.specs.SeatViews.{SeatView, list_or_none, without}
 use Rattle.scc_mesh.specs.AwayRanks.{Ticket}
 use Rattle.scc_mesh.specs.Scenes.{ChipView, about_in, home_in, events_in, with_home, sight_away}
 use Rattle.scc_mesh.proofs.ViewLemmas.{known_there}
@@ -33,7 +33,7 @@ away_without s ticket core none =
     ap (λ (es : List Event). (record_of s ticket.rank es).held core) none ∙ ap (λ (x : Record). x.held core) (record_of-nil s ticket.rank)
 
 -- handing a rank out keeps the setup, and the events of another rank
-pub about_with : (chip : ChipView) (home : View) → about_in (with_home chip home) ≡ about_in chip
+pub about_with : (chip : ChipView) (home : SeatView) → about_in (with_home chip home) ≡ about_in chip
 about_with None home = refl
 about_with (Some scene) home = refl
 

@@ -13,7 +13,7 @@ use Rattle.scc_base.specs.declared.events.Access.TheVariants.{Load, Store, Take,
 use Rattle.scc_base.specs.declared.events.Event.{Event}
 use Rattle.scc_base.specs.declared.signals.Signal.{Signal}
 use Rattle.scc_base.specs.declared.signals.Signal.TheVariants.{Sent, Ready}
-use Rattle.scc_proto.specs.Tables.{put}
+use Rattle.scc_proto.specs.Tables.{table_with}
 use Rattle.scc_proto.specs.Stages.{FlagWords, Record, blank}
 use Rattle.scc_proto.specs.Moves.{StoreHeap, NoMove, after}
 use Rattle.scc_proto.specs.Permission.{permits}
@@ -67,7 +67,7 @@ either true late rec x y = x
 either false late rec x y = y
 
 none_put : (field : FlagWords → Option ℕ) (held : ℕ → Option FlagWords) (core k : ℕ) (o : Option FlagWords) → option_and_then field o ≡ None
-    → option_and_then field (held k) ≡ None → option_and_then field (put held core o k) ≡ None
+    → option_and_then field (held k) ≡ None → option_and_then field (table_with held core o k) ≡ None
 none_put field held core k o here there = by (k == core)
   where
     by : (b : Bool) → option_and_then field (if b then o else held k) ≡ None
@@ -75,7 +75,7 @@ none_put field held core k o here there = by (k == core)
     by false = there
 
 held_quiet : (rec : Record) (core : ℕ) (o : Option FlagWords) → ((signal : Signal) → option_and_then (λ (flags : FlagWords). flags_in signal flags) o ≡ None)
-    → IsQuietRecord rec → IsQuietRecord (record rec { held = put rec.held core o })
+    → IsQuietRecord rec → IsQuietRecord (record rec { held = table_with rec.held core o })
 held_quiet rec core o none q = record {
   stage = q.stage;
   post = q.post;
@@ -94,7 +94,7 @@ no_move size rec q = record { stage = q.stage; post = q.post; notes = q.notes; f
 heap_move : (size : ℕ) (place : WordAt) (value : ℕ) (rec : Record) → IsQuietRecord rec → IsQuietRecord (after size (StoreHeap place value) rec)
 heap_move size place value rec q = record { stage = q.stage; post = q.post; notes = q.notes; flags = q.flags }
 
-take_quiet : (size core : ℕ) (rec : Record) → IsQuietRecord rec → IsQuietRecord (record rec { held = put rec.held core (Some (record { sent = None; ready = None })) })
+take_quiet : (size core : ℕ) (rec : Record) → IsQuietRecord rec → IsQuietRecord (record rec { held = table_with rec.held core (Some (record { sent = None; ready = None })) })
 take_quiet size core rec q = held_quiet rec core (Some (record { sent = None; ready = None })) none_noted q
 
 quiet_by : (s : SetupView) (me : ℕ) (rec : Record) (access : Access) (place : WordAt) (value : ℕ) → is_quiet_access access place ≡ true → IsQuietRecord rec

@@ -7,7 +7,7 @@ use Rattle.scc_proto.specs.Ports.{Seat, Sight, Did, MayMake, record_in, record_n
 use Rattle.scc_proto.proofs.Tests.{eqb_same}
 use Rattle.scc_proto.proofs.Layouts.Roles.{if_yes}
 use Rattle.scc_proto.proofs.PortLaws.{record_did_one}
-use Rattle.scc_rows.specs.Rests.{IsWithout, Holds}
+use Rattle.scc_rows.specs.Rests.{IsWithout, HoldsRegister}
 
 module _ (seat : Seat) (rec : Record) (core : ℕ) where
   may_next : rec.held core ≡ None → MayMake seat rec (take_of core false)
@@ -32,7 +32,7 @@ module _ (seat : Seat) (rec : Record) (core : ℕ) where
 pub may_take : (s : Sight) (core : ℕ) → IsWithout s core → MayMake s.seat (record_in s) (take_of core false)
 may_take s core none = may_next s.seat (record_in s) core none
 
-pub take_tells : (s : Sight) (core : ℕ) (taken : Bool) (t : Sight) → Did s (take_of core taken ∷ []) t → IsWithout s core → taken ≡ true → Holds t core
+pub take_tells : (s : Sight) (core : ℕ) (taken : Bool) (t : Sight) → Did s (take_of core taken ∷ []) t → IsWithout s core → taken ≡ true → HoldsRegister t core
 take_tells s core true t did none e =
     ap (λ (x : Record). is_some (x.held core)) (record_did_one s (take_of core true) t did) ∙ taken_next s.seat (record_in s) core none
 take_tells s core false t did none e = absurd (cc (e))
@@ -42,12 +42,12 @@ miss_tells s core true t did none e = absurd (cc (e))
 miss_tells s core false t did none e =
     ap (λ (x : Record). x.held core) (record_did_one s (take_of core false) t did ∙ missed_next s.seat (record_in s) core none) ∙ none
 
-pub free_tells : (s : Sight) (core : ℕ) (t : Sight) → Did s (free_of core ∷ []) t → Holds s core → IsWithout t core
+pub free_tells : (s : Sight) (core : ℕ) (t : Sight) → Did s (free_of core ∷ []) t → HoldsRegister s core → IsWithout t core
 free_tells s core t did held = ap (λ (x : Record). x.held core) (record_did_one s (free_of core) t did) ∙ freed_next s.seat (record_in s) core held
 
 -- ---- locks
 
-pub locked : (s t : Sight) (core : ℕ) (taken : Option ℕ) → Did s (take_of core (is_some taken) ∷ []) t → IsWithout s core → IfSome taken (λ held. held ≡ core) → IfSome taken (λ held. (held ≡ core) × Holds t core)
+pub locked : (s t : Sight) (core : ℕ) (taken : Option ℕ) → Did s (take_of core (is_some taken) ∷ []) t → IsWithout s core → IfSome taken (λ held. held ≡ core) → IfSome taken (λ held. (held ≡ core) × HoldsRegister t core)
 locked s t core None did none names = tt
 locked s t core (Some held) did none names = (names, take_tells s core true t did none refl)
 

@@ -10,7 +10,7 @@ use Rattle.scc_proto.specs.Stages.{Stage, Idle, Record}
 use Rattle.scc_proto.specs.Moves.{Move, LookSignal, LookGather, LookRelease, NoMove, stage_after, read_chunk, look_ready}
 use Rattle.scc_proto.specs.Permission.{leaves_heap}
 use Rattle.scc_proto.specs.Words.{Role, HeaderWord, ChunkWord, SignalFlag, SignalFlags, GatherFlag, ReleaseFlag, HeapWord, IdleWord, role_of}
-use Rattle.scc_proto.specs.Records.{Act, Moving, NotingSignal, act_of, after_act, load_act, load_by, leads, look_at, look_at_bits, chunk_of}
+use Rattle.scc_proto.specs.Records.{EventAct, Moving, NotingSignal, act_of, after_act, load_act, load_by, leads, look_at, look_at_bits, chunk_of}
 use Rattle.scc_proto.specs.Ports.{Seat, Sight, Did, MayMakeAll, record_in, record_next, record_on}
 use Rattle.scc_proto.proofs.PortLaws.{record_did, seat_kept}
 use Rattle.write_combine.specs.declared.combiner.Out.{Out}
@@ -26,7 +26,7 @@ either : (size : ℕ) (rec : Record) (b : Bool) (m n : Move) → stage_after siz
 either size rec true m n x y = x
 either size rec false m n x y = y
 
-either_act : (size : ℕ) (rec : Record) (b : Bool) (m n : Act) → (after_act size m rec).stage ≡ Idle → (after_act size n rec).stage ≡ Idle → (after_act size (if b then m else n) rec).stage ≡ Idle
+either_act : (size : ℕ) (rec : Record) (b : Bool) (m n : EventAct) → (after_act size m rec).stage ≡ Idle → (after_act size n rec).stage ≡ Idle → (after_act size (if b then m else n) rec).stage ≡ Idle
 either_act size rec true m n x y = x
 either_act size rec false m n x y = y
 

@@ -17,7 +17,7 @@ use Rattle.send_recv.specs.Ops.{RecvAt, SendAt, SlotAt, empty_slot}
 use Rattle.send_recv.specs.Receiving.{RecvStands, RecvTurned}
 use Rattle.send_recv.specs.Sending.{SlotStands, SlotTurned, SendStands}
 use Rattle.send_recv.specs.Calling.{IsBetweenMessages}
-use Rattle.send_recv.specs.Ranks.{receiving, with_slot}
+use Rattle.send_recv.specs.Ranks.{receiving, holding_slot}
 use Rattle.send_recv.proofs.Starts.{free_after_mismatch, free_after_received, free_after_slot, free_at_start, slot_after}
 use Rattle.send_recv.proofs.OtherPort.{free_there, receive_there, send_there, slot_there}
 use Rattle.chip_teams.specs.Teams.{sight_alone}
@@ -98,7 +98,7 @@ receive_differs peers slot turned st = record { peers = peers_kept _ turned.even
 
 -- a turn of the slot
 pub slot_goes_on : {s t : Sight} {c d : Private} {slot now : SlotAt} {bytes : List ℕ} {peer : ℕ} {answer : Turn} → IsTalking s c slot peer bytes None None
-    → SlotTurned (with_slot s c slot) (with_slot t d now) answer → SlotStands t.seat (record_in t) now → IsTalking t d now peer bytes None None
+    → SlotTurned (holding_slot s c slot) (holding_slot t d now) answer → SlotStands t.seat (record_in t) now → IsTalking t d now peer bytes None None
 slot_goes_on talk turned st = record { peers = peers_kept _ turned.events turned.did talk.peers; at = free_after_slot talk.at turned st }
 
 -- ---- the two ranks of a pair

@@ -5,6 +5,6 @@ use Rattle.put_get.specs.Cores.{Private}
 use Rattle.barrier.specs.Stages.{BarAt, BarStands}
 
 -- the barrier of this communicator stands where the events stand
-pub record IsReady (s : Sight) (core : Private) (comm : ℕ) (op : BarAt) (values : List Bool) : Type 0 where
+pub record IsBarrierReady (s : Sight) (core : Private) (comm : ℕ) (op : BarAt) (values : List Bool) : Type 0 where
   pub stands : BarStands s core op values
   pub same : op.comm ≡ comm

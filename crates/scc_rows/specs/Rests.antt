@@ -18,7 +18,7 @@ pub record IsPortAtRest (s : Sight) : Type 0 where
   pub idle : (record_in s).stage ≡ Idle
 
 -- a port of this rank that has made no event
-pub record IsFresh (s : Sight) (r : ℕ) : Type 0 where
+pub record IsFreshPort (s : Sight) (r : ℕ) : Type 0 where
   pub none : s.events ≡ []
   pub rank : s.seat.rank ≡ r
 
@@ -27,5 +27,5 @@ abbrev pub IsWithout : Sight → ℕ → Type 0
 IsWithout s core = (record_in s).held core ≡ None
 
 -- the rank holds it
-abbrev pub Holds : Sight → ℕ → Type 0
-Holds s core = is_some ((record_in s).held core) ≡ true
+abbrev pub HoldsRegister : Sight → ℕ → Type 0
+HoldsRegister s core = is_some ((record_in s).held core) ≡ true

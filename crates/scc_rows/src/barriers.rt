@@ -34,12 +34,12 @@ impl Entrant {
     ghost use Rattle.scc_base.specs.Communicators.{rule_of};
     ghost use Rattle.scc_base.specs.declared.communicators.CommRule.TheVariants.{Absent};
     ghost use Rattle.chip_teams.specs.Teams.{sight_alone};
-    ghost use Rattle.scc_rows.specs.Entrants.{IsReady};
+    ghost use Rattle.scc_rows.specs.Entrants.{IsBarrierReady};
 
     fn new(comm: u8, more: u8) -> Entrant
         requires below { comm < 16 }
         ensures ready { (s : SetupView) (r : ℕ) → rule_of s.comms comm ≢ Absent
-            → IsReady (sight_alone s r []) result.core result.comm result.op result.parity }
+            → IsBarrierReady (sight_alone s r []) result.core result.comm result.op result.parity }
     {
         Entrant {
             core: Core::new(Never),
@@ -53,9 +53,9 @@ impl Entrant {
 
 impl Player for Entrant {
     ghost use Rattle.chip_teams.specs.Teams.{sight_alone};
-    ghost use Rattle.scc_rows.specs.Entrants.{IsReady};
+    ghost use Rattle.scc_rows.specs.Entrants.{IsBarrierReady};
 
-    ghost stands = { λ m s r events. IsReady (sight_alone s r events) m.core m.comm m.op m.parity };
+    ghost stands = { λ m s r events. IsBarrierReady (sight_alone s r events) m.core m.comm m.op m.parity };
 
     fn turn<P: Port>(&mut self, port: &mut P) -> Turn {
         match self.op.turn(&mut self.core, port, &mut self.parity) {

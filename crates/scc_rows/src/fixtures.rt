@@ -4,7 +4,7 @@ ghost use Rattle.std.specs.Prelude.{◌≡◌, ◌<◌, ◌≤◌, ℕ, true, fa
 ghost use Rattle.scc_base.specs.Setups.{host_of};
 ghost use Rattle.scc_mesh.specs.Scenes.{sight_away};
 ghost use Rattle.put_get.specs.HeapStores.{AwaitsHeap};
-ghost use Rattle.scc_rows.specs.Rests.{IsNewPair, IsPortAtRest, IsFresh, IsWithout, Holds};
+ghost use Rattle.scc_rows.specs.Rests.{IsNewPair, IsPortAtRest, IsFreshPort, IsWithout, HoldsRegister};
 
 use line_cache::Evict;
 use put_get::{Core, RangeFault};
@@ -67,8 +67,8 @@ fn spread_pair(chip: &mut Chip) -> Pair<'_>
     requires pair { IsNewPair chip.old }
     ensures first_rests { IsPortAtRest (sight_away result.first.port.about result.first.port.ticket) }
     ensures second_rests { IsPortAtRest (sight_away result.second.port.about result.second.port.ticket) }
-    ensures first_fresh { IsFresh (sight_away result.first.port.about result.first.port.ticket) 0 }
-    ensures second_fresh { IsFresh (sight_away result.second.port.about result.second.port.ticket) 1 }
+    ensures first_fresh { IsFreshPort (sight_away result.first.port.about result.first.port.ticket) 0 }
+    ensures second_fresh { IsFreshPort (sight_away result.second.port.about result.second.port.ticket) 1 }
     ensures first_without { (core : ℕ) → IsWithout (sight_away result.first.port.about result.first.port.ticket) core }
     ensures second_without { (core : ℕ) → IsWithout (sight_away result.second.port.about result.second.port.ticket) core }
 {
@@ -84,14 +84,14 @@ fn spread_pair(chip: &mut Chip) -> Pair<'_>
 /// What the two ranks of a new chip do, with no message and no barrier under way before it.
 pub(crate) trait Meeting {
     ghost use Rattle.std.specs.Prelude.{ℕ};
-    ghost use Rattle.scc_rows.specs.Rests.{IsPortAtRest, IsFresh, IsWithout};
+    ghost use Rattle.scc_rows.specs.Rests.{IsPortAtRest, IsFreshPort, IsWithout};
 
     /// Whether it goes as it is named.
     fn holds<P: Port, Q: Port>(first: &mut CountingPort<P>, second: &mut CountingPort<Q>) -> bool
         requires first_rests { IsPortAtRest (P.sight first.old.port) }
         requires second_rests { IsPortAtRest (Q.sight second.old.port) }
-        requires first_fresh { IsFresh (P.sight first.old.port) 0 }
-        requires second_fresh { IsFresh (Q.sight second.old.port) 1 }
+        requires first_fresh { IsFreshPort (P.sight first.old.port) 0 }
+        requires second_fresh { IsFreshPort (Q.sight second.old.port) 1 }
         requires first_without { (core : ℕ) → IsWithout (P.sight first.old.port) core }
         requires second_without { (core : ℕ) → IsWithout (Q.sight second.old.port) core };
 }
@@ -248,7 +248,7 @@ pub(crate) fn flush<P: Port, V: Evict>(core: &mut Core<V>, port: &mut P)
 /// Asks for a core's register, which the rank does not hold.
 pub(crate) fn take<P: Port>(port: &mut P, core: CoreId) -> bool
     requires without { IsWithout (P.sight port.old) core }
-    ensures took { result ≡ true → Holds (P.sight port.new) core }
+    ensures took { result ≡ true → HoldsRegister (P.sight port.new) core }
     ensures missed { result ≡ false → IsWithout (P.sight port.new) core }
 {
     port.take(core)
@@ -256,7 +256,7 @@ pub(crate) fn take<P: Port>(port: &mut P, core: CoreId) -> bool
 
 /// Frees a core's register, which the rank holds.
 pub(crate) fn free<P: Port>(port: &mut P, core: CoreId)
-    requires held { Holds (P.sight port.old) core }
+    requires held { HoldsRegister (P.sight port.old) core }
     ensures freed { IsWithout (P.sight port.new) core }
 {
     port.free(core);
@@ -265,7 +265,7 @@ pub(crate) fn free<P: Port>(port: &mut P, core: CoreId)
 /// Tries once to lock a core's register, which the rank does not hold.
 pub(crate) fn acquire<P: Port>(port: &mut P, core: CoreId) -> Option<Held>
     requires without { IsWithout (P.sight port.old) core }
-    ensures took { IfSome result (λ held. (held ≡ core) × Holds (P.sight port.new) core) }
+    ensures took { IfSome result (λ held. (held ≡ core) × HoldsRegister (P.sight port.new) core) }
     ensures missed { IfNone result (IsWithout (P.sight port.new) core) }
 {
     try_acquire(port, core)
@@ -273,7 +273,7 @@ pub(crate) fn acquire<P: Port>(port: &mut P, core: CoreId) -> Option<Held>
 
 /// Unlocks a register.
 pub(crate) fn give_back<P: Port>(port: &mut P, held: Held)
-    requires held { Holds (P.sight port.old) held }
+    requires held { HoldsRegister (P.sight port.old) held }
     ensures freed { IsWithout (P.sight port.new) held }
 {
     release(port, held);

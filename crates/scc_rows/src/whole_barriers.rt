@@ -34,12 +34,12 @@ impl Passer {
     ghost use Rattle.scc_base.specs.Communicators.{rule_of};
     ghost use Rattle.scc_base.specs.declared.communicators.CommRule.TheVariants.{Absent};
     ghost use Rattle.chip_teams.specs.Teams.{sight_alone};
-    ghost use Rattle.scc_rows.specs.Entrants.{IsReady};
+    ghost use Rattle.scc_rows.specs.Entrants.{IsBarrierReady};
 
     fn new(comm: u8) -> Passer
         requires below { comm < 16 }
         ensures ready { (s : SetupView) (r : ℕ) → rule_of s.comms comm ≢ Absent
-            → IsReady (sight_alone s r []) result.core result.comm result.op result.parity }
+            → IsBarrierReady (sight_alone s r []) result.core result.comm result.op result.parity }
     {
         Passer {
             core: Core::new(Never),
@@ -52,9 +52,9 @@ impl Passer {
 
 impl Player for Passer {
     ghost use Rattle.chip_teams.specs.Teams.{sight_alone};
-    ghost use Rattle.scc_rows.specs.Entrants.{IsReady};
+    ghost use Rattle.scc_rows.specs.Entrants.{IsBarrierReady};
 
-    ghost stands = { λ m s r events. IsReady (sight_alone s r events) m.core m.comm m.op m.parity };
+    ghost stands = { λ m s r events. IsBarrierReady (sight_alone s r events) m.core m.comm m.op m.parity };
 
     fn turn<P: Port>(&mut self, port: &mut P) -> Turn {
         let next = BarOp::new(self.comm);

@@ -3,7 +3,7 @@ use Rattle.std.specs.Prelude.{ℕ, ℤ, List, [], None, Some, Result, Ok}
 use Rattle.scc_base.specs.Heads.{MessageHead}
 use Rattle.scc_base.specs.declared.calls.Call.{Call}
 use Rattle.groups.specs.declared.operations.Ty.{Ty}
-use Rattle.groups.specs.Folds.{bytes_of}
+use Rattle.groups.specs.Folds.{bytes_of_value}
 use Rattle.script_reader.specs.declared.fault.ReadFault.{ReadFault}
 use Rattle.script_reader.specs.declared.script.Form.TheVariants as form
 use Rattle.script_reader.specs.Faults.{◌>>=◌}
@@ -23,11 +23,11 @@ shows reg bytes = record { reg = reg; form = form.Hex; bytes = bytes }
 
 -- a register that was printed as one value of a type
 abbrev pub shows_value : Ty → ℕ → ℤ → Printed
-shows_value ty reg value = record { reg = reg; form = form.Decimal ty; bytes = bytes_of ty value }
+shows_value ty reg value = record { reg = reg; form = form.Decimal ty; bytes = bytes_of_value ty value }
 
 -- a rank that did all its statements, and printed these registers
-abbrev pub finished : List Printed → Ended
-finished printed = record { end = ue_end.Finished; printed = printed; on_its_way = None }
+abbrev pub finishes : List Printed → Ended
+finishes printed = record { end = ue_end.Finished; printed = printed; on_its_way = None }
 
 -- a rank that waits in the call of a line, and printed these registers before
 abbrev pub waits : ℕ → Call → List Printed → Ended
@@ -35,8 +35,8 @@ waits line call printed = record { end = ue_end.Waits line call; printed = print
 
 -- a rank that printed nothing and was stopped at the receive of a line: by the sender's rank, the head of its message, and
 -- the head that the receive asks for
-abbrev pub stopped : ℕ → ℕ → MessageHead → MessageHead → Ended
-stopped line from sent asked = record { end = ue_end.Mismatch line from sent asked; printed = []; on_its_way = None }
+abbrev pub stops : ℕ → ℕ → MessageHead → MessageHead → Ended
+stops line from sent asked = record { end = ue_end.Mismatch line from sent asked; printed = []; on_its_way = None }
 
 -- a rank whose posted message to another was not taken
 abbrev pub posted_to : ℕ → Ended → Ended

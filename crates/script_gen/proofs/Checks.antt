@@ -6,7 +6,7 @@ use Rattle.std.specs.Option.{option_map_or}
 use Rattle.std.proofs.lemmas.Bool.{le-ltb}
 use Rattle.scc_base.specs.Groups.{list_below, is_with}
 use Rattle.scc_base.specs.Setups.{SetupView, members_of, place_of, setup_key}
-use Rattle.groups.specs.Collectives.{fold_each, head_of, others_of, other_steps, root_steps, send_each, steps_of}
+use Rattle.groups.specs.Collectives.{fold_each, head_of_kind, others_of, other_steps, root_steps, send_each, steps_of}
 use Rattle.groups.specs.declared.collectives.Coll.TheVariants as coll
 use Rattle.groups.specs.declared.collectives.Step.TheVariants as step
 use Rattle.scc_base.specs.declared.kinds.Kind.TheVariants as message_kind
@@ -17,11 +17,11 @@ use Rattle.script_reader.specs.declared.script.Item.{Item}
 use Rattle.script_reader.specs.declared.script.Stmt.{Stmt}
 use Rattle.script_reader.specs.declared.script.Who.{Who}
 use Rattle.script_reader.specs.declared.version.Version.TheVariants as version
-use Rattle.script_reader.specs.Checks.{cost_of, has_no_parent, has_no_root, has_split, is_misshapen, is_not_split, is_stray, is_to_self, is_too_deep, is_too_long, is_unknown, is_unset, length_at, open_of, operations, posts_too_much, printed, prints, refuses, run_of, some_below, turns_in, turns_too_often}
+use Rattle.script_reader.specs.Checks.{cost_of, has_no_parent, has_no_root, has_split, is_misshapen, is_not_split, is_stray, is_to_self, is_too_deep, is_too_long, is_unknown, is_unset, length_at, open_of, operations, posts_too_much, bytes_printed, prints, refuses, run_of, some_below, turns_in, turns_too_often}
 use Rattle.script_reader.specs.Effects.{effect_of}
 use Rattle.script_reader.specs.Faults.{◌>>=◌}
 use Rattle.script_reader.specs.Limits.{most_names, most_operations, most_printed}
-use Rattle.script_reader.specs.Progress.{Progress, fault_table, first_fault, has_fault, is_refused, place}
+use Rattle.script_reader.specs.Progress.{ReadingSoFar, fault_table, first_fault, has_fault, is_refused, place}
 use Rattle.script_reader.specs.Script.{has_rank}
 use Rattle.script_gen.specs.Scripts.{item_of}
 
@@ -63,7 +63,7 @@ passing nue past who s known parented closed flat turning short clear =
     record { known = known; parented = parented; closed = closed; flat = flat; turning = turning; short = short; clear = clear }
 
 -- where the reader stands in a section
-abbrev pub stage : ℕ → List Item → List (List ℕ) → Who → Progress
+abbrev pub stage : ℕ → List Item → List (List ℕ) → Who → ReadingSoFar
 stage nue items names who = record { version = version.One; nue = nue; opening = false; items = items; names = names; section = Some who }
 
 module _ (nue : ℕ) (items : List Item) (names : List (List ℕ)) (who : Who) (s : Stmt) (p : Passes nue (reverse items) who s) where
@@ -105,7 +105,7 @@ pub clears : (nue : ℕ) (past : List Item) (s : Stmt) (rank : ℕ)
     → is_misshapen (run_of nue past) (length_at nue past rank) (effect_of s) rank ≡ false
     → posts_too_much (length_at nue past rank) (effect_of s) ≡ false
     → operations nue past rank + turns_in (open_of past) * cost_of (run_of nue past) (effect_of s).cost rank ≤ most_operations
-    → printed nue past rank + turns_in (open_of past) * prints (length_at nue past rank) (effect_of s) ≤ most_printed
+    → bytes_printed nue past rank + turns_in (open_of past) * prints (length_at nue past rank) (effect_of s) ≤ most_printed
     → (kind : FaultKind) → refuses kind nue past (effect_of s) rank ≡ false
 clears nue past s rank root self split set shape posts worked shown kind.RankRange = root
 clears nue past s rank root self split set shape posts worked shown kind.SelfMessage = self
@@ -159,8 +159,8 @@ remove_short (x ∷ xs) (suc i) = let rest = remove_short xs i in omega (arith, 
 
 root_short : (others : List ℕ) → length others ≤ 48 → length (root_steps (coll.Allreduce 0 0) others) ≤ 150
 root_short others few =
-    let up = head_of message_kind.AllUp 0 0 in
-    let down = head_of message_kind.AllDown 0 0 in
+    let up = head_of_kind message_kind.AllUp 0 0 in
+    let down = head_of_kind message_kind.AllDown 0 0 in
     let all = length-append (fold_each up others ++ send_each down others) (step.Finish ∷ []) in
     let both = length-append (fold_each up others) (send_each down others) in
     omega (arith, all, both, folds_length up others, sends_length down others, few)

@@ -7,7 +7,7 @@ use Rattle.std.proofs.lemmas.Bool.Decides.{nat_tests}
 use Rattle.std.proofs.lemmas.Fmt.{decimal_by_steps, decimal_nonempty}
 use Rattle.std.proofs.lemmas.List.Elements.{All-nil, All-cons}
 use Rattle.std.proofs.lemmas.List.Splits.{slice_split_none, slice_split_at}
-use Rattle.texts.specs.Cuts.{is_blank, is_text, is_text_byte, lines_of, uncommented, words_of}
+use Rattle.texts.specs.Cuts.{is_blank, is_text, is_text_byte, lines_of, without_comment, words_of}
 use Rattle.script_gen.specs.Texts.{text_of_lines}
 
 -- a byte of a word of a generated script: a letter, a digit or a sign among others, and neither a blank nor a `#`
@@ -85,7 +85,7 @@ line_plain (w ∷ v ∷ vs) (is, rest) =
     list_all-append plain w (32 ∷ line_of (v ∷ vs)) (all_also ink plain w ink_plain is.0) (and_from (plain 32) _ refl (line_plain (v ∷ vs) rest))
 
 -- no part of it is a comment
-no_comment : (xs : List ℕ) → list_all plain xs ≡ true → uncommented xs ≡ xs
+no_comment : (xs : List ℕ) → list_all plain xs ≡ true → without_comment xs ≡ xs
 no_comment [] all = refl
 no_comment (x ∷ xs) all =
     let parts = and_parts (plain x) (list_all plain xs) all in

@@ -14,7 +14,7 @@ use Rattle.script_reader.specs.declared.version.Version.TheVariants as version
 use Rattle.script_reader.specs.Checks.{cost_of, open_of, operations, run_of, turns_in}
 use Rattle.script_reader.specs.Effects.{effect_of}
 use Rattle.script_reader.specs.Limits.{most_operations}
-use Rattle.script_reader.specs.Progress.{Progress, start}
+use Rattle.script_reader.specs.Progress.{ReadingSoFar, start}
 use Rattle.script_reader.specs.Reading.{at_end, most_script_bytes, parse_script, read_lines}
 use Rattle.texts.specs.Cuts.{line_count}
 use Rattle.script_gen.specs.Scripts.{item_of, lone_script}
@@ -71,7 +71,7 @@ more s t n = reverse (drop n (lone_said s t))
 abbrev rest : ℕ → ℕ → ℕ → List (List ℕ)
 rest s t n = map line_of (drop n (lone_words s t)) ++ [] ∷ []
 
-abbrev at : ℕ → ℕ → ℕ → ℕ → List (List ℕ) → Who → Progress
+abbrev at : ℕ → ℕ → ℕ → ℕ → List (List ℕ) → Who → ReadingSoFar
 at nue s t n names who = stage nue (take n (lone_said s t)) names who
 
 module _ (s t : ℕ) (small : s ≤ 65535) (least : 1 ≤ t) (few : t ≤ 10) where

@@ -3,7 +3,7 @@ use Rattle.std.proofs.Common.{◌≡◌, ℕ, ◌+◌, ◌*◌, ◌≤◌, Bool,
 use Rattle.std.specs.Option.{option_or}
 use Rattle.std.proofs.lemmas.Bool.{cond-false}
 use Rattle.script_reader.specs.declared.script.Item.{Item}
-use Rattle.script_reader.specs.Checks.{length_at, open_of, printed, prints, run_of, set_by, sets_to, turns_in}
+use Rattle.script_reader.specs.Checks.{length_at, open_of, bytes_printed, prints, run_of, set_by, sets_to, turns_in}
 use Rattle.script_reader.specs.Effects.{effect_of}
 use Rattle.script_reader.specs.Limits.{most_printed}
 use Rattle.script_reader.specs.Script.{has_rank}
@@ -19,7 +19,7 @@ others_none nue rank (item ∷ past) others reg =
     (others_none nue rank past others.0 reg)
     ∙ cond-false _ _ _ others.1
 
-pub others_shown : (nue rank : ℕ) (past : List Item) → AreOthers rank past → printed nue past rank ≡ 0
+pub others_shown : (nue rank : ℕ) (past : List Item) → AreOthers rank past → bytes_printed nue past rank ≡ 0
 others_shown nue rank [] others = refl
 others_shown nue rank (item ∷ past) others =
     ap (λ (n : ℕ). n + cond (has_rank item.who rank) (turns_in (open_of past) * prints (length_at nue past rank) (effect_of item.stmt)) 0) (others_shown nue rank past others.0)
@@ -30,10 +30,10 @@ no_part : (b : Bool) (n t : ℕ) → n + cond b (t * 0) 0 ≡ n
 no_part true n t = omega arith
 no_part false n t = omega arith
 
-pub silent : (nue rank : ℕ) (past : List Item) (item : Item) → prints (length_at nue past rank) (effect_of item.stmt) ≡ 0 → printed nue (item ∷ past) rank ≡ printed nue past rank
+pub silent : (nue rank : ℕ) (past : List Item) (item : Item) → prints (length_at nue past rank) (effect_of item.stmt) ≡ 0 → bytes_printed nue (item ∷ past) rank ≡ bytes_printed nue past rank
 silent nue rank past item none =
-    ap (λ (n : ℕ). printed nue past rank + cond (has_rank item.who rank) (turns_in (open_of past) * n) 0) none
-    ∙ no_part (has_rank item.who rank) (printed nue past rank) (turns_in (open_of past))
+    ap (λ (n : ℕ). bytes_printed nue past rank + cond (has_rank item.who rank) (turns_in (open_of past) * n) 0) none
+    ∙ no_part (has_rank item.who rank) (bytes_printed nue past rank) (turns_in (open_of past))
 
 pub still_within : (n t : ℕ) → n ≡ 0 → n + t * 0 ≤ most_printed
 still_within n t none = omega (arith, none)

@@ -8,7 +8,7 @@ use Rattle.script_reader.specs.declared.script.Item.{Item}
 use Rattle.script_reader.specs.declared.script.OwnStmt.TheVariants as own
 use Rattle.script_reader.specs.declared.script.Stmt.TheVariants as stmt
 use Rattle.script_reader.specs.declared.script.Who.TheVariants as who
-use Rattle.script_reader.specs.Checks.{cost_of, differs, is_ragged, length_at, open_of, operations, printed, run_of, turns_in}
+use Rattle.script_reader.specs.Checks.{cost_of, differs, is_ragged, length_at, open_of, operations, bytes_printed, run_of, turns_in}
 use Rattle.script_reader.specs.Effects.{effect_of}
 use Rattle.script_reader.specs.Limits.{most_operations}
 use Rattle.script_gen.specs.Scripts.{item_of, recv_last, send_next}
@@ -72,33 +72,33 @@ module _ (nue s t : ℕ) (some : 2 ≤ nue) (most : nue ≤ 48) (small : s ≤ 6
   none_of : (rank : ℕ) → (rank % 2 == 1) ≡ true → (reg : ℕ) → length_at nue (past s t 9) rank reg ≡ None
   none_of rank odd = others_none nue rank (past s t 9) (others rank odd)
 
-  quiet_9 : (rank : ℕ) → (rank % 2 == 1) ≡ true → printed nue (past s t 9) rank ≡ 0
+  quiet_9 : (rank : ℕ) → (rank % 2 == 1) ≡ true → bytes_printed nue (past s t 9) rank ≡ 0
   quiet_9 rank odd = others_shown nue rank (past s t 9) (others rank odd)
 
-  quiet_10 : (rank : ℕ) → (rank % 2 == 1) ≡ true → printed nue (past s t 10) rank ≡ 0
+  quiet_10 : (rank : ℕ) → (rank % 2 == 1) ≡ true → bytes_printed nue (past s t 10) rank ≡ 0
   quiet_10 rank odd = silent nue rank (past s t 9) (item_of 12 who.Odd (stmt.Fill 0 s s)) refl ∙ quiet_9 rank odd
 
-  quiet_11 : (rank : ℕ) → (rank % 2 == 1) ≡ true → printed nue (past s t 11) rank ≡ 0
+  quiet_11 : (rank : ℕ) → (rank % 2 == 1) ≡ true → bytes_printed nue (past s t 11) rank ≡ 0
   quiet_11 rank odd = silent nue rank (past s t 10) (item_of 13 who.Odd (stmt.RankOf 1 ty.Long)) refl ∙ quiet_10 rank odd
 
-  quiet_12 : (rank : ℕ) → (rank % 2 == 1) ≡ true → printed nue (past s t 12) rank ≡ 0
+  quiet_12 : (rank : ℕ) → (rank % 2 == 1) ≡ true → bytes_printed nue (past s t 12) rank ≡ 0
   quiet_12 rank odd = silent nue rank (past s t 11) (item_of 14 who.Odd (stmt.Repeat t 0)) refl ∙ quiet_11 rank odd
 
-  quiet_13 : (rank : ℕ) → (rank % 2 == 1) ≡ true → printed nue (past s t 13) rank ≡ 0
+  quiet_13 : (rank : ℕ) → (rank % 2 == 1) ≡ true → bytes_printed nue (past s t 13) rank ≡ 0
   quiet_13 rank odd = silent nue rank (past s t 12) (item_of 15 who.Odd (recv_last s)) refl ∙ quiet_12 rank odd
 
-  quiet_14 : (rank : ℕ) → (rank % 2 == 1) ≡ true → printed nue (past s t 14) rank ≡ 0
+  quiet_14 : (rank : ℕ) → (rank % 2 == 1) ≡ true → bytes_printed nue (past s t 14) rank ≡ 0
   quiet_14 rank odd = silent nue rank (past s t 13) (item_of 16 who.Odd send_next) refl ∙ quiet_13 rank odd
 
-  quiet_15 : (rank : ℕ) → (rank % 2 == 1) ≡ true → printed nue (past s t 15) rank ≡ 0
+  quiet_15 : (rank : ℕ) → (rank % 2 == 1) ≡ true → bytes_printed nue (past s t 15) rank ≡ 0
   quiet_15 rank odd = silent nue rank (past s t 14) (item_of 17 who.Odd (stmt.Allreduce 0 op.Sum ty.Long 1 1)) refl ∙ quiet_14 rank odd
 
-  quiet_16 : (rank : ℕ) → (rank % 2 == 1) ≡ true → printed nue (past s t 16) rank ≡ 0
+  quiet_16 : (rank : ℕ) → (rank % 2 == 1) ≡ true → bytes_printed nue (past s t 16) rank ≡ 0
   quiet_16 rank odd = silent nue rank (past s t 15) (item_of 18 who.Odd (stmt.End 11)) refl ∙ quiet_15 rank odd
 
-  shown_17 : (rank : ℕ) → (rank % 2 == 1) ≡ true → printed nue (past s t 17) rank ≤ s
+  shown_17 : (rank : ℕ) → (rank % 2 == 1) ≡ true → bytes_printed nue (past s t 17) rank ≤ s
   shown_17 rank odd =
-      print_more (rank % 2 == 1) (printed nue (past s t 16) rank) 1 (length_at nue (past s t 16) rank 2) 0 s s
+      print_more (rank % 2 == 1) (bytes_printed nue (past s t 16) rank) 1 (length_at nue (past s t 16) rank 2) 0 s s
       (omega (arith, quiet_16 rank odd)) refl (length_16 nue s t rank (past s t 9) odd (none_of rank odd)) (omega arith)
 
   pub pass_0 : Passes nue (past s t 0) who.Even (stmt.Fill 0 s s)
@@ -178,56 +178,56 @@ module _ (nue s t : ℕ) (some : 2 ≤ nue) (most : nue ≤ 48) (small : s ≤ 6
       passing nue (past s t 9) who.Odd (stmt.Fill 0 s s) refl refl refl refl refl (not_above 65536 s (omega (arith, small))) (λ check rank below has.
       clears nue (past s t 9) (stmt.Fill 0 s s) rank refl refl refl refl (ap (λ (o : Option ℕ). differs o s || false) (none_of rank has 0)) refl
       (spent rank (more s t 10) (past s t 9) (item_of 12 who.Odd (stmt.Fill 0 s s)) refl (omega arith))
-      (still_within (printed nue (past s t 9) rank) (turns_in (open_of (past s t 9))) (quiet_9 rank has)) check)
+      (still_within (bytes_printed nue (past s t 9) rank) (turns_in (open_of (past s t 9))) (quiet_9 rank has)) check)
 
   pub pass_10 : Passes nue (past s t 10) who.Odd (stmt.RankOf 1 ty.Long)
   pass_10 =
       passing nue (past s t 10) who.Odd (stmt.RankOf 1 ty.Long) refl refl refl refl refl refl (λ check rank below has.
       clears nue (past s t 10) (stmt.RankOf 1 ty.Long) rank refl refl refl refl (ap (λ (o : Option ℕ). differs o 8 || false) (length_10 nue s t rank (past s t 9) has (none_of rank has))) refl
       (spent rank (more s t 11) (past s t 10) (item_of 13 who.Odd (stmt.RankOf 1 ty.Long)) refl (omega arith))
-      (still_within (printed nue (past s t 10) rank) (turns_in (open_of (past s t 10))) (quiet_10 rank has)) check)
+      (still_within (bytes_printed nue (past s t 10) rank) (turns_in (open_of (past s t 10))) (quiet_10 rank has)) check)
 
   pub pass_11 : Passes nue (past s t 11) who.Odd (stmt.Repeat t 0)
   pass_11 =
       passing nue (past s t 11) who.Odd (stmt.Repeat t 0) refl refl refl refl (not_above most_operations (1 * t) (omega (arith, few))) refl (λ check rank below has.
       clears nue (past s t 11) (stmt.Repeat t 0) rank refl refl refl refl refl refl
       (spent rank (more s t 12) (past s t 11) (item_of 14 who.Odd (stmt.Repeat t 0)) refl (omega arith))
-      (still_within (printed nue (past s t 11) rank) (turns_in (open_of (past s t 11))) (quiet_11 rank has)) check)
+      (still_within (bytes_printed nue (past s t 11) rank) (turns_in (open_of (past s t 11))) (quiet_11 rank has)) check)
 
   pub pass_12 : Passes nue (past s t 12) who.Odd (recv_last s)
   pass_12 =
       passing nue (past s t 12) who.Odd (recv_last s) refl refl refl refl refl (not_above 65536 s (omega (arith, small))) (λ check rank below has.
       clears nue (past s t 12) (recv_last s) rank refl (recv_other nue s rank some below) refl refl (ap (λ (o : Option ℕ). differs o s || false) (length_12 nue s t rank (past s t 9) has (none_of rank has))) refl
       (spent rank (more s t 13) (past s t 12) (item_of 15 who.Odd (recv_last s)) refl (omega arith))
-      (still_within (printed nue (past s t 12) rank) (turns_in (open_of (past s t 12))) (quiet_12 rank has)) check)
+      (still_within (bytes_printed nue (past s t 12) rank) (turns_in (open_of (past s t 12))) (quiet_12 rank has)) check)
 
   pub pass_13 : Passes nue (past s t 13) who.Odd send_next
   pass_13 =
       passing nue (past s t 13) who.Odd send_next refl refl refl refl refl refl (λ check rank below has.
       clears nue (past s t 13) send_next rank refl (send_other nue rank some below) refl (ap is_none (length_13 nue s t rank (past s t 9) has (none_of rank has))) refl refl
       (spent rank (more s t 14) (past s t 13) (item_of 16 who.Odd send_next) refl (omega arith))
-      (still_within (printed nue (past s t 13) rank) (turns_in (open_of (past s t 13))) (quiet_13 rank has)) check)
+      (still_within (bytes_printed nue (past s t 13) rank) (turns_in (open_of (past s t 13))) (quiet_13 rank has)) check)
 
   pub pass_14 : Passes nue (past s t 14) who.Odd (stmt.Allreduce 0 op.Sum ty.Long 1 1)
   pass_14 =
       passing nue (past s t 14) who.Odd (stmt.Allreduce 0 op.Sum ty.Long 1 1) refl refl refl refl refl refl (λ check rank below has.
       clears nue (past s t 14) (stmt.Allreduce 0 op.Sum ty.Long 1 1) rank refl refl refl (ap is_none (length_14 nue s t rank (past s t 9) has (none_of rank has))) (ap (λ (o : Option ℕ). differs o (unwrap_or o 0) || is_ragged ty.Long o) (length_14 nue s t rank (past s t 9) has (none_of rank has))) refl
       (spent rank (more s t 15) (past s t 14) (item_of 17 who.Odd (stmt.Allreduce 0 op.Sum ty.Long 1 1)) refl (omega arith))
-      (still_within (printed nue (past s t 14) rank) (turns_in (open_of (past s t 14))) (quiet_14 rank has)) check)
+      (still_within (bytes_printed nue (past s t 14) rank) (turns_in (open_of (past s t 14))) (quiet_14 rank has)) check)
 
   pub pass_15 : Passes nue (past s t 15) who.Odd (stmt.End 11)
   pass_15 =
       passing nue (past s t 15) who.Odd (stmt.End 11) refl refl refl refl refl refl (λ check rank below has.
       clears nue (past s t 15) (stmt.End 11) rank refl refl refl refl refl refl
       (spent rank (more s t 16) (past s t 15) (item_of 18 who.Odd (stmt.End 11)) refl (omega arith))
-      (still_within (printed nue (past s t 15) rank) (turns_in (open_of (past s t 15))) (quiet_15 rank has)) check)
+      (still_within (bytes_printed nue (past s t 15) rank) (turns_in (open_of (past s t 15))) (quiet_15 rank has)) check)
 
   pub pass_16 : Passes nue (past s t 16) who.Odd (stmt.Own (own.Print 2 form.Hex))
   pass_16 =
       passing nue (past s t 16) who.Odd (stmt.Own (own.Print 2 form.Hex)) refl refl refl refl refl refl (λ check rank below has.
       clears nue (past s t 16) (stmt.Own (own.Print 2 form.Hex)) rank refl refl refl (ap is_none (length_16 nue s t rank (past s t 9) has (none_of rank has))) refl refl
       (spent rank (more s t 17) (past s t 16) (item_of 19 who.Odd (stmt.Own (own.Print 2 form.Hex))) refl (omega arith))
-      (print_within (printed nue (past s t 16) rank) (turns_in (open_of (past s t 16))) (length_at nue (past s t 16) rank 2) 0 s
+      (print_within (bytes_printed nue (past s t 16) rank) (turns_in (open_of (past s t 16))) (length_at nue (past s t 16) rank 2) 0 s
       (omega (arith, quiet_16 rank has)) refl (length_16 nue s t rank (past s t 9) has (none_of rank has)) (omega (arith, small))) check)
 
   pub pass_17 : Passes nue (past s t 17) who.Odd (stmt.Own (own.Print 1 (form.Decimal ty.Long)))
@@ -235,5 +235,5 @@ module _ (nue s t : ℕ) (some : 2 ≤ nue) (most : nue ≤ 48) (small : s ≤ 6
       passing nue (past s t 17) who.Odd (stmt.Own (own.Print 1 (form.Decimal ty.Long))) refl refl refl refl refl refl (λ check rank below has.
       clears nue (past s t 17) (stmt.Own (own.Print 1 (form.Decimal ty.Long))) rank refl refl refl (ap is_none (length_17 nue s t rank (past s t 9) has (none_of rank has))) (ap (λ (o : Option ℕ). false || is_ragged ty.Long o) (length_17 nue s t rank (past s t 9) has (none_of rank has))) refl
       (spent rank (more s t 18) (past s t 17) (item_of 20 who.Odd (stmt.Own (own.Print 1 (form.Decimal ty.Long)))) refl (omega arith))
-      (print_within (printed nue (past s t 17) rank) (turns_in (open_of (past s t 17))) (length_at nue (past s t 17) rank 1) s 8
+      (print_within (bytes_printed nue (past s t 17) rank) (turns_in (open_of (past s t 17))) (length_at nue (past s t 17) rank 1) s 8
       (shown_17 rank has) refl (length_17 nue s t rank (past s t 9) has (none_of rank has)) (omega (arith, small))) check)

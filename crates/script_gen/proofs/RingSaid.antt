@@ -10,7 +10,7 @@ use Rattle.script_reader.specs.declared.script.Stmt.TheVariants as stmt
 use Rattle.script_reader.specs.declared.script.Who.{Who}
 use Rattle.script_reader.specs.declared.script.Who.TheVariants as who
 use Rattle.script_reader.specs.Checks.{length_at}
-use Rattle.script_reader.specs.Progress.{Progress}
+use Rattle.script_reader.specs.Progress.{ReadingSoFar}
 use Rattle.script_gen.specs.Scripts.{item_of, recv_last, send_next}
 use Rattle.script_gen.proofs.Checks.{stage}
 use Rattle.script_gen.proofs.Lines.{line_of}
@@ -77,7 +77,7 @@ more s t n = reverse (drop n (ring_said s t))
 abbrev pub rest : ℕ → ℕ → ℕ → List (List ℕ)
 rest s t n = map line_of (drop n (ring_words s t)) ++ [] ∷ []
 
-abbrev pub at : ℕ → ℕ → ℕ → ℕ → List (List ℕ) → Who → Progress
+abbrev pub at : ℕ → ℕ → ℕ → ℕ → List (List ℕ) → Who → ReadingSoFar
 at nue s t n names who = stage nue (take n (ring_said s t)) names who
 
 -- the lengths of the registers of an odd rank, behind statements of other ranks

@@ -2,7 +2,7 @@
 use Rattle.std.proofs.Common.{◌≡◌, ℕ, Bool, true, false, cond, List, [], ◌∷◌, ◌++◌, codes, decimal, refl, sym, ◌∙◌, ap, append_assoc}
 use Rattle.std.proofs.lemmas.Bool.{eq-eqb, ne_eqb}
 use Rattle.std.proofs.lemmas.List.{append-nil}
-use Rattle.rcce_io.specs.Sending.{joined}
+use Rattle.rcce_io.specs.Sending.{joined_texts}
 use Rattle.script_gen.specs.Pieces.{section_text}
 use Rattle.script_gen.specs.Texts.{fill_line, gen_text, recv_line, send_line, text_of_lines, turns_of}
 
@@ -54,8 +54,8 @@ parts : (old r f d b m t l e a w p : List ℕ)
 parts old r f d b m t l e a w p = simp append_assoc
 
 pub section_parts : (old ranks : List ℕ) (s : ℕ) (exchange shown : List ℕ)
-    → ((old ++ joined (ranks ∷ codes "\nfill h " ∷ decimal s ∷ codes " " ∷ decimal s ∷ codes "\nrank me long\nrepeat " ∷ decimal (turns_of s) ∷ codes "\n" ∷ [])) ++ exchange)
-    ++ joined (codes "allreduce 0 sum long me me\nend\n" ∷ shown ∷ codes "print long me\n" ∷ [])
+    → ((old ++ joined_texts (ranks ∷ codes "\nfill h " ∷ decimal s ∷ codes " " ∷ decimal s ∷ codes "\nrank me long\nrepeat " ∷ decimal (turns_of s) ∷ codes "\n" ∷ [])) ++ exchange)
+    ++ joined_texts (codes "allreduce 0 sum long me me\nend\n" ∷ shown ∷ codes "print long me\n" ∷ [])
     ≡ old ++ section_text ranks s exchange shown
 unfolding section_text
 section_parts old ranks s exchange shown =
@@ -83,10 +83,10 @@ alone_text nue s one =
 
 -- the lines of a turn round the ring, as they are written
 abbrev pub even_pieces : List ℕ → List ℕ
-even_pieces d = joined (codes "send +1 h\nrecv -1 g " ∷ d ∷ codes "\n" ∷ [])
+even_pieces d = joined_texts (codes "send +1 h\nrecv -1 g " ∷ d ∷ codes "\n" ∷ [])
 
 abbrev pub odd_pieces : List ℕ → List ℕ
-odd_pieces d = joined (codes "recv -1 g " ∷ d ∷ codes "\nsend +1 h\n" ∷ [])
+odd_pieces d = joined_texts (codes "recv -1 g " ∷ d ∷ codes "\nsend +1 h\n" ∷ [])
 
 even_ring : (d : List ℕ) → text_of_lines (send_line ∷ (codes "recv -1 g " ++ d) ∷ []) ≡ even_pieces d
 even_ring d = ap (λ (t : List ℕ). codes "send +1 h\nrecv -1 g " ++ t) (append-nil (d ++ 10 ∷ []))

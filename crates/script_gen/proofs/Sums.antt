@@ -14,10 +14,10 @@ use Rattle.script_plain.specs.declared.matches.Match.{Match}
 use Rattle.script_machine.specs.declared.posts.Posted.{Posted}
 use Rattle.script_machine.specs.declared.prims.Standing.{Standing}
 use Rattle.script_machine.specs.declared.prims.Standing.TheVariants as standing
-use Rattle.script_plain.specs.Collectives.{started}
-use Rattle.script_machine.specs.Local.{Local, local_next, next_by_act, next_by_prim, prim_by_standing, line_of}
-use Rattle.script_plain.specs.Matches.{brought, brought_by, line_at, lowest_brought, match_of, matches_on, plain_matches, step_brought, brought_by_take}
-use Rattle.script_plain.specs.Meaning.{State, keys_of, next_of, plain_end, recorded, start_of, steps_left}
+use Rattle.script_plain.specs.Collectives.{start_of_rank}
+use Rattle.script_machine.specs.Local.{Local, local_next, next_by_act, next_by_prim, prim_by_standing, statement_line}
+use Rattle.script_plain.specs.Matches.{messages_brought, brought_by, statement_line_at, lowest_brought, match_of, matches_on, plain_matches, step_brought, brought_by_take}
+use Rattle.script_plain.specs.Meaning.{State, keys_of, next_of, plain_end, next_with_calls, start_of, steps_left}
 use Rattle.script_machine.specs.Next.{Next, is_at_barrier, past_barrier}
 use Rattle.script_machine.specs.Next.Next.{Ends, Goes, Posts, Sends, Recvs, Bars}
 use Rattle.script_machine.specs.Program.{Act, Prim}
@@ -41,18 +41,18 @@ Quiet k u = AreQuiet u.local.left
 abbrev Nothing : ℕ → Posted → Type 0
 Nothing k message = ⊥
 
-quiet_act : (k : ℕ) (calls : List DataCall) (u : Local) (line : ℕ) (a : Act) → IsQuiet a → AreQuiet (drop 1 u.left) → AreQuiet u.left → KeepsNext (Quiet k) (Nothing k) (recorded calls (next_by_act u line a))
+quiet_act : (k : ℕ) (calls : List DataCall) (u : Local) (line : ℕ) (a : Act) → IsQuiet a → AreQuiet (drop 1 u.left) → AreQuiet u.left → KeepsNext (Quiet k) (Nothing k) (next_with_calls calls (next_by_act u line a))
 quiet_act k calls u line (Act.Post to reg) quiet rest all = absurd quiet
 quiet_act k calls u line (Act.Recv from reg head) quiet rest all = (λ bytes. rest, λ sent. all)
 quiet_act k calls u line (Act.Gather from head sized) quiet rest all = (λ bytes. rest, λ sent. all)
 quiet_act k calls u line _ quiet rest all = rest
 
-quiet_left : (k : ℕ) (calls : List DataCall) (u : Local) (l : List Prim) → u.left ≡ l → AreQuiet l → KeepsNext (Quiet k) (Nothing k) (recorded calls (next_by_prim u (slice_get l 0)))
+quiet_left : (k : ℕ) (calls : List DataCall) (u : Local) (l : List Prim) → u.left ≡ l → AreQuiet l → KeepsNext (Quiet k) (Nothing k) (next_with_calls calls (next_by_prim u (slice_get l 0)))
 quiet_left k calls u [] left quiet = tt
 quiet_left k calls u (prim ∷ rest) left quiet =
     quiet_act k calls u prim.line prim.act quiet.0 (subst (λ (l : List Prim). AreQuiet (drop 1 l)) (sym left) quiet.1) (subst (λ (l : List Prim). AreQuiet l) (sym left) quiet)
 
-quiet_standing : (k : ℕ) (calls : List DataCall) (u : Local) (s : Standing) → AreQuiet u.left → KeepsNext (Quiet k) (Nothing k) (recorded calls (next_by_prim u (prim_by_standing s u.left)))
+quiet_standing : (k : ℕ) (calls : List DataCall) (u : Local) (s : Standing) → AreQuiet u.left → KeepsNext (Quiet k) (Nothing k) (next_with_calls calls (next_by_prim u (prim_by_standing s u.left)))
 quiet_standing k calls u standing.Running quiet = quiet_left k calls u u.left refl quiet
 quiet_standing k calls u (standing.Mismatched line from sent asked) quiet = tt
 
@@ -67,11 +67,11 @@ abbrev IsLong : Next State → Type 0
 IsLong (Sends to head bytes after) = length bytes ≡ head.len
 IsLong _ = Unit {0}
 
-long_act : (calls : List DataCall) (u : Local) (line : ℕ) (a : Act) → IsLong (recorded calls (next_by_act u line a))
+long_act : (calls : List DataCall) (u : Local) (line : ℕ) (a : Act) → IsLong (next_with_calls calls (next_by_act u line a))
 long_act calls u line (Act.Send to head source) = refl
 long_act calls u line _ = tt
 
-long_prim : (calls : List DataCall) (u : Local) (o : Option Prim) → IsLong (recorded calls (next_by_prim u o))
+long_prim : (calls : List DataCall) (u : Local) (o : Option Prim) → IsLong (next_with_calls calls (next_by_prim u o))
 long_prim calls u None = tt
 long_prim calls u (Some prim) = long_act calls u prim.line prim.act
 
@@ -143,7 +143,7 @@ module _ (m : DataCall → ℕ) (g : MessageHead → ℕ) (is : Measures m g) (l
   one_brought x = let one = sum_by-cons (λ (y : Match). g y.head) x [] in omega (arith, one)
 
   abbrev Adds : Configuration State → ℕ → Configuration State → Type 0
-  Adds c i d = total d ≡ total c + brings (brought next_of line c i)
+  Adds c i d = total d ≡ total c + brings (messages_brought next_of line c i)
 
   -- what a step brings is what was sent more
   step_adds : (keys : ℕ → ℕ → ℕ) (c d : Configuration State) (i : ℕ) → AllQuiet c → steps.Takes keys next_of c i d → Adds c i d
@@ -151,7 +151,7 @@ module _ (m : DataCall → ℕ) (g : MessageHead → ℕ) (is : Measures m g) (l
       let here = stands c i (Goes after) at (λ e. cc) in
       let same : counted after ≡ counted here.0 + 0 = ap (sum_by m) (logged here.0 (Goes after) here.2) ∙ omega arith in
       let now = more_at c.cells i after here.0 0 here.1 same in
-      let none : brings (brought next_of line c i) ≡ 0 = ap (λ (n : Next State). brings (brought_by line c i n)) at in
+      let none : brings (messages_brought next_of line c i) ≡ 0 = ap (λ (n : Next State). brings (brought_by line c i n)) at in
       subst (Adds c i) (sym made) (now ∙ ap (λ (n : ℕ). total c + n) (sym none))
   step_adds keys c d i quiet (Left message after at slot made) =
       let here = stands c i (Posts message after) at (λ e. cc) in
@@ -166,8 +166,8 @@ module _ (m : DataCall → ℕ) (g : MessageHead → ℕ) (is : Measures m g) (l
       let first = more_at c.cells i after here.0 (g head) here.1 sent in
       let second = more_at (set c.cells i after) j (take bytes) peer.0 0 (cell_other c.cells i after j apart ∙ peer.1) got in
       let whole : sum_by counted (set (set c.cells i after) j (take bytes)) ≡ sum_by counted c.cells + g head = omega (arith, first, second) in
-      let one : brings (brought next_of line c i) ≡ g head =
-      ap (λ (n : Next State). brings (brought_by line c i n)) at ∙ one_brought (match_of i j head (line_at line c i) (line_at line c j)) in
+      let one : brings (messages_brought next_of line c i) ≡ g head =
+      ap (λ (n : Next State). brings (brought_by line c i n)) at ∙ one_brought (match_of i j head (statement_line_at line c i) (statement_line_at line c j)) in
       subst (Adds c i) (sym made) (whole ∙ ap (λ (n : ℕ). total c + n) (sym one))
   step_adds keys c d i quiet (Fetched j asked take refuse message at slot mine same made) = absurd (quiet.slots j message slot)
   step_adds keys c d i quiet (RefusedPost j asked take refuse message at slot mine same made) = absurd (quiet.slots j message slot)
@@ -175,26 +175,26 @@ module _ (m : DataCall → ℕ) (g : MessageHead → ℕ) (is : Measures m g) (l
       let here = stands c i (Recvs j asked take refuse) at (λ e. cc) in
       let stays : counted (refuse sent) ≡ counted here.0 + 0 = ap (sum_by m) ((logged here.0 (Recvs j asked take refuse) here.2).1 sent) ∙ omega arith in
       let now = more_at c.cells i (refuse sent) here.0 0 here.1 stays in
-      let none : brings (brought next_of line c i) ≡ 0 =
-      ap (λ (n : Next State). brings (brought_by line c i n)) at ∙ ap (λ (o : Option Posted). brings (brought_by_take i j asked (line_at line c i) o)) slot in
+      let none : brings (messages_brought next_of line c i) ≡ 0 =
+      ap (λ (n : Next State). brings (brought_by line c i n)) at ∙ ap (λ (o : Option Posted). brings (brought_by_take i j asked (statement_line_at line c i) o)) slot in
       subst (Adds c i) (sym made) (now ∙ ap (λ (n : ℕ). total c + n) (sym none))
   step_adds keys c d i quiet (Passed comm after at root all made) =
       let now : sum_by counted (by_rank (λ rank. past_if next_of (is_with (keys comm) i rank)) c.cells) ≡ sum_by counted c.cells + 0 = passed_counted c comm (is_with (keys comm) i) all ∙ omega arith in
-      let none : brings (brought next_of line c i) ≡ 0 = ap (λ (n : Next State). brings (brought_by line c i n)) at in
+      let none : brings (messages_brought next_of line c i) ≡ 0 = ap (λ (n : Next State). brings (brought_by line c i n)) at in
       subst (Adds c i) (sym made) (now ∙ ap (λ (n : ℕ). total c + n) (sym none))
 
   -- the step with the lowest owner, and what it brings
   lowest_owner : (keys : ℕ → ℕ → ℕ) (c d : Configuration State) (n i : ℕ) → lowest keys next_of c n i ≡ Some d
-      → (k : ℕ) × (step_of keys next_of c k ≡ Some d) × (lowest_brought keys next_of line c n i ≡ brought next_of line c k)
+      → (k : ℕ) × (step_of keys next_of c k ≡ Some d) × (lowest_brought keys next_of line c n i ≡ messages_brought next_of line c k)
   lowest_owner keys c d zero i found = absurd (cc)
   lowest_owner keys c d (suc n) i found = by (step_of keys next_of c i) refl found (λ there. lowest_owner keys c d n (i + 1) there)
     where
-      chosen : (o : Option (Configuration State)) → step_of keys next_of c i ≡ o → lowest_brought keys next_of line c (suc n) i ≡ cond (is_some o) (brought next_of line c i) (lowest_brought keys next_of line c n (i + 1))
-      chosen o here = ap (λ (x : Option (Configuration State)). cond (is_some x) (brought next_of line c i) (lowest_brought keys next_of line c n (i + 1))) here
+      chosen : (o : Option (Configuration State)) → step_of keys next_of c i ≡ o → lowest_brought keys next_of line c (suc n) i ≡ cond (is_some o) (messages_brought next_of line c i) (lowest_brought keys next_of line c n (i + 1))
+      chosen o here = ap (λ (x : Option (Configuration State)). cond (is_some x) (messages_brought next_of line c i) (lowest_brought keys next_of line c n (i + 1))) here
 
       by : (o : Option (Configuration State)) → step_of keys next_of c i ≡ o → option_or o (lowest keys next_of c n (i + 1)) ≡ Some d
-          → (lowest keys next_of c n (i + 1) ≡ Some d → (k : ℕ) × (step_of keys next_of c k ≡ Some d) × (lowest_brought keys next_of line c n (i + 1) ≡ brought next_of line c k))
-          → (k : ℕ) × (step_of keys next_of c k ≡ Some d) × (lowest_brought keys next_of line c (suc n) i ≡ brought next_of line c k)
+          → (lowest keys next_of c n (i + 1) ≡ Some d → (k : ℕ) × (step_of keys next_of c k ≡ Some d) × (lowest_brought keys next_of line c n (i + 1) ≡ messages_brought next_of line c k))
+          → (k : ℕ) × (step_of keys next_of c k ≡ Some d) × (lowest_brought keys next_of line c (suc n) i ≡ messages_brought next_of line c k)
       by (Some e) here there rest = (i, here ∙ there, chosen (Some e) here)
       by None here there rest =
           let (k, step, same) = rest there in
@@ -211,22 +211,22 @@ module _ (m : DataCall → ℕ) (g : MessageHead → ℕ) (is : Measures m g) (l
       by None found rest = omega arith
       by (Some d) found rest =
           let owned = lowest_owner keys c d (length c.cells) 0 found in
-          let one : total d ≡ total c + brings (brought next_of line c owned.0) = step_adds keys c d owned.0 quiet (steps.seen keys next_of c d owned.0 owned.1) in
+          let one : total d ≡ total c + brings (messages_brought next_of line c owned.0) = step_adds keys c d owned.0 quiet (steps.seen keys next_of c d owned.0 owned.1) in
           let on = rest d (kept_runs Quiet Nothing quiet_next keys 1 c d (owned.0, d, owned.1, refl) quiet) in
-          let brought_is : brings (step_brought keys next_of line c) ≡ brings (brought next_of line c owned.0) = ap brings owned.2 in
+          let brought_is : brings (step_brought keys next_of line c) ≡ brings (messages_brought next_of line c owned.0) = ap brings owned.2 in
           let both = sum_by-append (λ (x : Match). g x.head) (step_brought keys next_of line c) (matches_on keys next_of line n d) in
           omega (arith, one, on, brought_is, both)
 
-  none_sent : (script : Script) (ranks : List ℕ) → sum_by (λ (rank : ℕ). counted (started script rank)) ranks ≡ 0
+  none_sent : (script : Script) (ranks : List ℕ) → sum_by (λ (rank : ℕ). counted (start_of_rank script rank)) ranks ≡ 0
   none_sent script [] = refl
   none_sent script (rank ∷ ranks) =
       let rest = none_sent script ranks in
-      let first : counted (started script rank) ≡ 0 = refl in
-      omega (arith, rest, first, sum_by-cons (λ (k : ℕ). counted (started script k)) rank ranks)
+      let first : counted (start_of_rank script rank) ≡ 0 = refl in
+      omega (arith, rest, first, sum_by-cons (λ (k : ℕ). counted (start_of_rank script k)) rank ranks)
 
   -- at the start nothing is sent
   start_none : (script : Script) → total (start_of script) ≡ 0
-  start_none script = sum_by-map counted (started script) (range_with_len 0 script.nue) ∙ none_sent script (range_with_len 0 script.nue)
+  start_none script = sum_by-map counted (start_of_rank script) (range_with_len 0 script.nue) ∙ none_sent script (range_with_len 0 script.nue)
 
 start_quiet : (script : Script) → AreUsual script.items → AllQuiet (start_of script)
 start_quiet script usual = record {
@@ -242,7 +242,7 @@ counts_bytes : Measures sent_bytes_of (λ head. head.len)
 counts_bytes = record { sends = λ to head bytes long. long; gets = λ from head bytes. refl; meets = λ comm. refl }
 
 abbrev at_line : State → ℕ
-at_line u = line_of u.local
+at_line u = statement_line u.local
 
 ones : (matches : List Match) → sum_by (λ (x : Match). 1) matches ≡ length matches
 ones [] = refl

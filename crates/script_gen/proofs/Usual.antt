@@ -16,7 +16,7 @@ use Rattle.script_reader.specs.Script.{Script, has_rank}
 use Rattle.script_reader.specs.declared.effect.Nesting.{Nesting}
 use Rattle.script_reader.specs.declared.effect.Nesting.TheVariants as nesting
 use Rattle.script_machine.specs.declared.prims.Operands.{Operands}
-use Rattle.script_machine.specs.Program.{Act, Prim, Unrolled, acts_of, call_steps, can_call, copies, in_front, nesting_at, part_of, begins, prims_of, program_of, repeated, setup_of, unrolled}
+use Rattle.script_machine.specs.Program.{Act, Prim, Unrolled, acts_of, call_steps, can_call, copies, in_front, nesting_at, part_of, begins, prims_of, program_of, unrolled_repeat, setup_of, unrolled_items}
 use Rattle.script_machine.specs.Program.Act.{Post}
 use Rattle.script_gen.specs.Scripts.{gen_script_of, lone_script, ring_script}
 use Rattle.script_gen.specs.Texts.{turns_of}
@@ -91,7 +91,7 @@ record IsQuietRun (u : Unrolled Prim) : Type 0 where
   here : AreQuiet u.here
   behind : AllQuiet u.behind
 
-quiet_repeated : (times : ℕ) (body : List Prim) (behind : List (List Prim)) → AreQuiet body → AllQuiet behind → IsQuietRun (repeated times body behind)
+quiet_repeated : (times : ℕ) (body : List Prim) (behind : List (List Prim)) → AreQuiet body → AllQuiet behind → IsQuietRun (unrolled_repeat times body behind)
 quiet_repeated times body [] quiet all = record { here = quiet; behind = tt }
 quiet_repeated times body (next ∷ behind) quiet all =
     record { here = quiet_both body (copies (times - 1) body ++ next) quiet (quiet_both (copies (times - 1) body) next (quiet_copies (times - 1) body quiet) all.0); behind = all.1 }
@@ -145,11 +145,11 @@ quiet_prims s rank item usual = by (has_rank item.who rank)
     by true = quiet_lines item.line (acts_of s rank item.stmt) (quiet_acts s rank item.stmt usual)
     by false = tt
 
-quiet_items : (s : SetupView) (rank : ℕ) (items : List Item) → AreUsual items → IsQuietRun (unrolled s rank items)
-unfolding unrolled
+quiet_items : (s : SetupView) (rank : ℕ) (items : List Item) → AreUsual items → IsQuietRun (unrolled_items s rank items)
+unfolding unrolled_items
 quiet_items s rank [] usual = record { here = tt; behind = tt }
 quiet_items s rank (item ∷ items) usual =
-    quiet_front (nesting_at rank item) (prims_of s rank item) (unrolled s rank items) (quiet_prims s rank item usual.0) (quiet_items s rank items usual.1)
+    quiet_front (nesting_at rank item) (prims_of s rank item) (unrolled_items s rank items) (quiet_prims s rank item usual.0) (quiet_items s rank items usual.1)
 
 -- a rank of a script of such statements posts nothing
 pub quiet_program : (script : Script) (rank : ℕ) → AreUsual script.items → AreQuiet (program_of script rank)
@@ -183,7 +183,7 @@ copies_long (suc n) prims =
     let more = suc-mul n (length prims) in
     omega (arith, rest, both, more)
 
-repeated_short : (times : ℕ) (body : List Prim) (behind : List (List Prim)) → times ≤ 10 → made (repeated times body behind) ≤ 10 * (length body + long behind)
+repeated_short : (times : ℕ) (body : List Prim) (behind : List (List Prim)) → times ≤ 10 → made (unrolled_repeat times body behind) ≤ 10 * (length body + long behind)
 repeated_short times body [] few = omega arith
 repeated_short times body (next ∷ behind) few =
     let many = copies_long (times - 1) body in
@@ -230,13 +230,13 @@ item_short true _ prims u n usual short within = let one = stays_short prims u s
 item_short false (stmt.Repeat times end) prims u n usual short within = omega (arith, within)
 item_short false _ prims u n usual short within = omega (arith, within)
 
-items_short : (s : SetupView) (rank : ℕ) (items : List Item) → s.nue ≤ 48 → AreUsual items → made (unrolled s rank items) ≤ most items
-unfolding unrolled
+items_short : (s : SetupView) (rank : ℕ) (items : List Item) → s.nue ≤ 48 → AreUsual items → made (unrolled_items s rank items) ≤ most items
+unfolding unrolled_items
 items_short s rank [] few usual = omega arith
 items_short s rank (item ∷ items) few usual =
     let same = lined_long item.line (acts_of s rank item.stmt) in
     let short = acts_short s rank item.stmt few usual.0 in
-    item_short (has_rank item.who rank) item.stmt (lined item.line (acts_of s rank item.stmt)) (unrolled s rank items) (most items) usual.0 (omega (arith, same, short)) (items_short s rank items few usual.1)
+    item_short (has_rank item.who rank) item.stmt (lined item.line (acts_of s rank item.stmt)) (unrolled_items s rank items) (most items) usual.0 (omega (arith, same, short)) (items_short s rank items few usual.1)
 
 -- a rank of a generated script has few primitives
 pub gen_short : (nue s rank : ℕ) → nue ≤ 48 → length (program_of (gen_script_of nue s) rank) ≤ 110000

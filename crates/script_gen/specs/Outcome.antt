@@ -1,7 +1,7 @@
 -- The line that a run of a generated script comes to (this project's profile of `rccerun`).
 use Rattle.std.specs.Prelude.{ℕ, ◌%◌, ◌^◌, List, [], ◌∷◌, codes, decimal, length, sum_by}
 use Rattle.std.specs.List.{sum}
-use Rattle.rcce_io.specs.Sending.{joined}
+use Rattle.rcce_io.specs.Sending.{joined_texts}
 use Rattle.scc_base.specs.Calls.{DataCall}
 use Rattle.scc_base.specs.Calls.DataCall.{Send, Post}
 use Rattle.script_plain.specs.declared.matches.Match.{Match}
@@ -47,7 +47,7 @@ printed_sum ends = sum_by item_bytes ends % 2 ^ 32
 -- the line, by its numbers
 abbrev pub counts_line : ℕ → ℕ → ℕ → ℕ → ℕ → List ℕ
 counts_line nue s sends bytes sum =
-    joined (codes "gen " ∷ decimal s ∷ codes " ues " ∷ decimal nue ∷ codes " sends " ∷ decimal sends ∷ codes " bytes " ∷ decimal bytes
+    joined_texts (codes "gen " ∷ decimal s ∷ codes " ues " ∷ decimal nue ∷ codes " sends " ∷ decimal sends ∷ codes " bytes " ∷ decimal bytes
     ∷ codes " sum " ∷ decimal sum ∷ codes "\n" ∷ [])
 
 -- the line of a run of a script that was made of a number: how many messages came, with how many bytes, and the sum of what was

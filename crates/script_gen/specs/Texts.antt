@@ -1,6 +1,6 @@
 -- The script that the launcher makes of a number (this project's profile).
 use Rattle.std.specs.Prelude.{ℕ, ◌+◌, ◌%◌, ◌==◌, if◌then◌else◌, List, [], ◌∷◌, ◌++◌, codes, decimal, map}
-use Rattle.rcce_io.specs.Sending.{joined}
+use Rattle.rcce_io.specs.Sending.{joined_texts}
 
 -- lines that stand where there is a second rank to send to
 abbrev pub with_others : ℕ → List (List ℕ) → List (List ℕ)
@@ -39,7 +39,7 @@ gen_lines nue s =
 
 -- a text of lines: each ends with a line feed
 abbrev pub text_of_lines : List (List ℕ) → List ℕ
-text_of_lines lines = joined (map (λ line. line ++ codes "\n") lines)
+text_of_lines lines = joined_texts (map (λ line. line ++ codes "\n") lines)
 
 -- the text of the script of a number s for nue ranks
 abbrev pub gen_text : ℕ → ℕ → List ℕ

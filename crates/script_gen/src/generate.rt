@@ -1,7 +1,7 @@
 //! The text of a generated script.
 
 ghost use Rattle.std.specs.Prelude.{◌≡◌, ◌≤◌, ◌++◌, IfOk, OnOk, map};
-ghost use Rattle.rcce_io.specs.Sending.{joined};
+ghost use Rattle.rcce_io.specs.Sending.{joined_texts};
 ghost use Rattle.script_gen.specs.Pieces.{gen_piece_text, section_text};
 ghost use Rattle.script_gen.specs.Texts.{gen_text};
 
@@ -41,7 +41,7 @@ fn push_section(
     shown: &'static str,
 ) -> Result<(), AllocError>
     ensures { OnOk result (text.new.items
-        ≡ text.old.items ++ section_text ranks.now s (joined (map gen_piece_text exchange.now)) shown.now) }
+        ≡ text.old.items ++ section_text ranks.now s (joined_texts (map gen_piece_text exchange.now)) shown.now) }
 {
     let turns = 1 + s % 10;
     push_all(

@@ -1,7 +1,7 @@
 //! The laws of generated scripts: what the reader makes of them, and what their ranks send.
 
 ghost use Rattle.std.specs.Prelude.{◌≡◌, ◌≤◌, ℕ, Ok, length};
-ghost use Rattle.script_machine.specs.Local.{cost_of, local_start};
+ghost use Rattle.script_machine.specs.Local.{most_steps_left, local_start};
 ghost use Rattle.script_plain.specs.Matches.{plain_matches};
 ghost use Rattle.script_plain.specs.Meaning.{plain_end};
 ghost use Rattle.script_reader.specs.Reading.{parse_script};
@@ -23,5 +23,5 @@ pub fn sent_messages_came()
 
 /// The ranks of a generated script take few steps.
 pub fn generated_scripts_are_short()
-    ensures { (nue s rank : ℕ) → nue ≤ 48 → cost_of (local_start (gen_script_of nue s) rank) ≤ 110001 }
+    ensures { (nue s rank : ℕ) → nue ≤ 48 → most_steps_left (local_start (gen_script_of nue s) rank) ≤ 110001 }
 {}

@@ -1,7 +1,7 @@
 //! The pieces of a text, put one behind the other.
 
 ghost use Rattle.std.specs.Prelude.{◌≡◌, ◌++◌, OnOk, map};
-ghost use Rattle.rcce_io.specs.Sending.{joined};
+ghost use Rattle.rcce_io.specs.Sending.{joined_texts};
 ghost use Rattle.script_gen.specs.Pieces.{gen_piece_text};
 
 use std::alloc::AllocError;
@@ -27,7 +27,7 @@ fn push(text: &mut Vec<u8>, piece: &Piece) -> Result<(), AllocError>
 
 /// Puts the pieces behind a text.
 pub(crate) fn push_all(text: &mut Vec<u8>, pieces: &[Piece]) -> Result<(), AllocError>
-    ensures { OnOk result (text.new.items ≡ text.old.items ++ joined (map gen_piece_text pieces.now)) }
+    ensures { OnOk result (text.new.items ≡ text.old.items ++ joined_texts (map gen_piece_text pieces.now)) }
 {
     for piece in pieces {
         push(text, piece)?;

@@ -5,30 +5,30 @@ use Rattle.scc_base.specs.Heads.{plain_head, most_post}
 use Rattle.scc_base.specs.declared.calls.Call.{Call}
 use Rattle.scc_base.specs.declared.calls.Call.TheVariants as call
 use Rattle.script_reader.specs.Script.{Script}
-use Rattle.script_machine.specs.Lengths.{Lengths, length_at, lengths_after, lengths_of, source_length}
-use Rattle.script_machine.specs.Local.{local_start, with_length}
+use Rattle.script_machine.specs.Lengths.{Lengths, length_of_register, lengths_after, lengths_of, source_length}
+use Rattle.script_machine.specs.Local.{local_start, head_with_length}
 use Rattle.script_machine.specs.Program.{Act, Prim, program_of}
 use Rattle.script_machine.specs.Program.Act.{Set, Own, Send, Post, Recv, Gather, Bar, Begin, Fold, Accept, Finish}
 
 -- the call that a primitive makes where these are the lengths, if it makes one
-abbrev pub called : Lengths → Act → List Call
-called l (Set reg content) = []
-called l (Own own) = []
-called l (Send to head source) = call.Send to (with_length head (source_length l source)) ∷ []
-called l (Post to reg) = call.Post to (plain_head (min (length_at l reg) most_post)) ∷ []
-called l (Recv from reg head) = call.Recv from head ∷ []
-called l (Gather from head None) = call.Recv from head ∷ []
-called l (Gather from head (Some reg)) = call.Recv from (with_length head (length_at l reg)) ∷ []
-called l (Bar comm) = call.Bar comm ∷ []
-called l (Begin reg) = []
-called l (Fold op ty) = []
-called l (Accept reg) = []
-called l (Finish reg) = []
+abbrev pub calls_made : Lengths → Act → List Call
+calls_made l (Set reg content) = []
+calls_made l (Own own) = []
+calls_made l (Send to head source) = call.Send to (head_with_length head (source_length l source)) ∷ []
+calls_made l (Post to reg) = call.Post to (plain_head (min (length_of_register l reg) most_post)) ∷ []
+calls_made l (Recv from reg head) = call.Recv from head ∷ []
+calls_made l (Gather from head None) = call.Recv from head ∷ []
+calls_made l (Gather from head (Some reg)) = call.Recv from (head_with_length head (length_of_register l reg)) ∷ []
+calls_made l (Bar comm) = call.Bar comm ∷ []
+calls_made l (Begin reg) = []
+calls_made l (Fold op ty) = []
+calls_made l (Accept reg) = []
+calls_made l (Finish reg) = []
 
 -- the calls of primitives that are left where these are the lengths, in order
 abbrev pub calls_from : Lengths → List Prim → List Call
 calls_from l [] = []
-calls_from l (prim ∷ prims) = called l prim.act ++ calls_from (lengths_after l prim.act) prims
+calls_from l (prim ∷ prims) = calls_made l prim.act ++ calls_from (lengths_after l prim.act) prims
 
 -- the calls of a rank of a script, in order, with the heads that they have
 abbrev pub calls_of : Script → ℕ → List Call

@@ -6,7 +6,7 @@ use Rattle.script_machine.specs.declared.prims.Action.{Action}
 use Rattle.script_machine.specs.declared.prims.Action.TheVariants as action
 use Rattle.script_machine.specs.declared.prims.Standing.{Standing}
 use Rattle.script_machine.specs.Lengths.{printed_bytes}
-use Rattle.script_machine.specs.Local.{Local, folded}
+use Rattle.script_machine.specs.Local.{Local, fold_if_fits}
 use Rattle.script_machine.specs.Rooms.{Rooms, local_by, rooms_by}
 use Rattle.script_machine.specs.Walk.{WalkView, content_of}
 
@@ -55,16 +55,16 @@ abbrev pub held_with : Held → ℕ → List ℕ → Held
 held_with h reg bytes = record h { registers = record { registers = slice_set h.registers.registers reg bytes; rooms = h.registers.rooms } }
 
 -- what is held after a statement of the rank alone
-abbrev pub worked : Action → Held → Held
-worked (action.Set reg content) h = held_with h reg (content_of content)
-worked (action.Own (own.Apply op ty dst src)) h =
-    record (held_with h dst (folded op ty (held_at h dst) (held_at h src))) {
+abbrev pub held_after_own : Action → Held → Held
+held_after_own (action.Set reg content) h = held_with h reg (content_of content)
+held_after_own (action.Own (own.Apply op ty dst src)) h =
+    record (held_with h dst (fold_if_fits op ty (held_at h dst) (held_at h src))) {
       spare = record {
         bytes = held_at h src;
         room = h.spare.room;
       };
     }
-worked (action.Own (own.Print reg form)) h =
+held_after_own (action.Own (own.Print reg form)) h =
     record h {
       prints = record {
         items = h.prints.items ++ record { reg = reg; form = form; bytes = held_at h reg } ∷ [];
@@ -72,12 +72,13 @@ worked (action.Own (own.Print reg form)) h =
         bytes = h.prints.bytes;
       };
     }
-worked (action.Send to head source) h = h
-worked (action.Post to reg) h = h
-worked (action.Recv from reg head) h = h
-worked (action.Gather from head sized) h = h
-worked (action.Bar comm) h = h
-worked (action.Begin reg) h = record h { folded = record { bytes = held_at h reg; room = h.folded.room } }
-worked (action.Fold op ty) h = record h { folded = record { bytes = folded op ty h.folded.bytes h.taken.bytes; room = h.folded.room } }
-worked (action.Accept reg) h = held_with h reg h.taken.bytes
-worked (action.Finish reg) h = held_with h reg h.folded.bytes
+held_after_own (action.Send to head source) h = h
+held_after_own (action.Post to reg) h = h
+held_after_own (action.Recv from reg head) h = h
+held_after_own (action.Gather from head sized) h = h
+held_after_own (action.Bar comm) h = h
+held_after_own (action.Begin reg) h = record h { folded = record { bytes = held_at h reg; room = h.folded.room } }
+held_after_own (action.Fold op ty) h =
+    record h { folded = record { bytes = fold_if_fits op ty h.folded.bytes h.taken.bytes; room = h.folded.room } }
+held_after_own (action.Accept reg) h = held_with h reg h.taken.bytes
+held_after_own (action.Finish reg) h = held_with h reg h.folded.bytes

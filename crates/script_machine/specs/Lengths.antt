@@ -35,18 +35,18 @@ lengths_of u =
     }
 
 -- how many bytes a register has
-abbrev pub length_at : Lengths → ℕ → ℕ
-length_at l reg = slice_index_or l.registers reg 0
+abbrev pub length_of_register : Lengths → ℕ → ℕ
+length_of_register l reg = slice_index_or l.registers reg 0
 
 -- how many bytes a send takes
 abbrev pub source_length : Lengths → Source → ℕ
-source_length l (source.Own reg) = length_at l reg
+source_length l (source.Own reg) = length_of_register l reg
 source_length l source.Accumulator = l.accumulator
 
 -- how many bytes a receive of a collective call asks for
 abbrev pub asked_length : Lengths → MessageHead → Option ℕ → ℕ
 asked_length l head None = head.len
-asked_length l head (Some reg) = length_at l reg
+asked_length l head (Some reg) = length_of_register l reg
 
 -- the lengths after a register got one
 abbrev pub with_register : Lengths → ℕ → ℕ → Lengths
@@ -56,13 +56,13 @@ with_register l reg len = record l { registers = slice_set l.registers reg len }
 abbrev pub lengths_after : Lengths → Act → Lengths
 lengths_after l (Set reg content) = with_register l reg (length content)
 lengths_after l (Own (own.Apply op ty dst src)) = l
-lengths_after l (Own (own.Print reg form)) = record l { items = l.items + 1; printed = l.printed + length_at l reg }
+lengths_after l (Own (own.Print reg form)) = record l { items = l.items + 1; printed = l.printed + length_of_register l reg }
 lengths_after l (Send to head source) = l
 lengths_after l (Post to reg) = l
 lengths_after l (Recv from reg head) = with_register l reg head.len
 lengths_after l (Gather from head sized) = record l { received = asked_length l head sized }
 lengths_after l (Bar comm) = l
-lengths_after l (Begin reg) = record l { accumulator = length_at l reg }
+lengths_after l (Begin reg) = record l { accumulator = length_of_register l reg }
 lengths_after l (Fold op ty) = l
 lengths_after l (Accept reg) = with_register l reg l.received
 lengths_after l (Finish reg) = with_register l reg l.accumulator

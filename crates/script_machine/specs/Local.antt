@@ -19,7 +19,7 @@ use Rattle.script_machine.specs.declared.prims.Source.{Source}
 use Rattle.script_machine.specs.declared.prims.Source.TheVariants as source
 use Rattle.script_machine.specs.declared.prims.Standing.{Standing}
 use Rattle.script_machine.specs.declared.prims.Standing.TheVariants as standing
-use Rattle.script_machine.specs.Next.{Next, call_of}
+use Rattle.script_machine.specs.Next.{Next, call_next}
 use Rattle.script_machine.specs.Next.Next.{Ends, Goes, Posts, Sends, Recvs, Bars}
 use Rattle.script_machine.specs.Program.{Act, Prim, program_of}
 use Rattle.script_machine.specs.Program.Act.{Set, Own, Send, Post, Recv, Gather, Bar, Begin, Fold, Accept, Finish}
@@ -71,13 +71,13 @@ abbrev pub stopped_at : Local → ℕ → ℕ → MessageHead → MessageHead �
 stopped_at u line from asked sent = record u { standing = standing.Mismatched line from sent asked }
 
 -- acc op more, value by value. (Lists that do not fit stay as they are: a script that was read folds none.)
-abbrev pub folded : Op → Ty → List ℕ → List ℕ → List ℕ
-folded op ty acc more =
+abbrev pub fold_if_fits : Op → Ty → List ℕ → List ℕ → List ℕ
+fold_if_fits op ty acc more =
     if (length acc == length more) && (length acc % bytes_in ty == 0) then fold_values op ty acc more else acc
 
 -- the registers behind a statement of the rank's own: dst becomes dst op src, value by value
 abbrev pub own_registers : Local → OwnStmt → List (List ℕ)
-own_registers u (own.Apply op ty dst src) = slice_set u.registers dst (folded op ty (register_at u dst) (register_at u src))
+own_registers u (own.Apply op ty dst src) = slice_set u.registers dst (fold_if_fits op ty (register_at u dst) (register_at u src))
 own_registers u (own.Print reg form) = u.registers
 
 -- the items that are printed behind a statement of the rank's own
@@ -95,31 +95,32 @@ source_bytes u (source.Own reg) = register_at u reg
 source_bytes u source.Accumulator = u.accumulator
 
 -- a head with another length
-abbrev pub with_length : MessageHead → ℕ → MessageHead
-with_length head len = record head { len = len }
+abbrev pub head_with_length : MessageHead → ℕ → MessageHead
+head_with_length head len = record head { len = len }
 
 -- the head that a receive of a collective call asks for
 abbrev pub asked_head : Local → MessageHead → Option ℕ → MessageHead
 asked_head u head None = head
-asked_head u head (Some reg) = with_length head (length (register_at u reg))
+asked_head u head (Some reg) = head_with_length head (length (register_at u reg))
 
 -- the message that a post leaves behind. (A register that is posted has at most 3,584 bytes: the grammar sees to it.)
-abbrev pub message_of : Local → ℕ → ℕ → ℕ → Posted
-message_of u line to reg =
+abbrev pub message_posted : Local → ℕ → ℕ → ℕ → Posted
+message_posted u line to reg =
     record { to = to; head = plain_head (min (length (register_at u reg)) most_post); bytes = register_at u reg; line = line }
 
 -- what an action is to a rank: a step of its own with what it holds afterwards, or a call
 abbrev pub next_by_act : Local → ℕ → Act → Next Local
 next_by_act u line (Set reg content) = Goes (gone_on_with u reg content)
 next_by_act u line (Own own) = Goes (gone_on_alone u own)
-next_by_act u line (Send to head source) = Sends to (with_length head (length (source_bytes u source))) (source_bytes u source) (gone_on u)
-next_by_act u line (Post to reg) = Posts (message_of u line to reg) (gone_on u)
+next_by_act u line (Send to head source) =
+    Sends to (head_with_length head (length (source_bytes u source))) (source_bytes u source) (gone_on u)
+next_by_act u line (Post to reg) = Posts (message_posted u line to reg) (gone_on u)
 next_by_act u line (Recv from reg head) = Recvs from head (gone_on_with u reg) (stopped_at u line from head)
 next_by_act u line (Gather from head sized) =
     Recvs from (asked_head u head sized) (gone_on_gathering u) (stopped_at u line from (asked_head u head sized))
 next_by_act u line (Bar comm) = Bars comm (gone_on u)
 next_by_act u line (Begin reg) = Goes (gone_on_folding u (register_at u reg))
-next_by_act u line (Fold op ty) = Goes (gone_on_folding u (folded op ty u.accumulator u.received))
+next_by_act u line (Fold op ty) = Goes (gone_on_folding u (fold_if_fits op ty u.accumulator u.received))
 next_by_act u line (Accept reg) = Goes (gone_on_with u reg u.received)
 next_by_act u line (Finish reg) = Goes (gone_on_with u reg u.accumulator)
 
@@ -133,8 +134,8 @@ abbrev pub next_prim : Local → Option Prim
 next_prim u = prim_by_standing u.standing u.left
 
 -- the line of the statement that a rank does next
-abbrev pub line_of : Local → ℕ
-line_of u = option_map_or (λ prim. prim.line) (next_prim u) 0
+abbrev pub statement_line : Local → ℕ
+statement_line u = option_map_or (λ prim. prim.line) (next_prim u) 0
 
 -- what stands next at a rank: its next primitive, or the end of its program
 abbrev pub next_by_prim : Local → Option Prim → Next Local
@@ -151,13 +152,13 @@ runs standing.Running = 1
 runs (standing.Mismatched line from sent asked) = 0
 
 -- the most steps that a rank still takes, alone or as the receiver of a message
-abbrev pub cost_of : Local → ℕ
-cost_of u = length u.left + runs u.standing
+abbrev pub most_steps_left : Local → ℕ
+most_steps_left u = length u.left + runs u.standing
 
 -- a rank that stands at a primitive waits at its call. (One that stands at a statement of its own is at no end.)
-abbrev pub waits_at : ℕ → Option Call → UeEnd
-waits_at line (Some call) = ue_end.Waits line call
-waits_at line None = ue_end.Finished
+abbrev pub end_waiting_at : ℕ → Option Call → UeEnd
+end_waiting_at line (Some call) = ue_end.Waits line call
+end_waiting_at line None = ue_end.Finished
 
 -- a rank with nothing left waits until the message that it posted is taken
 abbrev pub end_by_slot : Option Posted → UeEnd
@@ -167,7 +168,7 @@ end_by_slot (Some message) = ue_end.Waits message.line (call.Post message.to mes
 -- the end of a rank that was not stopped: it waits at the call that stands next, or behind its program by its slot
 abbrev pub end_by_prim : Option Posted → Local → Option Prim → UeEnd
 end_by_prim slot u None = end_by_slot slot
-end_by_prim slot u (Some prim) = waits_at prim.line (call_of (next_by_act u prim.line prim.act))
+end_by_prim slot u (Some prim) = end_waiting_at prim.line (call_next (next_by_act u prim.line prim.act))
 
 -- the end of a rank: as its program goes on, or stopped by a message with another head
 abbrev pub end_by_standing : Option Posted → Local → Standing → UeEnd

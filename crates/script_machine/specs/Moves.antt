@@ -48,31 +48,31 @@ went (Recvs from head take refuse) u = u
 went (Bars comm after) u = u
 
 -- the state after the send, the post or the barrier that stands next
-abbrev pub passed : {U : Type 0} → Next U → U → U
-passed Ends u = u
-passed (Goes after) u = u
-passed (Posts message after) u = after
-passed (Sends to head bytes after) u = after
-passed (Recvs from head take refuse) u = u
-passed (Bars comm after) u = after
+abbrev pub after_pass : {U : Type 0} → Next U → U → U
+after_pass Ends u = u
+after_pass (Goes after) u = u
+after_pass (Posts message after) u = after
+after_pass (Sends to head bytes after) u = after
+after_pass (Recvs from head take refuse) u = u
+after_pass (Bars comm after) u = after
 
 -- the state after the receive that stands next, with these bytes
-abbrev pub taken : {U : Type 0} → Next U → List ℕ → U → U
-taken Ends bytes u = u
-taken (Goes after) bytes u = u
-taken (Posts message after) bytes u = u
-taken (Sends to head sent after) bytes u = u
-taken (Recvs from head take refuse) bytes u = take bytes
-taken (Bars comm after) bytes u = u
+abbrev pub after_take : {U : Type 0} → Next U → List ℕ → U → U
+after_take Ends bytes u = u
+after_take (Goes after) bytes u = u
+after_take (Posts message after) bytes u = u
+after_take (Sends to head sent after) bytes u = u
+after_take (Recvs from head take refuse) bytes u = take bytes
+after_take (Bars comm after) bytes u = u
 
 -- the state after the receive that stands next, where a message with this other head came
-abbrev pub refused : {U : Type 0} → Next U → MessageHead → U → U
-refused Ends sent u = u
-refused (Goes after) sent u = u
-refused (Posts message after) sent u = u
-refused (Sends to head bytes after) sent u = u
-refused (Recvs from head take refuse) sent u = refuse sent
-refused (Bars comm after) sent u = u
+abbrev pub after_refusal : {U : Type 0} → Next U → MessageHead → U → U
+after_refusal Ends sent u = u
+after_refusal (Goes after) sent u = u
+after_refusal (Posts message after) sent u = u
+after_refusal (Sends to head bytes after) sent u = u
+after_refusal (Recvs from head take refuse) sent u = refuse sent
+after_refusal (Bars comm after) sent u = u
 
 -- the bytes of the send or post that stands next
 abbrev pub bytes_out : {U : Type 0} → Next U → List ℕ
@@ -102,13 +102,13 @@ line_out (Recvs from head take refuse) = 0
 line_out (Bars comm after) = 0
 
 -- how many bytes the receive that stands next asks for
-abbrev pub length_in : {U : Type 0} → Next U → ℕ
-length_in Ends = 0
-length_in (Goes after) = 0
-length_in (Posts message after) = 0
-length_in (Sends to head bytes after) = 0
-length_in (Recvs from head take refuse) = head.len
-length_in (Bars comm after) = 0
+abbrev pub length_asked : {U : Type 0} → Next U → ℕ
+length_asked Ends = 0
+length_asked (Goes after) = 0
+length_asked (Posts message after) = 0
+length_asked (Sends to head bytes after) = 0
+length_asked (Recvs from head take refuse) = head.len
+length_asked (Bars comm after) = 0
 
 -- whether a rank was stopped by a mismatch
 abbrev pub is_stopped_by : Standing → Bool

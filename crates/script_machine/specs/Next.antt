@@ -23,13 +23,13 @@ pub data Next (U : Type 0) : Type 0 where
   Bars : (comm : ℕ) → (after : U) → Next U
 
 -- the call that stands next
-abbrev pub call_of : {U : Type 0} → Next U → Option Call
-call_of Ends = None
-call_of (Goes after) = None
-call_of (Posts message after) = Some (call.Post message.to message.head)
-call_of (Sends to head bytes after) = Some (call.Send to head)
-call_of (Recvs from head take refuse) = Some (call.Recv from head)
-call_of (Bars comm after) = Some (call.Bar comm)
+abbrev pub call_next : {U : Type 0} → Next U → Option Call
+call_next Ends = None
+call_next (Goes after) = None
+call_next (Posts message after) = Some (call.Post message.to message.head)
+call_next (Sends to head bytes after) = Some (call.Send to head)
+call_next (Recvs from head take refuse) = Some (call.Recv from head)
+call_next (Bars comm after) = Some (call.Bar comm)
 
 -- whether a statement of the rank alone stands next
 abbrev pub is_going : {U : Type 0} → Next U → Bool

@@ -4,7 +4,7 @@ use Rattle.scc_base.specs.Setups.{SetupView}
 use Rattle.script_reader.specs.declared.script.Item.{Item}
 use Rattle.script_machine.specs.declared.course.Open.{Open}
 use Rattle.script_machine.specs.Lengths.{Lengths}
-use Rattle.script_machine.specs.Program.{Prim, copies, marked, prims_in}
+use Rattle.script_machine.specs.Program.{Prim, copies, unrolled_marks, prims_in}
 use Rattle.script_machine.specs.Rooms.{AreWithin, IsWider, Rooms}
 use Rattle.script_machine.specs.Walk.{CourseView, WalkView}
 
@@ -15,7 +15,7 @@ flat_pass prims = map Some prims ++ None ∷ []
 -- from one place up to another, items make primitives alone
 pub record IsFlat (s : SetupView) (rank : ℕ) (items : List Item) (start end : ℕ) : Type 0 where
   pub prims : List Prim
-  pub same : (marked s rank (drop start items)).here ≡ map Some prims ++ (marked s rank (drop end items)).here
+  pub same : (unrolled_marks s rank (drop start items)).here ≡ map Some prims ++ (unrolled_marks s rank (drop end items)).here
 
 -- so many passes of the innermost open repeat are left, which makes primitives alone up to this place
 pub record IsFlatFront (rank : ℕ) (items : List Item) (at : ℕ) (repeats : List Open) (passes : ℕ) : Type 0 where

@@ -16,7 +16,7 @@ use Rattle.groups.specs.declared.operations.Op.TheVariants as op
 use Rattle.groups.specs.declared.operations.Ty.{Ty}
 use Rattle.groups.specs.declared.operations.Ty.TheVariants as ty
 use Rattle.groups.specs.Collectives.{comm_of, len_of, steps_of}
-use Rattle.groups.specs.Folds.{bytes_of}
+use Rattle.groups.specs.Folds.{bytes_of_value}
 use Rattle.script_machine.specs.declared.prims.Collective.{Collective}
 use Rattle.script_reader.specs.declared.effect.Nesting.{Nesting}
 use Rattle.script_reader.specs.declared.effect.Nesting.TheVariants as nesting
@@ -68,7 +68,7 @@ filling len start = map (λ i. (start + i) % 251) (range_with_len 0 len)
 abbrev pub single_of : ℕ → ℕ → Stmt → Option Act
 single_of nue rank (stmt.Bytes reg bytes) = Some (Set reg bytes)
 single_of nue rank (stmt.Fill reg len start) = Some (Set reg (filling len start))
-single_of nue rank (stmt.RankOf reg ty) = Some (Set reg (bytes_of ty (pos rank)))
+single_of nue rank (stmt.RankOf reg ty) = Some (Set reg (bytes_of_value ty (pos rank)))
 single_of nue rank (stmt.Own own) = Some (Own own)
 single_of nue rank (stmt.Send peer reg) = Some (Send (peer_of nue peer rank) (plain_head 0) (source.Own reg))
 single_of nue rank (stmt.Post peer reg) = Some (Post (peer_of nue peer rank) reg)
@@ -169,20 +169,20 @@ copies (suc n) list = list ++ copies n list
 
 -- a repeat's body as often as the repeat says, and then what comes behind its end. (A script that was read has an end for
 -- each repeat, which is at least 1.)
-abbrev pub repeated : {A : Type 0} → ℕ → List A → List (List A) → Unrolled A
-repeated times body [] = record { here = body; behind = [] }
-repeated times body (next ∷ behind) = record { here = body ++ (copies (times - 1) body ++ next); behind = behind }
+abbrev pub unrolled_repeat : {A : Type 0} → ℕ → List A → List (List A) → Unrolled A
+unrolled_repeat times body [] = record { here = body; behind = [] }
+unrolled_repeat times body (next ∷ behind) = record { here = body ++ (copies (times - 1) body ++ next); behind = behind }
 
 -- one item more, in front of what the items behind it make
 abbrev pub in_front : {A : Type 0} → Nesting → List A → Unrolled A → Unrolled A
-in_front (nesting.Opens times) own u = repeated times u.here u.behind
+in_front (nesting.Opens times) own u = unrolled_repeat times u.here u.behind
 in_front (nesting.Closes start) own u = record { here = own; behind = u.here ∷ u.behind }
 in_front nesting.Stays own u = record { here = own ++ u.here; behind = u.behind }
 
 -- what items make for a rank: the primitives up to the end of the open repeat, and those behind it
-unfoldable pub unrolled : SetupView → ℕ → List Item → Unrolled Prim
-unrolled s rank [] = record { here = []; behind = [] }
-unrolled s rank (item ∷ items) = in_front (nesting_at rank item) (prims_of s rank item) (unrolled s rank items)
+unfoldable pub unrolled_items : SetupView → ℕ → List Item → Unrolled Prim
+unrolled_items s rank [] = record { here = []; behind = [] }
+unrolled_items s rank (item ∷ items) = in_front (nesting_at rank item) (prims_of s rank item) (unrolled_items s rank items)
 
 -- the setup by which the collective calls of a script are made: neither its layout nor its hosts matter
 abbrev pub setup_of : Script → SetupView
@@ -190,7 +190,7 @@ setup_of script = record { nue = script.nue; layout = layout.LineFlags; hosts = 
 
 -- the primitives of a rank: those of its items, in the order of the file, a repeat's body as often as the repeat says
 abbrev pub program_of : Script → ℕ → List Prim
-program_of script rank = (unrolled (setup_of script) rank script.items).here
+program_of script rank = (unrolled_items (setup_of script) rank script.items).here
 
 -- what an item is for a walk: its primitives, or a mark (None) where a pass of a repeat ends
 abbrev pub marks_by : Nesting → List Prim → List (Option Prim)
@@ -203,13 +203,13 @@ abbrev pub marks_of : SetupView → ℕ → Item → List (Option Prim)
 marks_of s rank item = marks_by (nesting_at rank item) (prims_of s rank item)
 
 -- what items make for a rank, with the marks
-unfoldable pub marked : SetupView → ℕ → List Item → Unrolled (Option Prim)
-marked s rank [] = record { here = []; behind = [] }
-marked s rank (item ∷ items) = in_front (nesting_at rank item) (marks_of s rank item) (marked s rank items)
+unfoldable pub unrolled_marks : SetupView → ℕ → List Item → Unrolled (Option Prim)
+unrolled_marks s rank [] = record { here = []; behind = [] }
+unrolled_marks s rank (item ∷ items) = in_front (nesting_at rank item) (marks_of s rank item) (unrolled_marks s rank items)
 
 -- the primitives and the ends of passes of a rank, in their order: each is one operation
 abbrev pub marks_in : Script → ℕ → List (Option Prim)
-marks_in script rank = (marked (setup_of script) rank script.items).here
+marks_in script rank = (unrolled_marks (setup_of script) rank script.items).here
 
 -- the primitives among marks
 abbrev pub prims_in : List (Option Prim) → List Prim

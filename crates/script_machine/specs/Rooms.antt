@@ -5,7 +5,7 @@ use Rattle.script_machine.specs.Printed.{Printed}
 use Rattle.script_machine.specs.declared.prims.Standing.{Standing}
 use Rattle.script_machine.specs.declared.prints.Entry.{Entry}
 use Rattle.script_machine.specs.declared.reckoning.Needs.{Needs}
-use Rattle.script_machine.specs.Lengths.{Lengths, length_at, lengths_after}
+use Rattle.script_machine.specs.Lengths.{Lengths, length_of_register, lengths_after}
 use Rattle.script_machine.specs.Local.{Local}
 use Rattle.script_machine.specs.Program.{Act, Prim}
 use Rattle.script_machine.specs.Program.Act.{Set, Own, Send, Post, Recv, Gather, Bar, Begin, Fold, Accept, Finish}
@@ -28,8 +28,8 @@ pub record PrintsView : Type 0 where
   pub bytes : ℕ
 
 -- a printed item is a piece of the printed bytes
-abbrev pub cut : List ℕ → Entry → Printed
-cut bytes entry = record { reg = entry.reg; form = entry.form; bytes = take entry.len (drop entry.start bytes) }
+abbrev pub printed_of_entry : List ℕ → Entry → Printed
+printed_of_entry bytes entry = record { reg = entry.reg; form = entry.form; bytes = take entry.len (drop entry.start bytes) }
 
 -- each entry ends within the first `room` bytes
 abbrev pub AreCut : ℕ → List Entry → Type 0
@@ -59,7 +59,7 @@ pub record Rooms : Type 0 where
 -- how many bytes the copy of a register takes that is applied to one
 abbrev pub spare_length : Lengths → Act → ℕ
 spare_length l (Set reg content) = 0
-spare_length l (Own (own.Apply op ty dst src)) = length_at l src
+spare_length l (Own (own.Apply op ty dst src)) = length_of_register l src
 spare_length l (Own (own.Print reg form)) = 0
 spare_length l (Send to head source) = 0
 spare_length l (Post to reg) = 0

@@ -12,9 +12,9 @@ use Rattle.script_machine.specs.declared.prims.Primitive.{Primitive}
 use Rattle.script_machine.specs.declared.course.Open.{Open}
 use Rattle.script_reader.specs.declared.script.Item.{Item}
 use Rattle.script_reader.specs.Script.{Script}
-use Rattle.script_machine.specs.Program.{Act, Prim, Unrolled, copies, filling, marked, marks_of, prims_in}
+use Rattle.script_machine.specs.Program.{Act, Prim, Unrolled, copies, filling, unrolled_marks, marks_of, prims_in}
 use Rattle.script_machine.specs.Program.Act.{Set, Own, Send, Post, Recv, Gather, Bar, Begin, Fold, Accept, Finish}
-use Rattle.groups.specs.Folds.{bytes_of}
+use Rattle.groups.specs.Folds.{bytes_of_value}
 use Rattle.std.specs.Prelude.{pos}
 use Rattle.scc_base.specs.Heads.{most_message}
 
@@ -22,7 +22,7 @@ use Rattle.scc_base.specs.Heads.{most_message}
 abbrev pub content_of : Content → List ℕ
 content_of (content.Bytes bytes) = bytes.now
 content_of (content.Filling len start) = filling len start
-content_of (content.Number ty number) = bytes_of ty (pos number)
+content_of (content.Number ty number) = bytes_of_value ty (pos number)
 
 -- a register is set to at most as many bytes as a message may have
 abbrev pub IsShort : Action → Type 0
@@ -113,7 +113,7 @@ pub record IsFront (marks : List (Option Prim)) (next : Option Primitive) : Type
 
 -- what the further passes of an open repeat make
 abbrev pub again : SetupView → ℕ → List Item → Open → List (Option Prim)
-again s rank items o = copies o.left (marked s rank (drop o.start items)).here
+again s rank items o = copies o.left (unrolled_marks s rank (drop o.start items)).here
 
 -- what is left: up to the end of the innermost open repeat, its further passes, then up to the next one's end, and so on
 abbrev pub woven : {A : Type 0} → List A → List (List A) → List (List A) → List A
@@ -128,18 +128,18 @@ left_of u more = woven u.here u.behind more
 -- what is left from a place on, with these repeats open, the innermost one first
 abbrev pub left_at : SetupView → ℕ → List Item → ℕ → List Open → List (Option Prim)
 left_at s rank items place open_repeats =
-    left_of (marked s rank (drop place items)) (map (again s rank items) open_repeats)
+    left_of (unrolled_marks s rank (drop place items)) (map (again s rank items) open_repeats)
 
 -- each open repeat is the one whose end comes next: what stands behind its end is what stands behind that one
 abbrev pub AreOpen : SetupView → ℕ → List Item → List (List (Option Prim)) → List Open → Type 0
 AreOpen s rank items [] open_repeats = Unit {0}
 AreOpen s rank items (next ∷ behind) [] = Unit {0}
 AreOpen s rank items (next ∷ behind) (o ∷ open_repeats) =
-    ((marked s rank (drop o.start items)).behind ≡ next ∷ behind) × AreOpen s rank items behind open_repeats
+    ((unrolled_marks s rank (drop o.start items)).behind ≡ next ∷ behind) × AreOpen s rank items behind open_repeats
 
 -- these repeats are open at a place: behind the end of each stands what the script has there
 abbrev pub AreOpenAt : SetupView → ℕ → List Item → ℕ → List Open → Type 0
-AreOpenAt s rank items place open_repeats = AreOpen s rank items (marked s rank (drop place items)).behind open_repeats
+AreOpenAt s rank items place open_repeats = AreOpen s rank items (unrolled_marks s rank (drop place items)).behind open_repeats
 
 -- an item, if there is one, has more marks than this
 abbrev pub HasMore : SetupView → ℕ → Option Item → ℕ → Type 0
@@ -147,20 +147,20 @@ HasMore s rank None step = Unit {0}
 HasMore s rank (Some item) step = step < length (marks_of s rank item)
 
 -- the item at a place has more than `step` marks, if there is an item
-abbrev pub StandsAt : SetupView → ℕ → List Item → ℕ → ℕ → Type 0
-StandsAt s rank items place step = HasMore s rank (slice_get items place) step
+abbrev pub HasMoreMarks : SetupView → ℕ → List Item → ℕ → ℕ → Type 0
+HasMoreMarks s rank items place step = HasMore s rank (slice_get items place) step
 
 -- a course stands where it can go on: each open repeat has its end, and the item there has more marks than were passed
 pub record IsAt (s : SetupView) (rank : ℕ) (items : List Item) (place step : ℕ) (repeats : List Open) : Type 0 where
   pub within : rank < s.nue
   pub opens : AreOpenAt s rank items place repeats
-  pub stands : StandsAt s rank items place step
+  pub stands : HasMoreMarks s rank items place step
 
 -- the repeats that are open behind the beginning of a repeat
-abbrev pub opened : Nesting → ℕ → List Open → List Open
-opened (nesting.Opens times) at repeats = record { start = at + 1; left = times - 1 } ∷ repeats
-opened (nesting.Closes start) at repeats = repeats
-opened nesting.Stays at repeats = repeats
+abbrev pub repeats_behind_begin : Nesting → ℕ → List Open → List Open
+repeats_behind_begin (nesting.Opens times) at repeats = record { start = at + 1; left = times - 1 } ∷ repeats
+repeats_behind_begin (nesting.Closes start) at repeats = repeats
+repeats_behind_begin nesting.Stays at repeats = repeats
 
 -- the place behind the end of a pass: the repeat's start where a pass is left, and else the next place
 abbrev pub next_pass : ℕ → ℕ → ℕ → ℕ
@@ -178,9 +178,9 @@ closed_by start zero repeats = repeats
 closed_by start (suc left) repeats = record { start = start; left = left } ∷ repeats
 
 -- the open repeats behind the end of a pass of the innermost one
-abbrev pub closed : List Open → List Open
-closed [] = []
-closed (o ∷ repeats) = closed_by o.start o.left repeats
+abbrev pub repeats_behind_pass : List Open → List Open
+repeats_behind_pass [] = []
+repeats_behind_pass (o ∷ repeats) = closed_by o.start o.left repeats
 
 -- the place behind an item that has marks
 abbrev pub passed_to : Nesting → ℕ → ℕ → List Open → ℕ
@@ -189,7 +189,7 @@ passed_to (nesting.Closes start) at end repeats = closed_to at end repeats
 passed_to nesting.Stays at end repeats = at + 1
 
 -- the open repeats behind an item that has marks
-abbrev pub passed : Nesting → List Open → List Open
-passed (nesting.Opens times) repeats = repeats
-passed (nesting.Closes start) repeats = closed repeats
-passed nesting.Stays repeats = repeats
+abbrev pub repeats_behind_marks : Nesting → List Open → List Open
+repeats_behind_marks (nesting.Opens times) repeats = repeats
+repeats_behind_marks (nesting.Closes start) repeats = repeats_behind_pass repeats
+repeats_behind_marks nesting.Stays repeats = repeats

@@ -14,9 +14,9 @@ use scc_base::{Call, Head, PostHead};
 
 impl<'s> Machine<'s> {
     ghost use Rattle.std.specs.Prelude.{◌≡◌, ◌≤◌, length};
-    ghost use Rattle.script_machine.specs.Next.{facing_of, call_of, is_going};
-    ghost use Rattle.script_machine.specs.Local.{local_next, line_of};
-    ghost use Rattle.script_machine.specs.Moves.{bytes_out, length_in, line_out, post_of};
+    ghost use Rattle.script_machine.specs.Next.{facing_of, call_next, is_going};
+    ghost use Rattle.script_machine.specs.Local.{local_next, statement_line};
+    ghost use Rattle.script_machine.specs.Moves.{bytes_out, length_asked, line_out, post_of};
     ghost use Rattle.scc_base.specs.Heads.{most_message};
 
     /// Whether a statement of the rank alone stands next.
@@ -31,7 +31,7 @@ impl<'s> Machine<'s> {
 
     /// The call that stands next.
     pub fn call(&self) -> Option<Call>
-        ensures { result ≡ call_of (local_next self.now.local) }
+        ensures { result ≡ call_next (local_next self.now.local) }
     {
         let Some(prim) = self.prim() else {
             return None;
@@ -117,7 +117,7 @@ impl<'s> Machine<'s> {
 
     /// The line of the statement that stands next; 0 where nothing does.
     pub fn stands_at(&self) -> u32
-        ensures { result ≡ line_of self.now.local }
+        ensures { result ≡ statement_line self.now.local }
     {
         match self.prim() {
             Some(prim) => prim.line,
@@ -175,7 +175,7 @@ impl<'s> Machine<'s> {
 
     /// How many bytes the receive that stands next asks for; 0 where something else stands.
     pub fn asked(&self) -> usize
-        ensures { result ≡ length_in (local_next self.now.local) }
+        ensures { result ≡ length_asked (local_next self.now.local) }
     {
         let Some(prim) = self.prim() else {
             return 0;
@@ -200,7 +200,7 @@ impl Lengths {
     ghost use Rattle.std.specs.Option.{option_to_list};
     ghost use Rattle.std.specs.Prelude.{◌≡◌, map};
     ghost use Rattle.scc_base.specs.Calls.{bytes_asked};
-    ghost use Rattle.script_machine.specs.CallLists.{called};
+    ghost use Rattle.script_machine.specs.CallLists.{calls_made};
     ghost use Rattle.script_machine.specs.Lengths.{asked_length, source_length};
     ghost use Rattle.script_machine.specs.Walk.{act_meant};
 
@@ -226,7 +226,7 @@ impl Lengths {
 
     /// How many bytes the call of a primitive moves, if it makes a call.
     pub fn moved(&self, action: &Action) -> Option<u32>
-        ensures { option_to_list result ≡ map bytes_asked (called self.now (act_meant action.now)) }
+        ensures { option_to_list result ≡ map bytes_asked (calls_made self.now (act_meant action.now)) }
     {
         match action {
             Action::Send { source, .. } => Some(self.sent(source).get()),

@@ -5,7 +5,7 @@ ghost use Rattle.std.specs.VecDeque.{deque_capacity};
 ghost use Rattle.script_reader.specs.Script.{IsSized};
 ghost use Rattle.script_machine.specs.Depths.{HasRoom, IsDeep, IsIdleFrom, IsIdleTo};
 ghost use Rattle.script_machine.specs.Program.{marks_of, nesting_at, prims_of};
-ghost use Rattle.script_machine.specs.Walk.{AreOpenAt, StandsAt, closed, closed_to, left_at, opened, passed, passed_to};
+ghost use Rattle.script_machine.specs.Walk.{AreOpenAt, HasMoreMarks, repeats_behind_pass, closed_to, left_at, repeats_behind_begin, repeats_behind_marks, passed_to};
 
 use crate::nestings::{depth_behind, end_passes, ends_pass, flat_passes, nesting_at};
 use crate::prims::Primitive;
@@ -281,8 +281,8 @@ fn reach_of(scripts: &Scripts, rank: Rank) -> Reach
 /// Enters the repeat that an item opens, if it opens one.
 fn enter(rank: Rank, item: &Item, at: usize, repeats: &mut VecDeque<Open>)
     requires below { at < usize.MAX }
-    requires room { length (opened (nesting_at rank item.now) at repeats.old.items) ≤ deque_capacity repeats.old }
-    ensures same { repeats.new.items ≡ opened (nesting_at rank item.now) at repeats.old.items }
+    requires room { length (repeats_behind_begin (nesting_at rank item.now) at repeats.old.items) ≤ deque_capacity repeats.old }
+    ensures same { repeats.new.items ≡ repeats_behind_begin (nesting_at rank item.now) at repeats.old.items }
     ensures room { deque_capacity repeats.new ≡ deque_capacity repeats.old }
 {
     match nesting_at(rank, item) {
@@ -313,7 +313,7 @@ fn settled(
     ensures same { left_at setup.now rank scripts.now.items result repeats.new.items
         ≡ left_at setup.now rank scripts.now.items place repeats.old.items }
     ensures opens { AreOpenAt setup.now rank scripts.now.items result repeats.new.items }
-    ensures stands { StandsAt setup.now rank scripts.now.items result 0 }
+    ensures stands { HasMoreMarks setup.now rank scripts.now.items result 0 }
     ensures deep { IsDeep rank scripts.now.items result repeats.new.items }
     ensures room { deque_capacity repeats.new ≡ deque_capacity repeats.old }
 {
@@ -332,7 +332,7 @@ fn close(at: usize, end: usize, repeats: &mut VecDeque<Open>) -> usize
     requires below { at < usize.MAX }
     requires room { length repeats.old.items ≤ deque_capacity repeats.old }
     ensures to { result ≡ closed_to at end repeats.old.items }
-    ensures left { repeats.new.items ≡ closed repeats.old.items }
+    ensures left { repeats.new.items ≡ repeats_behind_pass repeats.old.items }
     ensures room { deque_capacity repeats.new ≡ deque_capacity repeats.old }
 {
     match repeats.pop_front() {
@@ -356,7 +356,7 @@ fn pass_item(rank: Rank, item: &Item, at: usize, end: usize, repeats: &mut VecDe
     requires below { at < usize.MAX }
     requires room { length repeats.old.items ≤ deque_capacity repeats.old }
     ensures to { result ≡ passed_to (nesting_at rank item.now) at end repeats.old.items }
-    ensures left { repeats.new.items ≡ passed (nesting_at rank item.now) repeats.old.items }
+    ensures left { repeats.new.items ≡ repeats_behind_marks (nesting_at rank item.now) repeats.old.items }
     ensures room { deque_capacity repeats.new ≡ deque_capacity repeats.old }
 {
     match nesting_at(rank, item) {

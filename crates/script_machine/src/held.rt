@@ -28,7 +28,7 @@ struct Buffers {
 
 impl Held {
     ghost use Rattle.std.specs.Prelude.{◌≡◌, IfOk};
-    ghost use Rattle.script_machine.specs.Holds.{HasRoomFor, empty, worked};
+    ghost use Rattle.script_machine.specs.Holds.{HasRoomFor, empty, held_after_own};
     ghost use Rattle.script_machine.specs.Rooms.{rooms_of};
 
     /// Nothing yet, in the rooms that are needed.
@@ -54,7 +54,7 @@ impl Held {
     /// Does what a statement of the rank alone does to what it holds; other statements do nothing to it.
     pub(crate) fn work(&mut self, action: &Action)
         requires { HasRoomFor action.now self.old }
-        ensures { self.new ≡ worked action.now self.old }
+        ensures { self.new ≡ held_after_own action.now self.old }
     {
         match *action {
             Action::Set { reg, content } => self.registers.set(reg, &content),

@@ -3,7 +3,7 @@
 
 ghost use Rattle.std.specs.Prelude.{◌≡◌, ◌≤◌, Option};
 ghost use Rattle.std.specs.Option.{option_map};
-ghost use Rattle.script_machine.specs.Local.{end_by_slot, with_length};
+ghost use Rattle.script_machine.specs.Local.{end_by_slot, head_with_length};
 ghost use Rattle.script_machine.specs.Machine.{on_its_way};
 ghost use Rattle.script_machine.specs.declared.posts.Posted.{Posted};
 ghost use Rattle.scc_base.specs.Heads.{most_message};
@@ -54,13 +54,13 @@ impl<'s> Machine<'s> {
     ghost use Rattle.std.specs.Option.{option_map};
     ghost use Rattle.scc_base.specs.Heads.{plain_head, most_message, most_post};
     ghost use Rattle.script_reader.specs.Script.{rules_of};
-    ghost use Rattle.script_machine.specs.Local.{asked_head, end_of, local_next, local_start, next_prim, register_at, source_bytes, stopped_at, line_of};
+    ghost use Rattle.script_machine.specs.Local.{asked_head, end_of, local_next, local_start, next_prim, register_at, source_bytes, stopped_at, statement_line};
     ghost use Rattle.script_machine.specs.Holds.{empty, local_with};
     ghost use Rattle.script_machine.specs.Machine.{on_its_way};
     ghost use Rattle.script_machine.specs.Rooms.{AreWithin, nothing_held, rooms_of};
     ghost use Rattle.script_machine.specs.declared.prims.Standing.TheVariants as standing;
-    ghost use Rattle.script_machine.specs.Moves.{bytes_out, is_passable, is_receiving, is_stopped, length_in, line_out, passed, post_of, refused, taken, went};
-    ghost use Rattle.script_machine.specs.Next.{call_of, is_going};
+    ghost use Rattle.script_machine.specs.Moves.{bytes_out, is_passable, is_receiving, is_stopped, length_asked, line_out, after_pass, post_of, after_refusal, after_take, went};
+    ghost use Rattle.script_machine.specs.Next.{call_next, is_going};
     ghost use Rattle.script_machine.specs.Walk.{IsShort, prim_meant};
     ghost use Rattle.script_machine.specs.declared.posts.Posted.{Posted};
 
@@ -184,7 +184,7 @@ impl<'s> Machine<'s> {
     /// Goes past the send, the post or the barrier that stands next.
     pub fn pass(&mut self)
         requires { IsTrue (is_passable (local_next self.old.local)) }
-        ensures { self.new ≡ record self.old { local = passed (local_next self.old.local) self.old.local } }
+        ensures { self.new ≡ record self.old { local = after_pass (local_next self.old.local) self.old.local } }
     {
         self.walk.advance();
     }
@@ -192,8 +192,8 @@ impl<'s> Machine<'s> {
     /// Goes past the receive that stands next, with the message's bytes.
     pub fn receive(&mut self, bytes: &[u8])
         requires at_receive { IsTrue (is_receiving (local_next self.old.local)) }
-        requires long { length bytes.now ≡ length_in (local_next self.old.local) }
-        ensures { self.new ≡ record self.old { local = taken (local_next self.old.local) bytes.now self.old.local } }
+        requires long { length bytes.now ≡ length_asked (local_next self.old.local) }
+        ensures { self.new ≡ record self.old { local = after_take (local_next self.old.local) bytes.now self.old.local } }
     {
         let Some(prim) = self.prim() else {
             unreachable!()
@@ -210,7 +210,7 @@ impl<'s> Machine<'s> {
     /// Stops at the receive that stands next: the message has another head.
     pub fn refuse(&mut self, sent: Head)
         requires { IsTrue (is_receiving (local_next self.old.local)) }
-        ensures { self.new ≡ record self.old { local = refused (local_next self.old.local) sent self.old.local } }
+        ensures { self.new ≡ record self.old { local = after_refusal (local_next self.old.local) sent self.old.local } }
     {
         let Some(prim) = self.prim() else {
             unreachable!()
@@ -297,7 +297,7 @@ impl<'s> Machine<'s> {
 /// A head with another length.
 pub(crate) fn with_length(head: Head, len: u32) -> Head
     requires { len ≤ most_message }
-    ensures { result ≡ with_length head len }
+    ensures { result ≡ head_with_length head len }
 {
     match Head::new(head.kind(), head.comm(), len) {
         Some(head) => head,

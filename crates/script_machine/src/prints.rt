@@ -29,15 +29,19 @@ impl Model for Prints {
     ghost use Rattle.std.specs.Prelude.{◌≡◌, ◌≤◌, length, map};
     ghost use Rattle.std.specs.Vec.{vec_capacity};
     ghost use Rattle.script_machine.specs.Lengths.{printed_bytes};
-    ghost use Rattle.script_machine.specs.Rooms.{AreCut, PrintsView, cut};
+    ghost use Rattle.script_machine.specs.Rooms.{AreCut, PrintsView, printed_of_entry};
 
     ghost Value = { PrintsView };
 
-    ghost view = { λ p. record { items = map (cut p.bytes.items) p.table.items; room = vec_capacity p.table; bytes = p.most } };
+    ghost view = { λ p. record {
+      items = map (printed_of_entry p.bytes.items) p.table.items;
+      room = vec_capacity p.table;
+      bytes = p.most;
+    } };
 
     ghost invariant = { λ p.
         AreCut (length p.bytes.items) p.table.items
-        × ((printed_bytes (map (cut p.bytes.items) p.table.items) ≡ length p.bytes.items) × (p.most ≤ vec_capacity p.bytes)) };
+        × ((printed_bytes (map (printed_of_entry p.bytes.items) p.table.items) ≡ length p.bytes.items) × (p.most ≤ vec_capacity p.bytes)) };
 }
 
 /// A printed register, lent.

@@ -62,7 +62,7 @@ impl Model for Reckoning {
 
 impl Lengths {
     ghost use Rattle.std.specs.Prelude.{◌≡◌, ◌+◌, true, IfOk, OnOk};
-    ghost use Rattle.script_machine.specs.Lengths.{length_at, lengths_after, with_register};
+    ghost use Rattle.script_machine.specs.Lengths.{length_of_register, lengths_after, with_register};
     ghost use Rattle.script_machine.specs.Passes.{KeepsRegisters};
     ghost use Rattle.script_machine.specs.Rooms.{greater, nothing_held};
     ghost use Rattle.script_machine.specs.Walk.{IsShort, act_meant};
@@ -85,7 +85,7 @@ impl Lengths {
     }
 
     pub(crate) fn len(&self, reg: u8) -> Length
-        ensures { result ≡ length_at self.now reg }
+        ensures { result ≡ length_of_register self.now reg }
     {
         match self.registers.get(reg as usize) {
             Some(len) => *len,
@@ -103,7 +103,7 @@ impl Lengths {
 
     /// A register has at least this many bytes.
     fn raise(&mut self, reg: u8, len: Length)
-        ensures { self.new ≡ with_register self.old reg (greater (length_at self.old reg) len) }
+        ensures { self.new ≡ with_register self.old reg (greater (length_of_register self.old reg) len) }
     {
         let more = greater(self.len(reg), len);
         self.set(reg, more);
@@ -155,7 +155,7 @@ impl Lengths {
     /// A register is printed.
     fn print_register(&mut self, reg: u8) -> Result<(), AllocError>
         ensures { OnOk result
-            (self.new ≡ record self.old { items = self.old.items + 1; printed = self.old.printed + length_at self.old reg }) }
+            (self.new ≡ record self.old { items = self.old.items + 1; printed = self.old.printed + length_of_register self.old reg }) }
     {
         let len = self.len(reg).get() as usize;
         let items = self.items().checked_add(1).ok_or(AllocError)?;
@@ -223,7 +223,7 @@ impl Lengths {
 
 impl Reckoning {
     ghost use Rattle.std.specs.Prelude.{◌≡◌, ◌≤◌, ◌+◌, IfOk, OnOk};
-    ghost use Rattle.script_machine.specs.Lengths.{length_at, lengths_after, with_register};
+    ghost use Rattle.script_machine.specs.Lengths.{length_of_register, lengths_after, with_register};
     ghost use Rattle.script_machine.specs.Rooms.{IsWider, IsWithin, nothing_held, rooms_of, spare_length};
     ghost use Rattle.script_machine.specs.Walk.{IsShort, act_meant};
 
@@ -282,7 +282,7 @@ impl Reckoning {
     fn print(&mut self, reg: u8) -> Result<(), AllocError>
         ensures after { OnOk result (self.new.lengths ≡ record self.old.lengths {
           items = self.old.lengths.items + 1;
-          printed = self.old.lengths.printed + length_at self.old.lengths reg;
+          printed = self.old.lengths.printed + length_of_register self.old.lengths reg;
         }) }
         ensures wider { OnOk result (IsWider self.old.most self.new.most) }
     {

@@ -70,7 +70,7 @@ impl Model for Room {
 
 impl Room {
     ghost use Rattle.std.specs.Prelude.{◌≡◌, ◌≤◌, [], length, IfOk};
-    ghost use Rattle.script_machine.specs.Local.{folded};
+    ghost use Rattle.script_machine.specs.Local.{fold_if_fits};
     ghost use Rattle.script_machine.specs.Walk.{content_of};
     ghost use Rattle.scc_base.specs.Heads.{most_message};
 
@@ -159,7 +159,7 @@ impl Room {
 
     /// Becomes `bytes op more`, value by value, where the two fit.
     pub fn fold(&mut self, op: Op, ty: Ty, more: &[u8])
-        ensures { self.new ≡ record self.old { bytes = folded op ty self.old.bytes more.now } }
+        ensures { self.new ≡ record self.old { bytes = fold_if_fits op ty self.old.bytes more.now } }
     {
         let _ = fold_into(op, ty, self.bytes.as_mut_slice(), more);
     }
@@ -182,7 +182,7 @@ impl Model for Registers {
 
 impl Registers {
     ghost use Rattle.std.specs.Prelude.{◌≡◌, ◌<◌, ◌≤◌, [], length, replicate, slice_index_or, slice_set, IfOk};
-    ghost use Rattle.script_machine.specs.Local.{folded};
+    ghost use Rattle.script_machine.specs.Local.{fold_if_fits};
     ghost use Rattle.script_machine.specs.Walk.{content_of};
     ghost use Rattle.scc_base.specs.Heads.{most_message};
 
@@ -233,7 +233,7 @@ impl Registers {
         ensures { self.new
             ≡ record self.old {
               registers = slice_set self.old.registers reg
-                  (folded op ty (slice_index_or self.old.registers reg []) more.now);
+                  (fold_if_fits op ty (slice_index_or self.old.registers reg []) more.now);
             } }
     {
         if (reg as usize) < self.rooms.len() {

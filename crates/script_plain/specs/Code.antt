@@ -10,14 +10,14 @@ use Rattle.script_machine.specs.declared.posts.Posted.{Posted}
 use Rattle.script_plain.specs.declared.steps.Step.{Step}
 use Rattle.script_plain.specs.declared.steps.Step.TheVariants as step
 use Rattle.script_plain.specs.declared.matches.Match.{Match}
-use Rattle.script_machine.specs.Local.{Local, cost_of, local_next, line_of}
-use Rattle.script_plain.specs.Matches.{brought, step_brought}
-use Rattle.script_machine.specs.Next.{Next, call_of, is_going}
+use Rattle.script_machine.specs.Local.{Local, most_steps_left, local_next, statement_line}
+use Rattle.script_plain.specs.Matches.{messages_brought, step_brought}
+use Rattle.script_machine.specs.Next.{Next, call_next, is_going}
 use Rattle.script_machine.specs.Next.Next.{Ends, Goes, Posts, Sends, Recvs, Bars}
 use Rattle.script_plain.specs.Step.{Configuration, same_head, all_at_barrier, step_of, lowest_step, run_on}
 
 -- a setup with as many ranks as these, each with a slot, and with sixteen communicators
-pub record IsRun (setup : SetupView) (ues : List Local) (slots : List (Option Posted)) : Type 0 where
+pub record IsSetupOfUes (setup : SetupView) (ues : List Local) (slots : List (Option Posted)) : Type 0 where
   pub ranks : length ues ≡ setup.nue
   pub slotted : length slots ≡ setup.nue
   pub sixteen : length setup.comms ≡ 16
@@ -99,8 +99,8 @@ HasRefused (Recvs from head take refuse) sent new = new ≡ refuse sent
 HasRefused (Bars comm after) sent new = ⊥
 
 -- the call at which a rank stands
-abbrev pub call_at : List Local → ℕ → Option Call
-call_at ues rank = call_of (option_map_or local_next (slice_get ues rank) Ends)
+abbrev pub call_of_rank : List Local → ℕ → Option Call
+call_of_rank ues rank = call_next (option_map_or local_next (slice_get ues rank) Ends)
 
 -- a post waits while the slot has an earlier message
 abbrev pub post_decision : Option Posted → Step
@@ -145,9 +145,9 @@ abbrev pub call_decision : (ℕ → ℕ → ℕ) → List Local → List (Option
 call_decision keys ues slots i None = step.Stays
 call_decision keys ues slots i (Some (call.Post to head)) = post_decision (slice_index_or slots i None)
 call_decision keys ues slots i (Some (call.Send to head)) =
-    match_decision i to head (slice_index_or slots i None) (call_at ues to)
+    match_decision i to head (slice_index_or slots i None) (call_of_rank ues to)
 call_decision keys ues slots i (Some (call.Recv from head)) =
-    receive_decision i from head (slice_index_or slots from None) (call_at ues from)
+    receive_decision i from head (slice_index_or slots from None) (call_of_rank ues from)
 call_decision keys ues slots i (Some (call.Bar comm)) = barrier_decision keys ues i comm
 
 -- the step that rank i owns: its own statement, or what its call decides
@@ -155,7 +155,7 @@ abbrev pub decision : (ℕ → ℕ → ℕ) → List Local → List (Option Post
 decision keys ues slots i =
     if is_going (option_map_or local_next (slice_get ues i) Ends)
     then step.Goes
-    else call_decision keys ues slots i (call_at ues i)
+    else call_decision keys ues slots i (call_of_rank ues i)
 
 -- rank i's step was taken, or it owns none
 abbrev pub StepsAt : (ℕ → ℕ → ℕ) → Bool → ℕ → Configuration Local → Configuration Local → Type 0
@@ -168,8 +168,9 @@ IsNoneGoing ues = (i : ℕ) (u : Local) → slice_get ues i ≡ Some u → is_go
 
 -- a run goes on from `old` to `new`: it comes to the same end from both, and fewer steps are left behind `new`
 pub record IsOnTheWay (keys : ℕ → ℕ → ℕ) (old new : Configuration Local) : Type 0 where
-  pub same_end : run_on keys local_next (sum_by cost_of new.cells) new ≡ run_on keys local_next (sum_by cost_of old.cells) old
-  pub less : sum_by cost_of new.cells < sum_by cost_of old.cells
+  pub same_end : run_on keys local_next (sum_by most_steps_left new.cells) new
+      ≡ run_on keys local_next (sum_by most_steps_left old.cells) old
+  pub less : sum_by most_steps_left new.cells < sum_by most_steps_left old.cells
 
 -- steps were taken on the way to the same end, or nothing was done
 abbrev pub Moves : (ℕ → ℕ → ℕ) → Bool → Configuration Local → Configuration Local → Type 0
@@ -190,11 +191,11 @@ Sweeps keys false n old new = ((k : ℕ) → k < n → step_of keys local_next o
 -- the groups, whether there was a step, whose it was, and the states and the matches before and after.
 abbrev pub BringsAt : (ℕ → ℕ → ℕ) → Bool → ℕ → Configuration Local → Configuration Local → List Match → List Match → Type 0
 BringsAt keys true i old new before after =
-    (step_of keys local_next old i ≡ Some new) × (after ≡ before ++ brought local_next line_of old i)
+    (step_of keys local_next old i ≡ Some new) × (after ≡ before ++ messages_brought local_next statement_line old i)
 BringsAt keys false i old new before after = (step_of keys local_next old i ≡ None) × (new ≡ old) × (after ≡ before)
 
 -- the enabled step with the lowest owner was taken, and what it brings stands behind what came before; or none is enabled
 abbrev pub BringsLowest : (ℕ → ℕ → ℕ) → Bool → Configuration Local → Configuration Local → List Match → List Match → Type 0
 BringsLowest keys true old new before after =
-    (lowest_step keys local_next old ≡ Some new) × (after ≡ before ++ step_brought keys local_next line_of old)
+    (lowest_step keys local_next old ≡ Some new) × (after ≡ before ++ step_brought keys local_next statement_line old)
 BringsLowest keys false old new before after = (lowest_step keys local_next old ≡ None) × (new ≡ old) × (after ≡ before)

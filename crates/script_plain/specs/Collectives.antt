@@ -40,14 +40,14 @@ gone_through [] u = u
 gone_through (bytes ∷ more) u = gone_through more (gone_by bytes u (next_of u))
 
 -- a rank where it starts
-abbrev pub started : Script → ℕ → State
-started script rank = record { local = local_start script rank; matched = [] }
+abbrev pub start_of_rank : Script → ℕ → State
+start_of_rank script rank = record { local = local_start script rank; matched = [] }
 
 -- the calls that each rank has done are those that it makes by itself from its start, with the bytes that it received
 abbrev pub AreOwnWays : Script → Configuration State → Type 0
 AreOwnWays script c =
     (rank : ℕ) (u : State) → slice_get c.cells rank ≡ Some u
-    → (path : List (List ℕ)) × (u.matched ≡ (gone_through path (started script rank)).matched)
+    → (path : List (List ℕ)) × (u.matched ≡ (gone_through path (start_of_rank script rank)).matched)
 
 -- an item of the script which is one of this rank's
 pub record IsOfRank (items : List Item) (rank : ℕ) (item : Item) : Type 0 where
@@ -60,28 +60,28 @@ abbrev pub made_by : SetupView → ℕ → Item → List Prim
 made_by s rank item = map (λ act. record { line = item.line; act = act }) (acts_of s rank item.stmt)
 
 -- primitives that items of a rank make, one item after another
-pub data Made (s : SetupView) (rank : ℕ) (items : List Item) : List Prim → Type 0 where
-  Done : Made s rank items []
-  Then : (item : Item) → IsOfRank items rank item → (rest : List Prim) → Made s rank items rest
-      → Made s rank items (made_by s rank item ++ rest)
+pub data MadeByItems (s : SetupView) (rank : ℕ) (items : List Item) : List Prim → Type 0 where
+  Done : MadeByItems s rank items []
+  Then : (item : Item) → IsOfRank items rank item → (rest : List Prim) → MadeByItems s rank items rest
+      → MadeByItems s rank items (made_by s rank item ++ rest)
 
 -- a rank stands at a statement of its own: by itself it came there from its start, what the statement makes comes next, and
 -- then what others of its statements make
-pub record StandsAt (script : Script) (rank : ℕ) (statement : Stmt) (u : State) : Type 0 where
+pub record StandsAtStatement (script : Script) (rank : ℕ) (statement : Stmt) (u : State) : Type 0 where
   pub way : List (List ℕ)
-  pub reached : u ≡ gone_through way (started script rank)
+  pub reached : u ≡ gone_through way (start_of_rank script rank)
   pub item : Item
   pub listed : IsOfRank script.items rank item
   pub says : item.stmt ≡ statement
   pub rest : List Prim
-  pub behind : Made (setup_of script) rank script.items rest
+  pub behind : MadeByItems (setup_of script) rank script.items rest
   pub running : u.local.standing ≡ standing.Running
   pub next : u.local.left ≡ map (λ act. record { line = item.line; act = act }) (acts_of (setup_of script) rank statement) ++ rest
 
 -- a rank that holds `now` came to a statement: it stood there when it held `before`, and its calls since then are those of a
 -- way on from there
 pub record CameTo (script : Script) (rank : ℕ) (statement : Stmt) (now before : State) : Type 0 where
-  pub stood : StandsAt script rank statement before
+  pub stood : StandsAtStatement script rank statement before
   pub later : List (List ℕ)
   pub since : now.matched ≡ (gone_through later before).matched
 
@@ -89,7 +89,7 @@ pub record CameTo (script : Script) (rank : ℕ) (statement : Stmt) (now before 
 -- there to `after`, behind all that the statement makes, and its calls since then are those of a way on from `after`. (Steps
 -- of the rank alone that end the statement may still come: `now` tells its calls.)
 pub record HasDone (script : Script) (rank : ℕ) (statement : Stmt) (now before after : State) : Type 0 where
-  pub stood : StandsAt script rank statement before
+  pub stood : StandsAtStatement script rank statement before
   pub taken : List (List ℕ)
   pub each : length taken ≡ length (acts_of (setup_of script) rank statement)
   pub came : after ≡ gone_through taken before
@@ -102,7 +102,7 @@ pub record HasStatement (script : Script) (rank : ℕ) (statement : Stmt) (rest 
   pub listed : IsOfRank script.items rank item
   pub says : item.stmt ≡ statement
   pub front : List Prim
-  pub behind : Made (setup_of script) rank script.items rest
+  pub behind : MadeByItems (setup_of script) rank script.items rest
   pub whole : program_of script rank ≡ front ++ (made_by (setup_of script) rank item ++ rest)
 
 -- a statement of which a rank has no primitive left is done: what comes behind it was left then
@@ -166,7 +166,7 @@ RootCame script c =
 -- one of the others came to its part in the fold that the root began when it held `begun`, with these bytes. Nine
 -- parameters: the script and where its run stands, which fold it is (its statement, the kind of its messages, the
 -- communicator, the root, the root's state when it began), and of the other its rank and its bytes.
-pub record Gives (script : Script) (c : Configuration State) (call : Op → Ty → ℕ → ℕ → Stmt) (kind : Kind) (comm root : ℕ)
+pub record GivesPart (script : Script) (c : Configuration State) (call : Op → Ty → ℕ → ℕ → Stmt) (kind : Kind) (comm root : ℕ)
     (begun : State) (rank : ℕ) (bytes : List ℕ) : Type 0 where
   pub op : Op
   pub ty : Ty
@@ -179,11 +179,11 @@ pub record Gives (script : Script) (c : Configuration State) (call : Op → Ty �
   pub same : sends_of kind comm root before ≡ receipts_of kind comm rank begun
   pub given : register_at before.local src ≡ bytes
 
--- each of the others came to its part in the root's fold, with these bytes by rank. Nine parameters: those of `Gives` with
+-- each of the others came to its part in the root's fold, with these bytes by rank. Nine parameters: those of `GivesPart` with
 -- the root's place in the group, by which the others are known, in place of the one rank.
 abbrev pub AllGive : Script → Configuration State → (Op → Ty → ℕ → ℕ → Stmt) → Kind → ℕ → ℕ → ℕ → State → (ℕ → List ℕ) → Type 0
 AllGive script c call kind comm place root begun bytes =
-    (rank : ℕ) → IsOther (setup_of script) comm place root rank → Gives script c call kind comm root begun rank (bytes rank)
+    (rank : ℕ) → IsOther (setup_of script) comm place root rank → GivesPart script c call kind comm root begun rank (bytes rank)
 
 -- the fold of a rank's own bytes with those of others, in the order in which they are named
 abbrev pub fold_with : Op → Ty → List ℕ → (ℕ → List ℕ) → List ℕ → List ℕ
@@ -250,7 +250,7 @@ AreToldAll script c =
 -- member 0 came to the reduction to all that a rank came to when it held `before`, and so did each of the others; what the
 -- rank gave itself is `own`, and `told` is the fold of what all gave. Eight parameters: the script and where its run stands,
 -- the communicator and its member 0, and of the other its rank, its state, what it gave and what it was told.
-pub record Tells (script : Script) (c : Configuration State) (comm root rank : ℕ) (before : State) (own told : List ℕ) : Type 0 where
+pub record TellsFold (script : Script) (c : Configuration State) (comm root rank : ℕ) (before : State) (own told : List ℕ) : Type 0 where
   pub op : Op
   pub ty : Ty
   pub dst : ℕ
@@ -273,7 +273,7 @@ AllCame script c =
     → slice_get c.cells rank ≡ Some v
     → IsOther (setup_of script) comm 0 root rank
     → HasDone script rank (stmt.Allreduce comm op ty to from) v before after
-    → (told : List ℕ) × Tells script c comm root rank before (register_at before.local from) told
+    → (told : List ℕ) × TellsFold script c comm root rank before (register_at before.local from) told
     × (after.local.registers ≡ slice_set before.local.registers to told)
 
 -- How many calls of a kind a rank has made is told by any of their messages, wherever it stands at a statement: a root has as
@@ -281,16 +281,16 @@ AllCame script c =
 pub record AreCountedAlike (script : Script) : Type 0 where
   pub broadcasts : (comm place root one two : ℕ) (statement : Stmt) (u : State)
       → IsOther (setup_of script) comm place root one → IsOther (setup_of script) comm place root two
-      → StandsAt script root statement u → sends_of kind.Bcast comm one u ≡ sends_of kind.Bcast comm two u
+      → StandsAtStatement script root statement u → sends_of kind.Bcast comm one u ≡ sends_of kind.Bcast comm two u
   pub reductions : (comm place root one two : ℕ) (statement : Stmt) (u : State)
       → IsOther (setup_of script) comm place root one → IsOther (setup_of script) comm place root two
-      → StandsAt script root statement u → receipts_of kind.Reduce comm one u ≡ receipts_of kind.Reduce comm two u
+      → StandsAtStatement script root statement u → receipts_of kind.Reduce comm one u ≡ receipts_of kind.Reduce comm two u
   pub reductions_to_all : (comm root one two : ℕ) (statement : Stmt) (u : State)
       → IsOther (setup_of script) comm 0 root one → IsOther (setup_of script) comm 0 root two
-      → StandsAt script root statement u → receipts_of kind.AllUp comm one u ≡ sends_of kind.AllDown comm two u
+      → StandsAtStatement script root statement u → receipts_of kind.AllUp comm one u ≡ sends_of kind.AllDown comm two u
   pub told : (comm root rank : ℕ) (statement : Stmt) (u : State)
       → IsOther (setup_of script) comm 0 root rank
-      → StandsAt script rank statement u → sends_of kind.AllUp comm root u ≡ receipts_of kind.AllDown comm root u
+      → StandsAtStatement script rank statement u → sends_of kind.AllUp comm root u ≡ receipts_of kind.AllDown comm root u
 
 -- nobody else's registers change: neither those of the root of a broadcast, nor those of the others in a reduction
 abbrev pub AreUntouched : Script → Type 0

@@ -15,26 +15,26 @@ pub record Ended : Type 0 where
   pub on_its_way : Option ℕ
 
 -- where a rank stands at the end: how its program ended, what it printed, and for whom its slot holds a message
-abbrev pub ended : Option Posted → Local → Ended
-ended slot u = record { end = end_of slot u; printed = u.printed; on_its_way = option_map (λ message. message.to) slot }
+abbrev pub end_of_rank : Option Posted → Local → Ended
+end_of_rank slot u = record { end = end_of slot u; printed = u.printed; on_its_way = option_map (λ message. message.to) slot }
 
 -- a rank of which nothing is known
 abbrev pub nothing_ended : Ended
-nothing_ended = ended None nobody
+nothing_ended = end_of_rank None nobody
 
 -- what ranks in these states leave behind, with these messages in their slots
 abbrev pub ends_of : List Local → List (Option Posted) → List Ended
-ends_of cells slots = map (λ rank. ended (slice_index_or slots rank None) (local_at cells rank)) (range_with_len 0 (length cells))
+ends_of cells slots = map (λ rank. end_of_rank (slice_index_or slots rank None) (local_at cells rank)) (range_with_len 0 (length cells))
 
 -- a rank has finished
-abbrev pub is_finished : UeEnd → Bool
-is_finished ue_end.Finished = true
-is_finished (ue_end.Waits line call) = false
-is_finished (ue_end.Mismatch line from sent asked) = false
+abbrev pub is_rank_finished : UeEnd → Bool
+is_rank_finished ue_end.Finished = true
+is_rank_finished (ue_end.Waits line call) = false
+is_rank_finished (ue_end.Mismatch line from sent asked) = false
 
 -- whether each rank has finished
 abbrev pub all_finished : List Ended → Bool
-all_finished ends = list_all (λ ended. is_finished ended.end) ends
+all_finished ends = list_all (λ ended. is_rank_finished ended.end) ends
 
 -- what a rank left behind
 abbrev pub ended_at : List Ended → ℕ → Ended

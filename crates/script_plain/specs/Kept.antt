@@ -14,8 +14,8 @@ abbrev pub reckoned_at : Script → ℕ → ℕ → Option ℕ
 reckoned_at script rank reg = length_at script.nue (reverse script.items) rank reg
 
 -- no bytes, or as many as this
-abbrev pub Holds : Option ℕ → ℕ → Type 0
-Holds o n = (n ≡ 0) ⊎ (o ≡ Some n)
+abbrev pub HoldsLength : Option ℕ → ℕ → Type 0
+HoldsLength o n = (n ≡ 0) ⊎ (o ≡ Some n)
 
 -- how many bytes the accumulator and the received bytes have behind an act, or none
 abbrev pub folding : (ℕ → Option ℕ) → Option ℕ → Act → Option ℕ
@@ -73,9 +73,9 @@ Keeps had acc got (prim ∷ left) = Sets had acc got prim.act × Keeps had (fold
 pub record Fits (had : ℕ → Option ℕ) (u : Local) : Type 0 where
   pub acc : Option ℕ
   pub got : Option ℕ
-  pub registers : (reg : ℕ) → Holds (had reg) (length (register_at u reg))
-  pub accumulator : Holds acc (length u.accumulator)
-  pub received : Holds got (length u.received)
+  pub registers : (reg : ℕ) → HoldsLength (had reg) (length (register_at u reg))
+  pub accumulator : HoldsLength acc (length u.accumulator)
+  pub received : HoldsLength got (length u.received)
   pub keeps : Keeps had acc got u.left
 
 -- what a rank holds after what stands next has these lengths, and a message has the length of its head

@@ -4,7 +4,7 @@ use Rattle.std.specs.Option.{option_map_or}
 use Rattle.scc_base.specs.Heads.{MessageHead}
 use Rattle.script_plain.specs.declared.matches.Match.{Match}
 use Rattle.script_machine.specs.declared.posts.Posted.{Posted}
-use Rattle.script_machine.specs.Local.{line_of}
+use Rattle.script_machine.specs.Local.{statement_line}
 use Rattle.script_plain.specs.Meaning.{keys_of, next_of, start_of, steps_left}
 use Rattle.script_machine.specs.Next.{Next}
 use Rattle.script_machine.specs.Next.Next.{Ends, Goes, Posts, Sends, Recvs, Bars}
@@ -12,8 +12,8 @@ use Rattle.script_plain.specs.Step.{Configuration, lowest_step, next_at, same_he
 use Rattle.script_reader.specs.Script.{Script}
 
 -- the line of the statement at which rank i stands
-abbrev pub line_at : {U : Type 0} → (U → ℕ) → Configuration U → ℕ → ℕ
-line_at line c i = option_map_or line (slice_get c.cells i) 0
+abbrev pub statement_line_at : {U : Type 0} → (U → ℕ) → Configuration U → ℕ → ℕ
+statement_line_at line c i = option_map_or line (slice_get c.cells i) 0
 
 -- a message that came, with the ranks and lines of its two calls
 abbrev pub match_of : ℕ → ℕ → MessageHead → ℕ → ℕ → Match
@@ -31,19 +31,19 @@ abbrev pub brought_by : {U : Type 0} → (U → ℕ) → Configuration U → ℕ
 brought_by line c i Ends = []
 brought_by line c i (Goes after) = []
 brought_by line c i (Posts message after) = []
-brought_by line c i (Sends to head bytes after) = match_of i to head (line_at line c i) (line_at line c to) ∷ []
-brought_by line c i (Recvs from head take refuse) = brought_by_take i from head (line_at line c i) (slot_at c from)
+brought_by line c i (Sends to head bytes after) = match_of i to head (statement_line_at line c i) (statement_line_at line c to) ∷ []
+brought_by line c i (Recvs from head take refuse) = brought_by_take i from head (statement_line_at line c i) (slot_at c from)
 brought_by line c i (Bars comm after) = []
 
 -- the messages that the step of a rank brings: one, or none
-abbrev pub brought : {U : Type 0} → (U → Next U) → (U → ℕ) → Configuration U → ℕ → List Match
-brought next line c i = brought_by line c i (next_at next c i)
+abbrev pub messages_brought : {U : Type 0} → (U → Next U) → (U → ℕ) → Configuration U → ℕ → List Match
+messages_brought next line c i = brought_by line c i (next_at next c i)
 
 -- what the enabled step with the lowest owner brings, among n ranks from i on
 abbrev pub lowest_brought : {U : Type 0} → (ℕ → ℕ → ℕ) → (U → Next U) → (U → ℕ) → Configuration U → ℕ → ℕ → List Match
 lowest_brought keys next line c zero i = []
 lowest_brought keys next line c (suc n) i =
-    if is_some (step_of keys next c i) then brought next line c i else lowest_brought keys next line c n (i + 1)
+    if is_some (step_of keys next c i) then messages_brought next line c i else lowest_brought keys next line c n (i + 1)
 
 -- what the step with the lowest owner brings
 abbrev pub step_brought : {U : Type 0} → (ℕ → ℕ → ℕ) → (U → Next U) → (U → ℕ) → Configuration U → List Match
@@ -57,4 +57,4 @@ matches_on keys next line (suc n) c =
 
 -- the matches and takes of the plain meaning, in its order
 abbrev pub plain_matches : Script → List Match
-plain_matches script = matches_on (keys_of script) next_of (λ u. line_of u.local) (steps_left (start_of script)) (start_of script)
+plain_matches script = matches_on (keys_of script) next_of (λ u. statement_line u.local) (steps_left (start_of script)) (start_of script)

@@ -7,10 +7,10 @@ use Rattle.scc_base.specs.Calls.DataCall.{Send, Recv, Post, Bar}
 use Rattle.scc_base.specs.Communicators.{key_of}
 use Rattle.script_reader.specs.Script.{Script, rules_of}
 use Rattle.script_plain.specs.Ends.{Ended, ends_of}
-use Rattle.script_machine.specs.Local.{Local, local_start, local_next, cost_of}
+use Rattle.script_machine.specs.Local.{Local, local_start, local_next, most_steps_left}
 use Rattle.script_machine.specs.Next.{Next}
 use Rattle.script_machine.specs.Next.Next.{Ends, Goes, Posts, Sends, Recvs, Bars}
-use Rattle.script_plain.specs.Step.{Configuration, IsStep, lowest_step, run_on}
+use Rattle.script_plain.specs.Step.{Configuration, IsStepOf, lowest_step, run_on}
 
 -- a rank with the calls that it has done so far, in order and with their bytes
 pub record State : Type 0 where
@@ -18,22 +18,22 @@ pub record State : Type 0 where
   pub matched : List DataCall
 
 -- what stands next at a rank, with the call that it makes put behind those done
-abbrev pub recorded : List DataCall → Next Local → Next State
-recorded calls Ends = Ends
-recorded calls (Goes after) = Goes (record { local = after; matched = calls })
-recorded calls (Posts message after) =
+abbrev pub next_with_calls : List DataCall → Next Local → Next State
+next_with_calls calls Ends = Ends
+next_with_calls calls (Goes after) = Goes (record { local = after; matched = calls })
+next_with_calls calls (Posts message after) =
     Posts message (record { local = after; matched = calls ++ Post message.to message.head message.bytes ∷ [] })
-recorded calls (Sends to head bytes after) =
+next_with_calls calls (Sends to head bytes after) =
     Sends to head bytes (record { local = after; matched = calls ++ Send to head bytes ∷ [] })
-recorded calls (Recvs from head take refuse) =
+next_with_calls calls (Recvs from head take refuse) =
     Recvs from head
     (λ bytes. record { local = take bytes; matched = calls ++ Recv from head bytes ∷ [] })
     (λ sent. record { local = refuse sent; matched = calls })
-recorded calls (Bars comm after) = Bars comm (record { local = after; matched = calls ++ Bar comm ∷ [] })
+next_with_calls calls (Bars comm after) = Bars comm (record { local = after; matched = calls ++ Bar comm ∷ [] })
 
 -- what stands next at a rank, with the calls done so far
 abbrev pub next_of : State → Next State
-next_of u = recorded u.matched (local_next u.local)
+next_of u = next_with_calls u.matched (local_next u.local)
 
 -- the key of each rank in each communicator: ranks with equal keys are one group
 abbrev pub keys_of : Script → ℕ → ℕ → ℕ
@@ -53,7 +53,7 @@ start_of script =
 
 -- the most steps that are left: each step uses up a primitive or stops a rank
 abbrev pub steps_left : Configuration State → ℕ
-steps_left c = sum_by (λ u. cost_of u.local) c.cells
+steps_left c = sum_by (λ u. most_steps_left u.local) c.cells
 
 -- the end: from the start the enabled step with the lowest owner is taken, until none is enabled
 abbrev pub plain_end : Script → Configuration State
@@ -69,7 +69,7 @@ seen_of c = record { cells = locals_of c; slots = c.slots }
 
 -- a plain step whose owner is this rank
 abbrev pub IsPlainStep : (ℕ → ℕ → ℕ) → ℕ → Configuration State → Configuration State → Type 0
-IsPlainStep keys = IsStep keys next_of
+IsPlainStep keys = IsStepOf keys next_of
 
 -- what ranks leave behind in a configuration
 abbrev pub ends_at : Configuration Local → List Ended

@@ -10,20 +10,20 @@ use Rattle.script_machine.specs.declared.posts.Posted.{Posted}
 
 -- from a state, before which `last` was posted last, a rank comes with these calls to `v`, before which `end` was posted
 -- last
-pub data Did {U : Type 0} (next : U → Next U) (v : U) (end : Option Posted) : U → Option Posted → List DataCall → Type 0 where
-  Here : Did next v end v end []
-  Own : (u w : U) → (last : Option Posted) → (calls : List DataCall) → next u ≡ Goes w → Did next v end w last calls
-      → Did next v end u last calls
+pub data DidCalls {U : Type 0} (next : U → Next U) (v : U) (end : Option Posted) : U → Option Posted → List DataCall → Type 0 where
+  Here : DidCalls next v end v end []
+  Own : (u w : U) → (last : Option Posted) → (calls : List DataCall) → next u ≡ Goes w → DidCalls next v end w last calls
+      → DidCalls next v end u last calls
   Left : (u w : U) → (last : Option Posted) → (message : Posted) → (calls : List DataCall) → next u ≡ Posts message w
-      → Did next v end w (Some message) calls → Did next v end u last (Post message.to message.head message.bytes ∷ calls)
+      → DidCalls next v end w (Some message) calls → DidCalls next v end u last (Post message.to message.head message.bytes ∷ calls)
   Sent : (u w : U) → (last : Option Posted) → (to : ℕ) → (head : MessageHead) → (bytes : List ℕ) → (calls : List DataCall)
-      → next u ≡ Sends to head bytes w → Did next v end w last calls → Did next v end u last (Send to head bytes ∷ calls)
+      → next u ≡ Sends to head bytes w → DidCalls next v end w last calls → DidCalls next v end u last (Send to head bytes ∷ calls)
   Got : (u : U) → (last : Option Posted) → (from : ℕ) → (head : MessageHead) → (bytes : List ℕ) → (take : List ℕ → U)
       → (refuse : MessageHead → U)
       → (calls : List DataCall) → length bytes ≡ head.len → next u ≡ Recvs from head take refuse
-      → Did next v end (take bytes) last calls → Did next v end u last (Recv from head bytes ∷ calls)
+      → DidCalls next v end (take bytes) last calls → DidCalls next v end u last (Recv from head bytes ∷ calls)
   Met : (u w : U) → (last : Option Posted) → (comm : ℕ) → (calls : List DataCall) → next u ≡ Bars comm w
-      → Did next v end w last calls → Did next v end u last (Bar comm ∷ calls)
+      → DidCalls next v end w last calls → DidCalls next v end u last (Bar comm ∷ calls)
 
 -- the way of a rank from `start`, where it has posted nothing, to a state and the message that it posted last. It grows at
 -- its end, and does not tell the calls

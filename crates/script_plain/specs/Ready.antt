@@ -11,11 +11,11 @@ use Rattle.script_machine.specs.Next.Next.{Ends, Goes, Posts, Sends, Recvs, Bars
 
 -- what stands next is no call, or one that the rank can make: a message with another rank of the run, with a head that a
 -- message may have and as many bytes as it says; a post of one chunk at most; a barrier of a communicator that is there
-abbrev pub IsReady : {U : Type 0} → Script → ℕ → Next U → Type 0
-IsReady script rank Ends = Unit {0}
-IsReady script rank (Goes after) = Unit {0}
-IsReady script rank (Posts message after) =
+abbrev pub CanMakeNext : {U : Type 0} → Script → ℕ → Next U → Type 0
+CanMakeNext script rank Ends = Unit {0}
+CanMakeNext script rank (Goes after) = Unit {0}
+CanMakeNext script rank (Posts message after) =
     IsPeer script.nue rank message.to × IsPostHead message.head × (length message.bytes ≡ message.head.len)
-IsReady script rank (Sends to head bytes after) = IsPeer script.nue rank to × IsHead head × (length bytes ≡ head.len)
-IsReady script rank (Recvs from head take refuse) = IsPeer script.nue rank from × IsHead head
-IsReady script rank (Bars comm after) = (comm < 16) × (rule_of (rules_of script.items) comm ≢ Absent)
+CanMakeNext script rank (Sends to head bytes after) = IsPeer script.nue rank to × IsHead head × (length bytes ≡ head.len)
+CanMakeNext script rank (Recvs from head take refuse) = IsPeer script.nue rank from × IsHead head
+CanMakeNext script rank (Bars comm after) = (comm < 16) × (rule_of (rules_of script.items) comm ≢ Absent)

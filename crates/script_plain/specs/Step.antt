@@ -27,8 +27,8 @@ abbrev pub with_cell : {U : Type 0} → Configuration U → ℕ → U → Config
 with_cell c i after = record c { cells = slice_set c.cells i after }
 
 -- the slot of rank i holds this message, or none
-abbrev pub with_slot : {U : Type 0} → Configuration U → ℕ → Option Posted → Configuration U
-with_slot c i message = record c { slots = slice_set c.slots i message }
+abbrev pub configuration_with_slot : {U : Type 0} → Configuration U → ℕ → Option Posted → Configuration U
+configuration_with_slot c i message = record c { slots = slice_set c.slots i message }
 
 -- two messages have the same kind, communicator and length
 abbrev pub same_head : MessageHead → MessageHead → Bool
@@ -36,7 +36,7 @@ same_head sent asked = (sent.kind == asked.kind) && (sent.comm == asked.comm) &&
 
 -- a post: rank i stands at one, and its slot is empty. The slot holds the message, and i goes on.
 abbrev pub post_step : {U : Type 0} → Configuration U → ℕ → Posted → U → Option Posted → Option (Configuration U)
-post_step c i message after None = Some (with_slot (with_cell c i after) i (Some message))
+post_step c i message after None = Some (configuration_with_slot (with_cell c i after) i (Some message))
 post_step c i message after (Some earlier) = None
 
 -- a match: rank i stands at a send to j, its slot is empty, and j stands at a receive from i that asks for the same
@@ -63,7 +63,7 @@ abbrev pub receive_step : {U : Type 0} → Configuration U → ℕ → ℕ → M
 receive_step c j i asked take refuse (Some message) next =
     if message.to == j
     then (if same_head message.head asked
-    then Some (with_slot (with_cell c j (take message.bytes)) i None)
+    then Some (configuration_with_slot (with_cell c j (take message.bytes)) i None)
     else Some (with_cell c j (refuse message.head)))
     else None
 receive_step c j i asked take refuse None (Sends to sent bytes after) =
@@ -111,8 +111,8 @@ abbrev pub step_of : {U : Type 0} → (ℕ → ℕ → ℕ) → (U → Next U) �
 step_of keys next c i = step_by keys next c i (next_at next c i)
 
 -- a step whose owner is this rank
-abbrev pub IsStep : {U : Type 0} → (ℕ → ℕ → ℕ) → (U → Next U) → ℕ → Configuration U → Configuration U → Type 0
-IsStep keys next owner c d = step_of keys next c owner ≡ Some d
+abbrev pub IsStepOf : {U : Type 0} → (ℕ → ℕ → ℕ) → (U → Next U) → ℕ → Configuration U → Configuration U → Type 0
+IsStepOf keys next owner c d = step_of keys next c owner ≡ Some d
 
 -- the enabled step with the lowest owner among n ranks from i on
 abbrev pub lowest : {U : Type 0} → (ℕ → ℕ → ℕ) → (U → Next U) → Configuration U → ℕ → ℕ → Option (Configuration U)

@@ -1,7 +1,7 @@
 //! The laws of messages and of collective calls.
 
 ghost use Rattle.script_reader.specs.Script.{Script};
-ghost use Rattle.script_reader.specs.Settled.{IsWhole};
+ghost use Rattle.script_reader.specs.Settled.{IsWholeScript};
 ghost use Rattle.script_plain.specs.Collectives.{AllCame, AreBroadcast, AreCountedAlike, AreDone, AreOwnWays, AreReduced, AreReducedToAll, AreToldAll, AreUntouched, OthersGave, OthersGaveToAll, RootCame};
 ghost use Rattle.script_plain.specs.Meaning.{State};
 ghost use Rattle.script_plain.specs.Messages.{AreDelivered, AreReceivedAsSent};
@@ -18,11 +18,11 @@ pub fn messages_arrive_as_sent()
 /// Wherever steps lead from the start, whoever has done the n-th broadcast of a communicator and root holds the bytes that
 /// the root sent then, and the root came to its n-th. The root of a broadcast has no register changed.
 pub fn broadcasts_arrive()
-    ensures law { (script : Script) → IsWhole script.nue script.items → (c : Configuration State) → IsReached script c
+    ensures law { (script : Script) → IsWholeScript script.nue script.items → (c : Configuration State) → IsReached script c
         → AreBroadcast script c }
-    ensures root_came { (script : Script) → IsWhole script.nue script.items → (c : Configuration State) → IsReached script c
+    ensures root_came { (script : Script) → IsWholeScript script.nue script.items → (c : Configuration State) → IsReached script c
         → RootCame script c }
-    ensures untouched { (script : Script) → IsWhole script.nue script.items → AreUntouched script }
+    ensures untouched { (script : Script) → IsWholeScript script.nue script.items → AreUntouched script }
 {}
 
 /// Wherever steps lead from the start, the root of a reduction that has done it holds the fold that starts with its own
@@ -31,19 +31,19 @@ pub fn broadcasts_arrive()
 /// operation and type of member 0. The others came to their n-th: each of them where the root has done it, and where one
 /// of the others has done a reduction to all, member 0 and each of the others.
 pub fn reductions_fold()
-    ensures root { (script : Script) → IsWhole script.nue script.items → (c : Configuration State) → IsReached script c
+    ensures root { (script : Script) → IsWholeScript script.nue script.items → (c : Configuration State) → IsReached script c
         → AreReduced script c }
-    ensures first { (script : Script) → IsWhole script.nue script.items → (c : Configuration State) → IsReached script c
+    ensures first { (script : Script) → IsWholeScript script.nue script.items → (c : Configuration State) → IsReached script c
         → AreReducedToAll script c }
-    ensures others { (script : Script) → IsWhole script.nue script.items → (c : Configuration State) → IsReached script c
+    ensures others { (script : Script) → IsWholeScript script.nue script.items → (c : Configuration State) → IsReached script c
         → AreToldAll script c }
-    ensures others_gave { (script : Script) → IsWhole script.nue script.items → (c : Configuration State) → IsReached script c
+    ensures others_gave { (script : Script) → IsWholeScript script.nue script.items → (c : Configuration State) → IsReached script c
         → OthersGave script c }
-    ensures others_gave_to_all { (script : Script) → IsWhole script.nue script.items → (c : Configuration State) → IsReached script c
+    ensures others_gave_to_all { (script : Script) → IsWholeScript script.nue script.items → (c : Configuration State) → IsReached script c
         → OthersGaveToAll script c }
-    ensures all_came { (script : Script) → IsWhole script.nue script.items → (c : Configuration State) → IsReached script c
+    ensures all_came { (script : Script) → IsWholeScript script.nue script.items → (c : Configuration State) → IsReached script c
         → AllCame script c }
-    ensures untouched { (script : Script) → IsWhole script.nue script.items → AreUntouched script }
+    ensures untouched { (script : Script) → IsWholeScript script.nue script.items → AreUntouched script }
 {}
 
 /// Wherever steps lead from the start, the calls that each rank has done are those that it makes by itself, with the bytes

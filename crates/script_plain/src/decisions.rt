@@ -2,7 +2,7 @@
 
 ghost use Rattle.std.specs.Prelude.{◌≡◌, ◌<◌, None, length, slice_index_or};
 ghost use Rattle.scc_base.specs.Setups.{setup_key};
-ghost use Rattle.script_plain.specs.Code.{IsRun, barrier_decision, call_at, call_decision, decision, fetch_decision, match_decision, post_decision, receive_decision};
+ghost use Rattle.script_plain.specs.Code.{IsSetupOfUes, barrier_decision, call_of_rank, call_decision, decision, fetch_decision, match_decision, post_decision, receive_decision};
 
 use crate::barriers::{all_at_barrier, root_of};
 use crate::posts::Left;
@@ -13,7 +13,7 @@ use scc_base::{Call, Head, Rank, Setup};
 /// The step that a rank owns.
 pub(crate) fn decide(setup: &Setup, ues: &[Ue], slots: &[Option<Left>], rank: Rank) -> Step
     requires rank { rank < setup.now.nue }
-    requires run { IsRun setup.now ues.now slots.now }
+    requires run { IsSetupOfUes setup.now ues.now slots.now }
     ensures { result ≡ decision (setup_key setup.now) ues.now slots.now rank }
 {
     let i = rank.number() as usize;
@@ -33,7 +33,7 @@ fn decide_at(
     call: &Option<Call>,
 ) -> Step
     requires rank { rank < setup.now.nue }
-    requires run { IsRun setup.now ues.now slots.now }
+    requires run { IsSetupOfUes setup.now ues.now slots.now }
     ensures { result ≡ call_decision (setup_key setup.now) ues.now slots.now rank call.now }
 {
     match call {
@@ -57,7 +57,7 @@ fn post_of(slots: &[Option<Left>], rank: Rank) -> Step
 
 /// The step of a rank that stands at a send of this head.
 fn match_of(ues: &[Ue], slots: &[Option<Left>], rank: Rank, to: Rank, head: Head) -> Step
-    ensures { result ≡ match_decision rank to head (slice_index_or slots.now rank None) (call_at ues.now to) }
+    ensures { result ≡ match_decision rank to head (slice_index_or slots.now rank None) (call_of_rank ues.now to) }
 {
     if let Some(Some(_)) = slots.get(rank.number() as usize) {
         return Step::Stays;
@@ -73,7 +73,7 @@ fn match_of(ues: &[Ue], slots: &[Option<Left>], rank: Rank, to: Rank, head: Head
 
 /// The step of a rank that stands at a receive of this head.
 fn receive_of(ues: &[Ue], slots: &[Option<Left>], rank: Rank, from: Rank, asked: Head) -> Step
-    ensures { result ≡ receive_decision rank from asked (slice_index_or slots.now from None) (call_at ues.now from) }
+    ensures { result ≡ receive_decision rank from asked (slice_index_or slots.now from None) (call_of_rank ues.now from) }
 {
     match slots.get(from.number() as usize) {
         Some(Some(message)) => fetch_of(message.to(), message.head(), rank, from, asked),
@@ -98,7 +98,7 @@ fn fetch_of(to: Rank, sent: Head, rank: Rank, from: Rank, asked: Head) -> Step
 
 /// The step of a rank that stands at a receive of this head from a rank that left no message behind.
 fn mismatch_of(ues: &[Ue], rank: Rank, from: Rank, asked: Head) -> Step
-    ensures { result ≡ receive_decision rank from asked None (call_at ues.now from) }
+    ensures { result ≡ receive_decision rank from asked None (call_of_rank ues.now from) }
 {
     match &call_at(ues, from) {
         Some(Call::Send { to, head: sent }) if *to == rank && *sent != asked => {
@@ -125,7 +125,7 @@ fn barrier_of(setup: &Setup, ues: &[Ue], rank: Rank, comm: u8) -> Step
 
 /// The call at which a rank stands.
 pub(crate) fn call_at(ues: &[Ue], rank: Rank) -> Option<Call>
-    ensures { result ≡ call_at ues.now rank }
+    ensures { result ≡ call_of_rank ues.now rank }
 {
     ues.get(rank.number() as usize)?.call()
 }

@@ -45,14 +45,14 @@ impl Model for End {
 
 impl Rest {
     ghost use Rattle.std.specs.Prelude.{◌≡◌, false};
-    ghost use Rattle.script_plain.specs.Ends.{ended};
+    ghost use Rattle.script_plain.specs.Ends.{end_of_rank};
     ghost use Rattle.script_machine.specs.Local.{local_next};
     ghost use Rattle.script_machine.specs.Next.{is_going};
 
     /// What is left of a rank with this message in its slot.
     fn of(alloc: Global, ue: &mut Ue<'_>, slot: &Option<Left>) -> Rest
         requires { is_going (local_next ue.old) ≡ false }
-        ensures { result ≡ ended slot.now ue.old }
+        ensures { result ≡ end_of_rank slot.now ue.old }
     {
         let how = ue.end(slot);
         Rest {

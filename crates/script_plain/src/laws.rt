@@ -5,7 +5,7 @@ ghost use Rattle.scc_base.specs.Runs.{EndsAt, IsStill, NoneBelow, Runs};
 ghost use Rattle.script_reader.specs.Script.{Script};
 ghost use Rattle.script_plain.specs.Barriers.{AreMet};
 ghost use Rattle.script_plain.specs.Meaning.{IsPlainStep, State, keys_of, next_of, plain_end, plain_step, start_of, steps_left};
-ghost use Rattle.script_plain.specs.Paths.{Came, Did};
+ghost use Rattle.script_plain.specs.Paths.{Came, DidCalls};
 ghost use Rattle.script_plain.specs.Reached.{IsReached};
 ghost use Rattle.script_plain.specs.Step.{Configuration};
 ghost use Rattle.script_machine.specs.declared.posts.Posted.{Posted};
@@ -49,5 +49,5 @@ pub fn barriers_meet()
 /// with their bytes.
 pub fn ways_tell_calls()
     ensures law { (start u : State) (last : Option Posted) → start.matched ≡ [] → Came next_of start u last
-        → Did next_of u last start None u.matched }
+        → DidCalls next_of u last start None u.matched }
 {}

@@ -2,10 +2,10 @@
 
 ghost use Rattle.std.specs.Prelude.{◌≡◌, ◌≢◌, ◌<◌, ◌∷◌, ◌++◌, [], None, is_some, length, IfOk, IfSome, OnOk, sum_by};
 ghost use Rattle.scc_base.specs.Setups.{setup_key};
-ghost use Rattle.script_plain.specs.Code.{BringsAt, BringsLowest, IsRun, config, decision};
+ghost use Rattle.script_plain.specs.Code.{BringsAt, BringsLowest, IsSetupOfUes, config, decision};
 ghost use Rattle.script_plain.specs.Facing.{IsStillTo};
-ghost use Rattle.script_machine.specs.Local.{cost_of, local_next, line_of};
-ghost use Rattle.script_plain.specs.Matches.{brought, line_at, matches_on, plain_matches};
+ghost use Rattle.script_machine.specs.Local.{most_steps_left, local_next, statement_line};
+ghost use Rattle.script_plain.specs.Matches.{messages_brought, statement_line_at, matches_on, plain_matches};
 ghost use Rattle.script_plain.specs.Meaning.{ends_at, plain_ends};
 ghost use Rattle.script_plain.specs.Step.{lowest_step, run_on};
 ghost use Rattle.script_plain.specs.declared.steps.Step.TheVariants as variant;
@@ -119,11 +119,11 @@ fn history_of(
     ues: &mut [Ue],
     slots: &mut [Option<Left>],
 ) -> Result<History, AllocError>
-    requires run { IsRun setup.now ues.old slots.old }
+    requires run { IsSetupOfUes setup.now ues.old slots.old }
     ensures matches { IfOk result (λ h. h.matches
-        ≡ matches_on (setup_key setup.now) local_next line_of (sum_by cost_of ues.old) (config ues.old slots.old)) }
+        ≡ matches_on (setup_key setup.now) local_next statement_line (sum_by most_steps_left ues.old) (config ues.old slots.old)) }
     ensures end { IfOk result (λ h. h.end
-        ≡ ends_at (run_on (setup_key setup.now) local_next (sum_by cost_of ues.old) (config ues.old slots.old))) }
+        ≡ ends_at (run_on (setup_key setup.now) local_next (sum_by most_steps_left ues.old) (config ues.old slots.old))) }
 {
     let matches = match_on(alloc, setup, ues, slots)?;
     let end = end_all(alloc, ues, slots)?;
@@ -146,11 +146,11 @@ fn match_on(
     ues: &mut [Ue],
     slots: &mut [Option<Left>],
 ) -> Result<Matches, AllocError>
-    requires run { IsRun setup.now ues.old slots.old }
+    requires run { IsSetupOfUes setup.now ues.old slots.old }
     ensures matches { IfOk result (λ matches. matches
-        ≡ matches_on (setup_key setup.now) local_next line_of (sum_by cost_of ues.old) (config ues.old slots.old)) }
+        ≡ matches_on (setup_key setup.now) local_next statement_line (sum_by most_steps_left ues.old) (config ues.old slots.old)) }
     ensures end { OnOk result (config ues.new slots.new
-        ≡ run_on (setup_key setup.now) local_next (sum_by cost_of ues.old) (config ues.old slots.old)) }
+        ≡ run_on (setup_key setup.now) local_next (sum_by most_steps_left ues.old) (config ues.old slots.old)) }
     ensures still { OnOk result (lowest_step (setup_key setup.now) local_next (config ues.new slots.new) ≡ None) }
 {
     let mut matches = Matches::new(alloc);
@@ -171,7 +171,7 @@ fn step_lowest(
     from: u8,
     matches: &mut Matches,
 ) -> Result<Option<u8>, AllocError>
-    requires run { IsRun setup.now ues.old slots.old }
+    requires run { IsSetupOfUes setup.now ues.old slots.old }
     requires still { IsStillTo (setup_key setup.now) from (config ues.old slots.old) }
     ensures brings { IfOk result (λ next. BringsLowest (setup_key setup.now) (is_some next) (config ues.old slots.old)
         (config ues.new slots.new) matches.old matches.new) }
@@ -197,7 +197,7 @@ fn step_by(
     matches: &mut Matches,
 ) -> Result<bool, AllocError>
     requires rank { rank < setup.now.nue }
-    requires run { IsRun setup.now ues.old slots.old }
+    requires run { IsSetupOfUes setup.now ues.old slots.old }
     ensures { IfOk result
         (λ moved. BringsAt (setup_key setup.now) moved rank (config ues.old slots.old) (config ues.new slots.new) matches.old matches.new) }
 {
@@ -222,7 +222,7 @@ fn note(
 ) -> Result<(), AllocError>
     requires step { step.now ≡ decision (setup_key setup.now) ues.now slots.now rank }
     requires moves { step.now ≢ variant.Stays }
-    ensures { OnOk result (matches.new ≡ matches.old ++ brought local_next line_of (config ues.now slots.now) rank) }
+    ensures { OnOk result (matches.new ≡ matches.old ++ messages_brought local_next statement_line (config ues.now slots.now) rank) }
 {
     match step {
         Step::Matches { to } => matches.push(match_to(setup, ues, slots, rank, *to)),
@@ -235,7 +235,7 @@ fn note(
 /// The message of a rank that stands at a send, which the rank `to` receives.
 fn match_to(setup: &Setup, ues: &[Ue], slots: &[Option<Left>], rank: Rank, to: Rank) -> Match
     requires { decision (setup_key setup.now) ues.now slots.now rank ≡ variant.Matches to }
-    ensures { brought local_next line_of (config ues.now slots.now) rank ≡ result ∷ [] }
+    ensures { messages_brought local_next statement_line (config ues.now slots.now) rank ≡ result ∷ [] }
 {
     match &call_at(ues, rank) {
         Some(Call::Send { head, .. }) => Match {
@@ -252,7 +252,7 @@ fn match_to(setup: &Setup, ues: &[Ue], slots: &[Option<Left>], rank: Rank, to: R
 /// The message in the slot of the rank `from`, which a rank takes that stands at a receive.
 fn take_from(setup: &Setup, ues: &[Ue], slots: &[Option<Left>], rank: Rank, from: Rank) -> Match
     requires { decision (setup_key setup.now) ues.now slots.now rank ≡ variant.Takes from }
-    ensures { brought local_next line_of (config ues.now slots.now) rank ≡ result ∷ [] }
+    ensures { messages_brought local_next statement_line (config ues.now slots.now) rank ≡ result ∷ [] }
 {
     match slots.get(from.number() as usize) {
         Some(Some(message)) => Match {
@@ -268,7 +268,7 @@ fn take_from(setup: &Setup, ues: &[Ue], slots: &[Option<Left>], rank: Rank, from
 
 /// The line of the statement at which a rank stands.
 fn line_at(ues: &[Ue], rank: Rank) -> u32
-    ensures { result ≡ line_at line_of (config ues.now []) rank }
+    ensures { result ≡ statement_line_at statement_line (config ues.now []) rank }
 {
     match ues.get(rank.number() as usize) {
         Some(ue) => ue.line(),

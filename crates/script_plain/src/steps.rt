@@ -4,9 +4,9 @@ ghost use Rattle.std.specs.Prelude.{◌≡◌, ◌≢◌, ◌<◌, None, Some, t
 ghost use Rattle.scc_base.specs.Setups.{setup_key};
 ghost use Rattle.script_plain.specs.Barriers.{AreMet};
 ghost use Rattle.script_plain.specs.Collectives.{CollectivesHold};
-ghost use Rattle.script_plain.specs.Code.{GoesOn, IsRun, StepsAt, Sweeps, config, decision};
+ghost use Rattle.script_plain.specs.Code.{GoesOn, IsSetupOfUes, StepsAt, Sweeps, config, decision};
 ghost use Rattle.script_reader.specs.Script.{rules_of};
-ghost use Rattle.script_machine.specs.Local.{cost_of, local_next};
+ghost use Rattle.script_machine.specs.Local.{most_steps_left, local_next};
 ghost use Rattle.script_plain.specs.Meaning.{keys_of, locals_of, plain_end, plain_ends, plain_step, start_of};
 ghost use Rattle.script_plain.specs.Meaning.{ends_at};
 ghost use Rattle.script_plain.specs.Step.{lowest_step, run_on};
@@ -75,9 +75,9 @@ fn run_to_end(
     ues: &mut [Ue],
     slots: &mut [Option<Left>],
 ) -> Result<End, AllocError>
-    requires run { IsRun setup.now ues.old slots.old }
+    requires run { IsSetupOfUes setup.now ues.old slots.old }
     ensures { IfOk result (λ end. end
-        ≡ ends_at (run_on (setup_key setup.now) local_next (sum_by cost_of ues.old) (config ues.old slots.old))) }
+        ≡ ends_at (run_on (setup_key setup.now) local_next (sum_by most_steps_left ues.old) (config ues.old slots.old))) }
 {
     run_on(alloc, setup, ues, slots)?;
     let end = end_all(alloc, ues, slots)?;
@@ -99,7 +99,7 @@ pub(crate) fn begin<'s>(
 ) -> Result<Ranks<'s>, AllocError>
     requires ranks { setup.now.nue ≡ scripts.now.nue }
     requires communicators { setup.now.comms ≡ rules_of scripts.now.items }
-    ensures run { IfOk result (λ r. IsRun setup.now r.ues.items r.slots.items) }
+    ensures run { IfOk result (λ r. IsSetupOfUes setup.now r.ues.items r.slots.items) }
     ensures cells { IfOk result (λ r. r.ues.items ≡ locals_of (start_of scripts.now)) }
     ensures slots { IfOk result (λ r. r.slots.items ≡ replicate scripts.now.nue None) }
 {
@@ -143,9 +143,9 @@ fn run_on(
     ues: &mut [Ue],
     slots: &mut [Option<Left>],
 ) -> Result<(), AllocError>
-    requires run { IsRun setup.now ues.old slots.old }
+    requires run { IsSetupOfUes setup.now ues.old slots.old }
     ensures end { OnOk result (config ues.new slots.new
-        ≡ run_on (setup_key setup.now) local_next (sum_by cost_of ues.old) (config ues.old slots.old)) }
+        ≡ run_on (setup_key setup.now) local_next (sum_by most_steps_left ues.old) (config ues.old slots.old)) }
     ensures still { OnOk result (lowest_step (setup_key setup.now) local_next (config ues.new slots.new) ≡ None) }
 {
     while sweep(alloc, setup, ues, slots)? {}
@@ -159,7 +159,7 @@ fn sweep(
     ues: &mut [Ue],
     slots: &mut [Option<Left>],
 ) -> Result<bool, AllocError>
-    requires run { IsRun setup.now ues.old slots.old }
+    requires run { IsSetupOfUes setup.now ues.old slots.old }
     ensures { IfOk result
         (λ moved. Sweeps (setup_key setup.now) moved setup.now.nue (config ues.old slots.old) (config ues.new slots.new)) }
 {
@@ -181,7 +181,7 @@ fn go_on(
     rank: Rank,
 ) -> Result<bool, AllocError>
     requires rank { rank < setup.now.nue }
-    requires run { IsRun setup.now ues.old slots.old }
+    requires run { IsSetupOfUes setup.now ues.old slots.old }
     ensures { IfOk result (λ moved. GoesOn (setup_key setup.now) moved rank (config ues.old slots.old) (config ues.new slots.new)) }
 {
     let mut moved = false;
@@ -200,7 +200,7 @@ pub(crate) fn step_at(
     rank: Rank,
 ) -> Result<bool, AllocError>
     requires rank { rank < setup.now.nue }
-    requires run { IsRun setup.now ues.old slots.old }
+    requires run { IsSetupOfUes setup.now ues.old slots.old }
     ensures { IfOk result (λ moved. StepsAt (setup_key setup.now) moved rank (config ues.old slots.old) (config ues.new slots.new)) }
 {
     match decide(setup, ues, slots, rank) {
@@ -222,7 +222,7 @@ pub(crate) fn take_step(
     step: Step,
 ) -> Result<(), AllocError>
     requires rank { rank < setup.now.nue }
-    requires run { IsRun setup.now ues.old slots.old }
+    requires run { IsSetupOfUes setup.now ues.old slots.old }
     requires step { step ≡ decision (setup_key setup.now) ues.old slots.old rank }
     requires moves { step ≢ variant.Stays }
     ensures { OnOk result (StepsAt (setup_key setup.now) true rank (config ues.old slots.old) (config ues.new slots.new)) }

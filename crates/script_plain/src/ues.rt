@@ -27,12 +27,12 @@ impl<'s> Model for Ue<'s> {
 
 impl<'s> Ue<'s> {
     ghost use Rattle.std.specs.Prelude.{◌≡◌, ◌<◌, false, length, IfOk, IsTrue};
-    ghost use Rattle.script_machine.specs.Local.{end_of, local_next, local_start, line_of};
-    ghost use Rattle.script_machine.specs.Next.{facing_of, call_of, is_at_barrier, is_going, past_barrier};
+    ghost use Rattle.script_machine.specs.Local.{end_of, local_next, local_start, statement_line};
+    ghost use Rattle.script_machine.specs.Next.{facing_of, call_next, is_at_barrier, is_going, past_barrier};
     ghost use Rattle.script_machine.specs.Next.Next.{Goes};
     ghost use Rattle.script_reader.specs.Script.{rules_of};
     ghost use Rattle.script_plain.specs.Code.{HasLength, HasPosted, HasRefused, HasSent, HasTaken, IsAtPost, IsAtReceive, IsAtSend};
-    ghost use Rattle.script_machine.specs.Moves.{length_in};
+    ghost use Rattle.script_machine.specs.Moves.{length_asked};
 
     /// A rank before its first statement.
     pub fn new(
@@ -60,7 +60,7 @@ impl<'s> Ue<'s> {
 
     /// The call at which the rank stands.
     pub fn call(&self) -> Option<Call>
-        ensures { result ≡ call_of (local_next self.now) }
+        ensures { result ≡ call_next (local_next self.now) }
     {
         self.machine.call()
     }
@@ -74,7 +74,7 @@ impl<'s> Ue<'s> {
 
     /// The line of the statement at which the rank stands.
     pub fn line(&self) -> u32
-        ensures { result ≡ line_of self.now }
+        ensures { result ≡ statement_line self.now }
     {
         self.machine.stands_at()
     }
@@ -137,7 +137,7 @@ impl<'s> Ue<'s> {
     /// Goes past the receive at which the rank stands, with the message's bytes.
     pub fn receive(&mut self, bytes: &Register)
         requires at_receive { IsAtReceive (local_next self.old) }
-        requires long { length bytes.now ≡ length_in (local_next self.old) }
+        requires long { length bytes.now ≡ length_asked (local_next self.old) }
         ensures { HasTaken (local_next self.old) bytes.now self.new }
     {
         self.machine.receive(bytes.as_slice());

@@ -26,11 +26,11 @@ use Rattle.script_reader.specs.declared.script.Stmt.{Stmt}
 use Rattle.script_reader.specs.declared.script.Stmt.TheVariants as stmt
 use Rattle.script_reader.specs.declared.tally.Setting.{Setting}
 use Rattle.script_reader.specs.Acceptance.{ForEachRun, IsFitting, IsPostable, IsReadable, IsWholeOf, groups_of, length_before, length_of}
-use Rattle.script_reader.specs.Checks.{cost_of, counts_at, differs, is_absent, is_at, is_misshapen, is_ragged, is_too_deep, is_unset, length_at, length_given, open_of, opened, operations, posts_too_much, printed, prints, prints_too_much, resizes, run_of, set_by, set_if, sets_to, turns_in}
+use Rattle.script_reader.specs.Checks.{cost_of, counts_at, differs, is_absent, is_at_place, is_misshapen, is_ragged, is_too_deep, is_unset, length_at, length_given, open_of, repeats_after, operations, posts_too_much, bytes_printed, prints, prints_too_much, resizes, run_of, set_by, set_if, sets_to, turns_in}
 use Rattle.script_reader.specs.Effects.{IsSizedBy, comm_needed, effect_of}
 use Rattle.script_reader.specs.Limits.{most_open, most_operations, most_printed}
 use Rattle.script_reader.specs.Script.{Script, has_rank, rules_of}
-use Rattle.script_reader.specs.Settled.{AreInLine, ArePassed, IsInLine, IsWhole, run_with}
+use Rattle.script_reader.specs.Settled.{AreInLine, ArePassed, IsInLine, IsWholeScript, run_with}
 use Rattle.script_reader.proofs.CheckLemmas.{false-left, false-right}
 use Rattle.script_reader.proofs.SettledLemmas.{Extends, and-false, key-same, present-low, same-more}
 
@@ -101,7 +101,7 @@ both false b h k = h
 
 -- the root of a call is its root before any statement that needs its communicator
 at-root : (nue : ℕ) (past : List Item) (comms : List CommRule) (comm rank root : ℕ) → Extends (rules_of (reverse past)) comms → (rule_of (rules_of (reverse past)) comm ≡ rule.Absent → ⊥)
-    → place_of (run_with nue comms) comm rank ≡ root → is_at (run_of nue past) comm rank root ≡ true
+    → place_of (run_with nue comms) comm rank ≡ root → is_at_place (run_of nue past) comm rank root ≡ true
 at-root nue past comms comm rank root e there is =
     both (not (is_absent (rule_of (rules_of (reverse past)) comm))) (eqb (place_in (key_of (rules_of (reverse past)) comm) rank) root)
     (known-is (rule_of (rules_of (reverse past)) comm) there)
@@ -126,7 +126,7 @@ readable (stmt.Send peer reg) nue past comms rank e there set = some-is (length_
 readable (stmt.Post peer reg) nue past comms rank e there set = some-is (length_at nue past rank reg) set
 readable (stmt.Own (own.Print reg form)) nue past comms rank e there set = some-is (length_at nue past rank reg) set
 readable (stmt.Bcast comm root reg len) nue past comms rank e there set = λ is.
-    some-is (length_at nue past rank reg) (and-false (is_at (run_of nue past) comm rank root) (is_none (length_at nue past rank reg)) (at-root nue past comms comm rank root e there is) set)
+    some-is (length_at nue past rank reg) (and-false (is_at_place (run_of nue past) comm rank root) (is_none (length_at nue past rank reg)) (at-root nue past comms comm rank root e there is) set)
 readable (stmt.Reduce comm root op ty dst src) nue past comms rank e there set = some-is (length_at nue past rank src) set
 readable (stmt.Allreduce comm op ty dst src) nue past comms rank e there set = some-is (length_at nue past rank src) set
 readable _ nue past comms rank e there set = tt
@@ -201,12 +201,12 @@ fitting (stmt.Own (own.Print reg (form.Decimal ty))) nue past comms rank after e
     record { given = tt; needed = whole-of ty (had reg) (after reg) size is (stays reg size (or_some (had reg) None size is)) shaped }
 fitting (stmt.Own (own.Print reg form.Hex)) nue past comms rank after e there set shaped stays = record { given = tt; needed = tt }
 fitting (stmt.Bcast comm root reg len) nue past comms rank after e there set shaped stays =
-    let is = stays reg len (bcast-once (is_at (run_of nue past) comm rank root) (length_at nue past rank) reg len shaped set) in
+    let is = stays reg len (bcast-once (is_at_place (run_of nue past) comm rank root) (length_at nue past rank) reg len shaped set) in
     record { given = λ other. is; needed = λ here. is }
 fitting (stmt.Reduce comm root op ty dst src) nue past comms rank after e there set shaped stays =
     let had = length_at nue past rank in
     let size = unwrap_or (had src) 0 in
-    let at = is_at (run_of nue past) comm rank root in
+    let at = is_at_place (run_of nue past) comm rank root in
     let from = some-value (had src) set in
     let from-after = stays src size (or_some (had src) (sets_to (cond at (setting dst size) None) src) size from) in
     record {
@@ -252,7 +252,7 @@ record IsPlaced (script : Script) (past : List Item) (item : Item) : Type 0 wher
   line : IsInLine script.nue past item
   extends : Extends (rules_of (reverse past)) (rules_of script.items)
 
-placed : (script : Script) (place : ℕ) (item : Item) → IsWhole script.nue script.items → slice_get script.items place ≡ Some item → IsPlaced script (reverse (take place script.items)) item
+placed : (script : Script) (place : ℕ) (item : Item) → IsWholeScript script.nue script.items → slice_get script.items place ≡ Some item → IsPlaced script (reverse (take place script.items)) item
 placed script place item whole found =
     let split = around script.items place item found in
     let past = reverse (take place script.items) in
@@ -272,23 +272,23 @@ length-stays : (script : Script) (past : List Item) (item : Item) (rank reg len 
 length-stays script past item rank reg len p is =
     subst (λ (list : List Item). length_at script.nue list rank reg ≡ Some len) (sym p.is) (length-longer script.nue p.front (item ∷ past) rank reg len is)
 
-pub set-law : (script : Script) → IsWhole script.nue script.items → ForEachRun script (λ place effect rank. IsReadable (groups_of script) (length_before script place rank) effect rank)
+pub set-law : (script : Script) → IsWholeScript script.nue script.items → ForEachRun script (λ place effect rank. IsReadable (groups_of script) (length_before script place rank) effect rank)
 set-law script whole place item found rank below has =
     let p = placed script place item whole found in
     readable item.stmt script.nue (reverse (take place script.items)) (rules_of script.items) rank p.extends (p.line.present rank below has) (p.passed.1 kind.Unset rank below has)
 
-pub fitting-law : (script : Script) → IsWhole script.nue script.items → ForEachRun script (λ place effect rank. IsFitting (groups_of script) (length_of script rank) effect rank)
+pub fitting-law : (script : Script) → IsWholeScript script.nue script.items → ForEachRun script (λ place effect rank. IsFitting (groups_of script) (length_of script rank) effect rank)
 fitting-law script whole place item found rank below has =
     let p = placed script place item whole found in
     let past = reverse (take place script.items) in
     fitting item.stmt script.nue past (rules_of script.items) rank (length_of script rank) p.extends (p.line.present rank below has) (p.passed.1 kind.Unset rank below has) (p.passed.1 kind.Shape rank below has)
     (λ reg len is. length-stays script past item rank reg len p (length-new script.nue past item rank reg has ∙ is))
 
-pub postable-law : (script : Script) → IsWhole script.nue script.items → ForEachRun script (λ place effect rank. IsPostable (length_of script rank) effect)
+pub postable-law : (script : Script) → IsWholeScript script.nue script.items → ForEachRun script (λ place effect rank. IsPostable (length_of script rank) effect)
 postable-law script whole place item found rank below has =
     let p = placed script place item whole found in
     let past = reverse (take place script.items) in
-    postable item.stmt script.nue past rank (length_of script rank) (p.passed.1 kind.Unset rank below has) (false-left (posts_too_much (length_at script.nue past rank) (effect_of item.stmt)) (prints_too_much (length_at script.nue past rank) (printed script.nue past rank) (turns_in (open_of past)) (effect_of item.stmt)) (p.passed.1 kind.TooLong rank below has))
+    postable item.stmt script.nue past rank (length_of script rank) (p.passed.1 kind.Unset rank below has) (false-left (posts_too_much (length_at script.nue past rank) (effect_of item.stmt)) (prints_too_much (length_at script.nue past rank) (bytes_printed script.nue past rank) (turns_in (open_of past)) (effect_of item.stmt)) (p.passed.1 kind.TooLong rank below has))
     (λ reg len is. length-stays script past item rank reg len p (length-longer script.nue (item ∷ []) past rank reg len is))
 
 pub stays-law : (script : Script) (place rank reg len : ℕ) → length_before script place rank reg ≡ Some len → length_of script rank reg ≡ Some len
@@ -339,7 +339,7 @@ length-short nue (item ∷ past) rank lines reg len is =
     or-short (had reg) (cond (has_rank item.who rank) (sets_to (set_by (run_of nue past) had e rank) reg) None) len (before reg len)
     (run-short (has_rank item.who rank) (set_by (run_of nue past) had e rank) reg len (set-short e.sets had (λ target. counts_at (run_of nue past) e rank target.at) lines.1.sized before)) is
 
-pub short-law : (script : Script) → IsWhole script.nue script.items → (rank reg len : ℕ) → length_of script rank reg ≡ Some len → len ≤ 65536
+pub short-law : (script : Script) → IsWholeScript script.nue script.items → (rank reg len : ℕ) → length_of script rank reg ≡ Some len → len ≤ 65536
 short-law script whole rank reg len is = length-short script.nue (reverse script.items) rank whole.in_line reg len is
 
 -- sums that no statement takes past their limit
@@ -353,20 +353,20 @@ operations-within nue (item ∷ past) rank below all =
     sum-within (has_rank item.who rank) (operations nue past rank) (turns_in (open_of past) * cost_of (run_of nue past) (effect_of item.stmt).cost rank) most_operations
     (λ has. all.1 kind.TooManyOps rank below has) (operations-within nue past rank below all.0)
 
-printed-within : (nue : ℕ) (past : List Item) (rank : ℕ) → rank < nue → ArePassed nue past → printed nue past rank ≤ most_printed
+printed-within : (nue : ℕ) (past : List Item) (rank : ℕ) → rank < nue → ArePassed nue past → bytes_printed nue past rank ≤ most_printed
 printed-within nue [] rank below all = omega arith
 printed-within nue (item ∷ past) rank below all =
-    sum-within (has_rank item.who rank) (printed nue past rank) (turns_in (open_of past) * prints (length_at nue past rank) (effect_of item.stmt)) most_printed
-    (λ has. false-right (posts_too_much (length_at nue past rank) (effect_of item.stmt)) (prints_too_much (length_at nue past rank) (printed nue past rank) (turns_in (open_of past)) (effect_of item.stmt)) (all.1 kind.TooLong rank below has)) (printed-within nue past rank below all.0)
+    sum-within (has_rank item.who rank) (bytes_printed nue past rank) (turns_in (open_of past) * prints (length_at nue past rank) (effect_of item.stmt)) most_printed
+    (λ has. false-right (posts_too_much (length_at nue past rank) (effect_of item.stmt)) (prints_too_much (length_at nue past rank) (bytes_printed nue past rank) (turns_in (open_of past)) (effect_of item.stmt)) (all.1 kind.TooLong rank below has)) (printed-within nue past rank below all.0)
 
-pub worked-law : (script : Script) → IsWhole script.nue script.items → (rank : ℕ) → rank < script.nue → operations script.nue (reverse script.items) rank ≤ most_operations
+pub worked-law : (script : Script) → IsWholeScript script.nue script.items → (rank : ℕ) → rank < script.nue → operations script.nue (reverse script.items) rank ≤ most_operations
 worked-law script whole rank below = operations-within script.nue (reverse script.items) rank below whole.passed
 
-pub printed-law : (script : Script) → IsWhole script.nue script.items → (rank : ℕ) → rank < script.nue → printed script.nue (reverse script.items) rank ≤ most_printed
+pub printed-law : (script : Script) → IsWholeScript script.nue script.items → (rank : ℕ) → rank < script.nue → bytes_printed script.nue (reverse script.items) rank ≤ most_printed
 printed-law script whole rank below = printed-within script.nue (reverse script.items) rank below whole.passed
 
 -- the open repeats
-opened-few : (n : Nesting) (place : ℕ) (repeats : List Open) → is_too_deep repeats n ≡ false → length repeats ≤ most_open → length (opened n place repeats) ≤ most_open
+opened-few : (n : Nesting) (place : ℕ) (repeats : List Open) → is_too_deep repeats n ≡ false → length repeats ≤ most_open → length (repeats_after n place repeats) ≤ most_open
 opened-few (nesting.Opens times) place repeats flat few = omega (arith, ltb-false (most_open - 1) (length repeats) flat, length-append repeats ((record { start = place; turns = turns_in repeats * times }) ∷ []))
 opened-few (nesting.Closes start) place repeats flat few = omega (arith, length-take (length repeats - 1) repeats)
 opened-few nesting.Stays place repeats flat few = few
@@ -375,7 +375,7 @@ open-few : (nue : ℕ) (past : List Item) → AreInLine nue past → length (ope
 open-few nue [] lines = omega arith
 open-few nue (item ∷ past) lines = opened-few (effect_of item.stmt).nesting (length past) (open_of past) lines.1.flat (open-few nue past lines.0)
 
-pub shallow-law : (script : Script) → IsWhole script.nue script.items → (place : ℕ) → length (open_of (reverse (take place script.items))) ≤ most_open
+pub shallow-law : (script : Script) → IsWholeScript script.nue script.items → (place : ℕ) → length (open_of (reverse (take place script.items))) ≤ most_open
 shallow-law script whole place =
     open-few script.nue (reverse (take place script.items))
     (line-back script.nue (reverse (drop place script.items)) (reverse (take place script.items)) (subst (λ (list : List Item). AreInLine script.nue list) (front-of script.items place) whole.in_line))

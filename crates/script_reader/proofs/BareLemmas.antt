@@ -16,8 +16,8 @@ use Rattle.script_reader.specs.declared.repeats.Open.{Open}
 use Rattle.script_reader.specs.declared.script.Item.{Item}
 use Rattle.script_reader.specs.declared.script.Stmt.{Stmt}
 use Rattle.script_reader.specs.declared.script.Stmt.TheVariants as stmt
-use Rattle.script_reader.specs.Checks.{cost_of, has_no_root, has_split, is_misshapen, is_not_split, is_overworked, is_too_deep, is_unset, length_at, open_of, opened, operations, posts_too_much, printed, prints, prints_too_much, refuses, run_of, set_by, sets_to, turns_in}
-use Rattle.script_reader.specs.Closed.{AreMatched, AreWithin, Closes, HasPass, HavePasses, latest_section}
+use Rattle.script_reader.specs.Checks.{cost_of, has_no_root, has_split, is_misshapen, is_not_split, is_overworked, is_too_deep, is_unset, length_at, open_of, repeats_after, operations, posts_too_much, bytes_printed, prints, prints_too_much, refuses, run_of, set_by, sets_to, turns_in}
+use Rattle.script_reader.specs.Closed.{AreMatched, StayInSection, Closes, HasPass, HavePasses, latest_section}
 use Rattle.script_reader.specs.Ends.{with_ends}
 use Rattle.scc_base.specs.Communicators.{AreRules, rule_of}
 use Rattle.script_reader.specs.Effects.{IsSizedBy, comm_needed, effect_of, is_split_of, split_rule}
@@ -89,9 +89,9 @@ run-bared nue past =
 open-bared : (past : List Item) → open_of (all_bared past) ≡ open_of past
 open-bared [] = refl
 open-bared (item ∷ past) =
-    ap (λ (e : Effect). opened e.nesting (length (all_bared past)) (open_of (all_bared past))) (effect-bare item.stmt)
-    ∙ ap (λ (n : ℕ). opened (effect_of item.stmt).nesting n (open_of (all_bared past))) (length-map past bared)
-    ∙ ap (opened (effect_of item.stmt).nesting (length past)) (open-bared past)
+    ap (λ (e : Effect). repeats_after e.nesting (length (all_bared past)) (open_of (all_bared past))) (effect-bare item.stmt)
+    ∙ ap (λ (n : ℕ). repeats_after (effect_of item.stmt).nesting n (open_of (all_bared past))) (length-map past bared)
+    ∙ ap (repeats_after (effect_of item.stmt).nesting (length past)) (open-bared past)
 
 split-bared : (past : List Item) (rank comm : ℕ) → has_split (all_bared past) rank comm ≡ has_split past rank comm
 split-bared [] rank comm = refl
@@ -123,12 +123,12 @@ operations-bared nue (item ∷ past) rank =
     ∙ ap (λ (repeats : List Open). done_behind item rank (operations nue (all_bared past) rank) repeats (cost_of (run_of nue past) (effect_of item.stmt).cost rank)) (open-bared past)
     ∙ ap (λ (done : ℕ). done_behind item rank done (open_of past) (cost_of (run_of nue past) (effect_of item.stmt).cost rank)) (operations-bared nue past rank)
 
-printed-bared : (nue : ℕ) (past : List Item) (rank : ℕ) → printed nue (all_bared past) rank ≡ printed nue past rank
+printed-bared : (nue : ℕ) (past : List Item) (rank : ℕ) → bytes_printed nue (all_bared past) rank ≡ bytes_printed nue past rank
 printed-bared nue [] rank = refl
 printed-bared nue (item ∷ past) rank =
-    ap (done_behind item rank (printed nue (all_bared past) rank) (open_of (all_bared past)))
+    ap (done_behind item rank (bytes_printed nue (all_bared past) rank) (open_of (all_bared past)))
     (ap (prints (length_at nue (all_bared past) rank)) (effect-bare item.stmt) ∙ ap (λ (had : ℕ → Option ℕ). prints had (effect_of item.stmt)) (lengths-bared nue past rank))
-    ∙ ap (λ (repeats : List Open). done_behind item rank (printed nue (all_bared past) rank) repeats (prints (length_at nue past rank) (effect_of item.stmt))) (open-bared past)
+    ∙ ap (λ (repeats : List Open). done_behind item rank (bytes_printed nue (all_bared past) rank) repeats (prints (length_at nue past rank) (effect_of item.stmt))) (open-bared past)
     ∙ ap (λ (done : ℕ). done_behind item rank done (open_of past) (prints (length_at nue past rank) (effect_of item.stmt))) (printed-bared nue past rank)
 
 abbrev too_long : Effect → ℕ → List Open → (ℕ → Option ℕ) → Bool
@@ -149,8 +149,8 @@ refuses-past kind.TooManyOps nue past e rank =
     ∙ ap (λ (done : ℕ). is_overworked (run_of nue past) done (turns_in (open_of (all_bared past))) e.cost rank) (operations-bared nue past rank)
     ∙ ap (λ (repeats : List Open). is_overworked (run_of nue past) (operations nue past rank) (turns_in repeats) e.cost rank) (open-bared past)
 refuses-past kind.TooLong nue past e rank =
-    ap (too_long e (printed nue (all_bared past) rank) (open_of (all_bared past))) (lengths-bared nue past rank)
-    ∙ ap (λ (repeats : List Open). too_long e (printed nue (all_bared past) rank) repeats (length_at nue past rank)) (open-bared past)
+    ap (too_long e (bytes_printed nue (all_bared past) rank) (open_of (all_bared past))) (lengths-bared nue past rank)
+    ∙ ap (λ (repeats : List Open). too_long e (bytes_printed nue (all_bared past) rank) repeats (length_at nue past rank)) (open-bared past)
     ∙ ap (λ (done : ℕ). too_long e done (open_of past) (length_at nue past rank)) (printed-bared nue past rank)
 refuses-past _ nue past e rank = refl
 
@@ -259,16 +259,16 @@ latest-bared : (past : List Item) → latest_section (all_bared past) ≡ latest
 latest-bared [] = refl
 latest-bared (item ∷ past) = refl
 
-within-bare : (past : List Item) → AreWithin past → AreWithin (all_bared past)
+within-bare : (past : List Item) → StayInSection past → StayInSection (all_bared past)
 within-bare [] all = tt
 within-bare (item ∷ past) all = (within-bare past all.0, λ some. latest-bared past ∙ all.1 (subst (λ (repeats : List Open). 1 ≤ length repeats) (open-bared past) some))
 
-within-whole : (past : List Item) → AreWithin (all_bared past) → AreWithin past
+within-whole : (past : List Item) → StayInSection (all_bared past) → StayInSection past
 within-whole [] all = tt
 within-whole (item ∷ past) all = (within-whole past all.0, λ some. sym (latest-bared past) ∙ all.1 (subst (λ (repeats : List Open). 1 ≤ length repeats) (sym (open-bared past)) some))
 
-pub within-with_ends : (n : ℕ) (items : List Item) → AreWithin (reverse items) → AreWithin (reverse (with_ends n items))
-within-with_ends n items all = within-whole (reverse (with_ends n items)) (subst (λ (past : List Item). AreWithin past) (bared-reverse-ends n items) (within-bare (reverse items) all))
+pub within-with_ends : (n : ℕ) (items : List Item) → StayInSection (reverse items) → StayInSection (reverse (with_ends n items))
+within-with_ends n items all = within-whole (reverse (with_ends n items)) (subst (λ (past : List Item). StayInSection past) (bared-reverse-ends n items) (within-bare (reverse items) all))
 
 once-bare : (past : List Item) → HavePasses past → HavePasses (all_bared past)
 once-bare [] all = tt

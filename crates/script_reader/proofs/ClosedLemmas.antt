@@ -11,10 +11,10 @@ use Rattle.script_reader.specs.declared.repeats.Open.{Open}
 use Rattle.script_reader.specs.declared.script.Item.{Item}
 use Rattle.script_reader.specs.declared.script.Stmt.{Stmt}
 use Rattle.script_reader.specs.declared.script.Stmt.TheVariants as stmt
-use Rattle.script_reader.specs.Checks.{innermost, open_of, opened, turns_in}
-use Rattle.script_reader.specs.Closed.{AreMatched, AreWithin, Closes, HavePasses, IsClosed, stmt_at}
+use Rattle.script_reader.specs.Checks.{innermost, open_of, repeats_after, turns_in}
+use Rattle.script_reader.specs.Closed.{AreMatched, StayInSection, Closes, HavePasses, IsClosed, stmt_at}
 use Rattle.script_reader.specs.Effects.{effect_of}
-use Rattle.script_reader.specs.Ends.{ended, told, told_at, with_end, with_ends}
+use Rattle.script_reader.specs.Ends.{with_end_at, with_end_told, told_at, with_end, with_ends}
 use Rattle.script_reader.proofs.BareLemmas.{all_bared, bare, bared, bared-with_ends, matched-with_ends, once-with_ends, open-with_ends, within-with_ends}
 use Rattle.script_reader.proofs.EndLemmas.{length-with_ends}
 
@@ -104,20 +104,20 @@ other_repeat items list place s times end same other here is =
     other.no_repeat times 0 (sym other.same ∙ alike)
 
 -- what an end tells, and that no other statement tells anything
-none_in : (items : List Item) (place : ℕ) (o : Option Item) → ((start : ℕ) → option_map (λ item. item.stmt) o ≡ Some (stmt.End start) → ⊥) → option_map_or (λ item. told items place (effect_of item.stmt).nesting) o items ≡ items
+none_in : (items : List Item) (place : ℕ) (o : Option Item) → ((start : ℕ) → option_map (λ item. item.stmt) o ≡ Some (stmt.End start) → ⊥) → option_map_or (λ item. with_end_told items place (effect_of item.stmt).nesting) o items ≡ items
 none_in items place None none = refl
 none_in items place (Some item) none =
-    sorted (λ s. ((start : ℕ) → Some s ≡ Some (stmt.End start) → ⊥) → told items place (effect_of s).nesting ≡ items)
-    (λ times end no. refl) (λ start no. absurd (no start refl)) (λ s other no. ap (told items place) other.stays) item.stmt none
+    sorted (λ s. ((start : ℕ) → Some s ≡ Some (stmt.End start) → ⊥) → with_end_told items place (effect_of s).nesting ≡ items)
+    (λ times end no. refl) (λ start no. absurd (no start refl)) (λ s other no. ap (with_end_told items place) other.stays) item.stmt none
 
 tells_none : (items : List Item) (place : ℕ) → ((start : ℕ) → stmt_at items place ≡ Some (stmt.End start) → ⊥) → told_at items place ≡ items
 tells_none items place none = none_in items place (slice_get items place) none
 
-tells_in : (items : List Item) (place start : ℕ) (o : Option Item) → option_map (λ item. item.stmt) o ≡ Some (stmt.End start) → option_map_or (λ item. told items place (effect_of item.stmt).nesting) o items ≡ ended items start place
+tells_in : (items : List Item) (place start : ℕ) (o : Option Item) → option_map (λ item. item.stmt) o ≡ Some (stmt.End start) → option_map_or (λ item. with_end_told items place (effect_of item.stmt).nesting) o items ≡ with_end_at items start place
 tells_in items place start None is = absurd cc
-tells_in items place start (Some item) is = let same : item.stmt ≡ stmt.End start = cc in ap (λ (s : Stmt). told items place (effect_of s).nesting) same
+tells_in items place start (Some item) is = let same : item.stmt ≡ stmt.End start = cc in ap (λ (s : Stmt). with_end_told items place (effect_of s).nesting) same
 
-tells_end : (items : List Item) (place start : ℕ) → stmt_at items place ≡ Some (stmt.End start) → told_at items place ≡ ended items start place
+tells_end : (items : List Item) (place start : ℕ) → stmt_at items place ≡ Some (stmt.End start) → told_at items place ≡ with_end_at items start place
 tells_end items place start is = tells_in items place start (slice_get items place) is
 
 -- a repeat behind an end: the one that was told, or another one as it was
@@ -220,24 +220,24 @@ abbrev AreTold : List Item → ℕ → List Open → List Item → Type 0
 AreTold items n repeats list = (place times end : ℕ) → place < n → stmt_at list place ≡ Some (stmt.Repeat times end) → IsOpen place repeats ⊎ IsTold items place end
 
 step_repeat : (items list : List Item) (n : ℕ) (repeats : List Open) (turns old : ℕ) → all_bared list ≡ all_bared items → AreTold items n repeats list → stmt_at items n ≡ Some (stmt.Repeat turns old)
-    → AreTold items (suc n) (opened (nesting.Opens turns) n repeats) (told_at list n)
+    → AreTold items (suc n) (repeats_after (nesting.Opens turns) n repeats) (told_at list n)
 step_repeat items list n repeats turns old same before here =
-    subst (λ (l : List Item). AreTold items (suc n) (opened (nesting.Opens turns) n repeats) l)
+    subst (λ (l : List Item). AreTold items (suc n) (repeats_after (nesting.Opens turns) n repeats) l)
     (sym (tells_none list n (λ start is. clash (stmt_at items n) turns old start here (end_stays list items n start same is))))
     (λ place times end below is.
     elim (cases_lt place n) [
       | inl less ↦ elim (before place times end less is) [ inl stays ↦ inl (open-push place (record { start = n; turns = turns_in repeats * turns }) repeats stays) | inr told ↦ inr told ]
       | inr past ↦
           let last : place ≡ n = omega (arith, below, past) in
-          inl (subst (λ (k : ℕ). IsOpen k (opened (nesting.Opens turns) n repeats)) (sym last) (open-last (record { start = n; turns = turns_in repeats * turns }) repeats))
+          inl (subst (λ (k : ℕ). IsOpen k (repeats_after (nesting.Opens turns) n repeats)) (sym last) (open-last (record { start = n; turns = turns_in repeats * turns }) repeats))
     ])
 
 step_other : (items list : List Item) (n : ℕ) (repeats : List Open) (s : Stmt) → IsOther s → all_bared list ≡ all_bared items → AreTold items n repeats list → stmt_at items n ≡ Some s
-    → AreTold items (suc n) (opened (effect_of s).nesting n repeats) (told_at list n)
+    → AreTold items (suc n) (repeats_after (effect_of s).nesting n repeats) (told_at list n)
 step_other items list n repeats s other same before here =
-    subst (λ (l : List Item). AreTold items (suc n) (opened (effect_of s).nesting n repeats) l)
+    subst (λ (l : List Item). AreTold items (suc n) (repeats_after (effect_of s).nesting n repeats) l)
     (sym (tells_none list n (λ start is. other_end (stmt_at items n) s start other here (end_stays list items n start same is))))
-    (subst (λ (r : List Open). AreTold items (suc n) r list) (sym (ap (λ (m : Nesting). opened m n repeats) other.stays))
+    (subst (λ (r : List Open). AreTold items (suc n) r list) (sym (ap (λ (m : Nesting). repeats_after m n repeats) other.stays))
     (λ place times end below is.
     elim (cases_lt place n) [
       | inl less ↦ before place times end less is
@@ -247,7 +247,7 @@ step_other items list n repeats s other same before here =
     ]))
 
 step_end : (items list : List Item) (n : ℕ) (repeats : List Open) (start : ℕ) → all_bared list ≡ all_bared items → all_bared (told_at list n) ≡ all_bared items → AreTold items n repeats list
-    → stmt_at items n ≡ Some (stmt.End start) → start ≡ innermost repeats → AreTold items (suc n) (opened (nesting.Closes start) n repeats) (told_at list n)
+    → stmt_at items n ≡ Some (stmt.End start) → start ≡ innermost repeats → AreTold items (suc n) (repeats_after (nesting.Closes start) n repeats) (told_at list n)
 step_end items list n repeats start same after before here names =
     λ place times end below is.
     elim (cases_lt place n) [
@@ -270,7 +270,7 @@ told-with_ends (item ∷ past) rest items is matched =
     let n = length past in
     let before = told-with_ends past (item ∷ rest) items seam matched.0 in
     sorted
-    (λ s. stmt_at items n ≡ Some s → Closes (open_of past) (effect_of s).nesting → AreTold items (suc n) (opened (effect_of s).nesting n (open_of past)) (told_at (with_ends n items) n))
+    (λ s. stmt_at items n ≡ Some s → Closes (open_of past) (effect_of s).nesting → AreTold items (suc n) (repeats_after (effect_of s).nesting n (open_of past)) (told_at (with_ends n items) n))
     (λ times end here closes. step_repeat items (with_ends n items) n (open_of past) times end (bared-with_ends n items) before here)
     (λ start here closes. step_end items (with_ends n items) n (open_of past) start (bared-with_ends n items) (bared-with_ends (suc n) items) before here closes.1)
     (λ s other here closes. step_other items (with_ends n items) n (open_of past) s other (bared-with_ends n items) before here)
@@ -283,7 +283,7 @@ within items place None s found is = absurd cc
 within items place (Some item) s found is = slice_get_within items place item found
 
 -- statements without an open repeat, of which each end names the innermost one before it
-pub closed-of : (nue : ℕ) (items : List Item) (names : List (List ℕ)) → open_of (reverse items) ≡ [] → AreMatched (reverse items) → AreWithin (reverse items) → HavePasses (reverse items)
+pub closed-of : (nue : ℕ) (items : List Item) (names : List (List ℕ)) → open_of (reverse items) ≡ [] → AreMatched (reverse items) → StayInSection (reverse items) → HavePasses (reverse items)
     → IsClosed (record { nue = nue; items = with_ends (length items) items; names = names })
 closed-of nue items names none matched inside once = record {
   within = within-with_ends (length items) items inside;

@@ -28,8 +28,8 @@ use Rattle.script_reader.specs.declared.version.Version.{Version}
 use Rattle.script_reader.specs.Checks.{innermost, is_badly_split, is_unknown, last_comm, open_of, run_of}
 use Rattle.script_reader.specs.Effects.{comm_named, effect_of}
 use Rattle.script_reader.specs.Faults.{◌>>=◌}
-use Rattle.script_reader.specs.Progress.{Progress, after, after_group, after_local, after_message, after_section, checked, first_fault, local_numbered, named, open_section, past, peer_in, place, rank_said, register_of, rule_said, small, start}
-use Rattle.script_reader.specs.Reading.{at_end, at_line, begun, most_script_bytes, read_all_lines, read_as, read_file, read_line, read_lines, read_words, script_of, version_of}
+use Rattle.script_reader.specs.Progress.{ReadingSoFar, after_script_line, after_group, after_local, after_message, after_section, section_or_fault, first_fault, local_numbered, with_known_name, open_section, past, peer_in, place, rank_said, register_of, rule_said, small, start}
+use Rattle.script_reader.specs.Reading.{at_end, at_line, past_opening, most_script_bytes, read_all_lines, read_as, read_file, read_line, read_lines, read_words, script_of, version_of}
 use Rattle.script_reader.specs.Said.{said_of}
 use Rattle.script_reader.specs.Settled.{NamesCommsTo}
 use Rattle.texts.specs.Cuts.{is_text, line_count, lines_of, words_of}
@@ -48,8 +48,8 @@ known-low v run (comms.Of comm) is = ltb-false (last_comm v) comm is
 known-low v run (comms.Split comm rule) is = ltb-false (last_comm v) comm (low-split (nat_lt (last_comm v) comm) (is_badly_split run comm rule) is)
 
 -- what has a fault is not placed
-placed-well : (P : Progress → Type 0) (p : Progress) (e : Effect) (next : Who → Result Progress FaultKind)
-    → (first_fault p e ≡ None → (who : Who) → IfOk (next who) P) → IfOk (checked p e >>= next) P
+placed-well : (P : ReadingSoFar → Type 0) (p : ReadingSoFar) (e : Effect) (next : Who → Result ReadingSoFar FaultKind)
+    → (first_fault p e ≡ None → (who : Who) → IfOk (next who) P) → IfOk (section_or_fault p e >>= next) P
 placed-well P p e next each = by (first_fault p e) refl (ok_or p.section kind.NoSection)
   where
     by : (fault : Option FaultKind) → first_fault p e ≡ fault → (section : Result Who FaultKind) → IfOk (option_map_or Err fault section >>= next) P
@@ -63,10 +63,10 @@ module _ (v : Version) where
   IsLowItem item = comm_named (effect_of item.stmt).group ≤ last_comm v
 
   -- the lines so far are of this version, and name no communicator past its last one
-  abbrev IsLow : Progress → Type 0
+  abbrev IsLow : ReadingSoFar → Type 0
   IsLow p = (p.version ≡ v) × All IsLowItem p.items
 
-  place-low : (line : ℕ) (p : Progress) (s : Stmt) → IsLow p → IfOk (place line p s) IsLow
+  place-low : (line : ℕ) (p : ReadingSoFar) (s : Stmt) → IsLow p → IfOk (place line p s) IsLow
   place-low line p s low =
       placed-well IsLow p (effect_of s) _ (λ none who.
       let known = known-low p.version (run_of p.nue (past p)) (effect_of s).group (no-fault p (effect_of s) none).unknown in
@@ -74,31 +74,31 @@ module _ (v : Version) where
       let here : comm_named (effect_of s).group ≤ last_comm v = subst (λ (w : Version). comm_named (effect_of s).group ≤ last_comm w) low.0 known in
       (low.0, All-append IsLowItem p.items (item ∷ []) low.1 (All-cons IsLowItem item [] here (All-nil IsLowItem))))
 
-  open-low : (p : Progress) (ranks : Who) → IsLow p → IfOk (open_section p ranks) IsLow
+  open-low : (p : ReadingSoFar) (ranks : Who) → IsLow p → IfOk (open_section p ranks) IsLow
   open-low p ranks low = either IsLow (length (open_of (past p)) == 0) (Ok (record p { section = Some ranks })) (Err kind.UnclosedRepeat) low tt
 
-  section-low : (p : Progress) (s : Section) → IsLow p → IfOk (after_section p s) IsLow
+  section-low : (p : ReadingSoFar) (s : Section) → IsLow p → IfOk (after_section p s) IsLow
   section-low p section.All low = open-low p who.All low
   section-low p section.Even low = open-low p who.Even low
   section-low p section.Odd low = open-low p who.Odd low
   section-low p (section.Span first last) low = then IsLow (rank_said p.nue first) _ (λ a. then IsLow (rank_said p.nue last) _ (λ b. either IsLow (nat_lt b a) (Err kind.RankRange) (open_section p (who.Span a b)) tt (open-low p (who.Span a b) low)))
 
-  local-low : (line : ℕ) (p : Progress) (l : Local) → IsLow p → IfOk (after_local line p l) IsLow
+  local-low : (line : ℕ) (p : ReadingSoFar) (l : Local) → IsLow p → IfOk (after_local line p l) IsLow
   local-low line p l low = place-low line (record p { names = (local_numbered p.names l).names }) (local_numbered p.names l).statement low
 
-  message-low : (line : ℕ) (p : Progress) (s : Message) → IsLow p → IfOk (after_message line p s) IsLow
-  message-low line p (message.Send peer name) low = then IsLow (peer_in p.nue peer) _ (λ other. place-low line (named p name) (stmt.Send other (register_of p.names name)) low)
-  message-low line p (message.Post peer name) low = then IsLow (peer_in p.nue peer) _ (λ other. place-low line (named p name) (stmt.Post other (register_of p.names name)) low)
-  message-low line p (message.Recv peer name len) low = then IsLow (peer_in p.nue peer) _ (λ other. place-low line (named p name) (stmt.Recv other (register_of p.names name) len) low)
+  message-low : (line : ℕ) (p : ReadingSoFar) (s : Message) → IsLow p → IfOk (after_message line p s) IsLow
+  message-low line p (message.Send peer name) low = then IsLow (peer_in p.nue peer) _ (λ other. place-low line (with_known_name p name) (stmt.Send other (register_of p.names name)) low)
+  message-low line p (message.Post peer name) low = then IsLow (peer_in p.nue peer) _ (λ other. place-low line (with_known_name p name) (stmt.Post other (register_of p.names name)) low)
+  message-low line p (message.Recv peer name len) low = then IsLow (peer_in p.nue peer) _ (λ other. place-low line (with_known_name p name) (stmt.Recv other (register_of p.names name) len) low)
 
-  group-low : (line : ℕ) (p : Progress) (s : Collective) → IsLow p → IfOk (after_group line p s) IsLow
+  group-low : (line : ℕ) (p : ReadingSoFar) (s : Collective) → IsLow p → IfOk (after_group line p s) IsLow
   group-low line p (group.Barrier comm) low = place-low line p (stmt.Barrier (small comm)) low
   group-low line p (group.Split comm parent how parts) low = place-low line p (stmt.Split (small comm) (rule_said how (small parent) parts)) low
-  group-low line p (group.Bcast comm root name len) low = place-low line (named p name) (stmt.Bcast (small comm) (small root) (register_of p.names name) len) low
-  group-low line p (group.Reduce comm root op ty dst src) low = place-low line (named (named p dst) src) (stmt.Reduce (small comm) (small root) op ty (register_of p.names dst) (register_of (named p dst).names src)) low
-  group-low line p (group.Allreduce comm op ty dst src) low = place-low line (named (named p dst) src) (stmt.Allreduce (small comm) op ty (register_of p.names dst) (register_of (named p dst).names src)) low
+  group-low line p (group.Bcast comm root name len) low = place-low line (with_known_name p name) (stmt.Bcast (small comm) (small root) (register_of p.names name) len) low
+  group-low line p (group.Reduce comm root op ty dst src) low = place-low line (with_known_name (with_known_name p dst) src) (stmt.Reduce (small comm) (small root) op ty (register_of p.names dst) (register_of (with_known_name p dst).names src)) low
+  group-low line p (group.Allreduce comm op ty dst src) low = place-low line (with_known_name (with_known_name p dst) src) (stmt.Allreduce (small comm) op ty (register_of p.names dst) (register_of (with_known_name p dst).names src)) low
 
-  after-low : (line : ℕ) (p : Progress) (s : Said) → IsLow p → IfOk (after line p s) IsLow
+  after-low : (line : ℕ) (p : ReadingSoFar) (s : Said) → IsLow p → IfOk (after_script_line line p s) IsLow
   after-low line p said.Version low = low
   after-low line p (said.Section s) low = section-low p s low
   after-low line p (said.Local s) low = local-low line p s low
@@ -107,24 +107,24 @@ module _ (v : Version) where
   after-low line p (said.Repeat times) low = place-low line p (stmt.Repeat times 0) low
   after-low line p said.End low = place-low line p (stmt.End (innermost (open_of (past p)))) low
 
-  words-low : (number : ℕ) (p : Progress) (words : List (List ℕ)) → IsLow p → IfOk (read_words number p words) IsLow
+  words-low : (number : ℕ) (p : ReadingSoFar) (words : List (List ℕ)) → IsLow p → IfOk (read_words number p words) IsLow
   words-low number p [] low = low
-  words-low number p (first ∷ words) low = then IsLow (said_of p.version p.opening first words) _ (λ s. after-low number (begun p) s low)
+  words-low number p (first ∷ words) low = then IsLow (said_of p.version p.opening first words) _ (λ s. after-low number (past_opening p) s low)
 
-  line-low : (number : ℕ) (p : Progress) (line : List ℕ) → IsLow p → IfOk (read_line number p line) IsLow
+  line-low : (number : ℕ) (p : ReadingSoFar) (line : List ℕ) → IsLow p → IfOk (read_line number p line) IsLow
   line-low number p line low = either IsLow (is_text line) (read_words number p (words_of line)) (Err kind.NotText) (words-low number p (words_of line) low) tt
 
-  at_line-low : (number : ℕ) (r : Result Progress FaultKind) → IfOk r IsLow → IfOk (at_line number r) IsLow
+  at_line-low : (number : ℕ) (r : Result ReadingSoFar FaultKind) → IfOk r IsLow → IfOk (at_line number r) IsLow
   at_line-low number (Ok p) low = low
   at_line-low number (Err kind) low = tt
 
-  lines-low : (before : ℕ) (p : Progress) (lines : List (List ℕ)) → IsLow p → IfOk (read_lines before p lines) IsLow
+  lines-low : (before : ℕ) (p : ReadingSoFar) (lines : List (List ℕ)) → IsLow p → IfOk (read_lines before p lines) IsLow
   lines-low before p [] low = low
   lines-low before p (line ∷ lines) low =
       behind IsLow IsLow (at_line (before + 1) (read_line (before + 1) p line)) _ (at_line-low (before + 1) (read_line (before + 1) p line) (line-low (before + 1) p line low))
       (λ q is. lines-low (before + 1) q lines is)
 
-  end-low : (count : ℕ) (p : Progress) → IsLow p → IfOk (at_end count p) (NamesCommsTo (last_comm v))
+  end-low : (count : ℕ) (p : ReadingSoFar) → IsLow p → IfOk (at_end count p) (NamesCommsTo (last_comm v))
   end-low count p low =
       either (NamesCommsTo (last_comm v)) (length (open_of (past p)) == 0) (Ok (script_of p)) _ (comms-with_ends (last_comm v) (length p.items) p.items low.1) tt
 

@@ -12,7 +12,7 @@ use Rattle.script_reader.specs.declared.effect.Nesting.TheVariants as nesting
 use Rattle.script_reader.specs.declared.script.Item.{Item}
 use Rattle.script_reader.specs.declared.script.Stmt.{Stmt}
 use Rattle.script_reader.specs.declared.script.Stmt.TheVariants as stmt
-use Rattle.script_reader.specs.Ends.{told, with_end, with_ends}
+use Rattle.script_reader.specs.Ends.{with_end_told, with_end, with_ends}
 use Rattle.script_reader.specs.Effects.{comm_named, effect_of, split_rule}
 use Rattle.script_reader.specs.Script.{IsSized, first_split, or_rule, rules_of}
 use Rattle.script_reader.specs.Settled.{IsNamed}
@@ -48,12 +48,12 @@ ended-keeps : (P : List Item → Type 0) → IsKeptBy P → (items : List Item) 
 ended-keeps P k items start place None found p = p
 ended-keeps P k items start place (Some item) found p = with_end-keeps P k items start place item (effect_of item.stmt).nesting refl found p
 
-told-keeps : (P : List Item → Type 0) → IsKeptBy P → (items : List Item) (place : ℕ) (n : Nesting) → P items → P (told items place n)
+told-keeps : (P : List Item → Type 0) → IsKeptBy P → (items : List Item) (place : ℕ) (n : Nesting) → P items → P (with_end_told items place n)
 told-keeps P k items place (nesting.Opens times) p = p
 told-keeps P k items place (nesting.Closes start) p = ended-keeps P k items start place (slice_get items start) refl p
 told-keeps P k items place nesting.Stays p = p
 
-told_at-keeps : (P : List Item → Type 0) → IsKeptBy P → (items : List Item) (place : ℕ) (o : Option Item) → P items → P (option_map_or (λ item. told items place (effect_of item.stmt).nesting) o items)
+told_at-keeps : (P : List Item → Type 0) → IsKeptBy P → (items : List Item) (place : ℕ) (o : Option Item) → P items → P (option_map_or (λ item. with_end_told items place (effect_of item.stmt).nesting) o items)
 told_at-keeps P k items place None p = p
 told_at-keeps P k items place (Some item) p = told-keeps P k items place (effect_of item.stmt).nesting p
 

@@ -16,7 +16,7 @@ use Rattle.script_reader.specs.declared.tally.Setting.{Setting}
 use Rattle.script_reader.specs.Checks.{counts_at, has_no_parent, has_split, is_past_group, is_stray, is_too_deep, is_too_long, is_unfit, is_unknown, length_at, misfits, open_of, refuses, resizes, run_of, set_by, set_if, turns_in, turns_too_often}
 use Rattle.script_reader.specs.Effects.{comm_needed, effect_of, some_use}
 use Rattle.script_reader.specs.Limits.{most_names}
-use Rattle.script_reader.specs.Progress.{Progress, fault_table, first_fault, has_fault, is_refused, past}
+use Rattle.script_reader.specs.Progress.{ReadingSoFar, fault_table, first_fault, has_fault, is_refused, past}
 use Rattle.script_reader.specs.Script.{peer_of}
 use Rattle.script_reader.specs.Tally.{reads}
 use Rattle.script_reader.proofs.CheckLemmas.{false-left, false-right, neither, nobody}
@@ -41,7 +41,7 @@ none-at-all test (kind ∷ kinds) none =
     (here.0, none-at-all test kinds here.1)
 
 -- a statement without a fault, by the tests of the fault table
-pub record IsSound (p : Progress) (e : Effect) : Type 0 where
+pub record IsSound (p : ReadingSoFar) (e : Effect) : Type 0 where
   pub rooted : is_refused kind.RankRange p e ≡ false
   pub other : is_refused kind.SelfMessage p e ≡ false
   pub unknown : is_unknown p.version (run_of p.nue (past p)) e.group ≡ false
@@ -58,7 +58,7 @@ pub record IsSound (p : Progress) (e : Effect) : Type 0 where
   pub few : nat_lt most_names (length p.names) ≡ false
 
 -- each kind is found among those of the table, wherever it stands there
-each-absent : (p : Progress) (e : Effect) → AreAbsent (has_fault p e) fault_table → IsSound p e
+each-absent : (p : ReadingSoFar) (e : Effect) → AreAbsent (has_fault p e) fault_table → IsSound p e
 each-absent p e absent =
     record {
       rooted = assumption;
@@ -77,11 +77,11 @@ each-absent p e absent =
       few = assumption;
     }
 
-pub no-fault : (p : Progress) (e : Effect) → first_fault p e ≡ None → IsSound p e
+pub no-fault : (p : ReadingSoFar) (e : Effect) → first_fault p e ≡ None → IsSound p e
 no-fault p e none = each-absent p e (none-at-all (has_fault p e) fault_table none)
 
 -- where an effect is that of a statement
-pub sound-at : (p : Progress) (e : Effect) (s : Stmt) → e ≡ effect_of s → first_fault p e ≡ None → IsSound p (effect_of s)
+pub sound-at : (p : ReadingSoFar) (e : Effect) (s : Stmt) → e ≡ effect_of s → first_fault p e ≡ None → IsSound p (effect_of s)
 sound-at p e s is none = no-fault p (effect_of s) (subst (λ (e : Effect). first_fault p e ≡ None) is none)
 
 no-value : {A : Type 0} (o : Option A) (test : A → Bool) → is_some o ≡ false → option_map_or test o false ≡ false
@@ -102,30 +102,30 @@ and-left true b h = cc
 and-left false b h = refl
 
 -- a statement without a root has none past a group
-pub without-root : (p : Progress) (e : Effect) → is_some e.root ≡ false → is_refused kind.RankRange p e ≡ false
+pub without-root : (p : ReadingSoFar) (e : Effect) → is_some e.root ≡ false → is_refused kind.RankRange p e ≡ false
 without-root p e none =
     nobody p.nue p.section (refuses kind.RankRange p.nue (past p) e)
     (λ rank. no-value e.root (is_past_group (run_of p.nue (past p)) (comm_needed e.group) rank) none)
 
 -- a statement without a peer is no message to oneself
-pub without-peer : (p : Progress) (e : Effect) → is_some e.peer ≡ false → is_refused kind.SelfMessage p e ≡ false
+pub without-peer : (p : ReadingSoFar) (e : Effect) → is_some e.peer ≡ false → is_refused kind.SelfMessage p e ≡ false
 without-peer p e none =
     nobody p.nue p.section (refuses kind.SelfMessage p.nue (past p) e) (λ rank. no-value e.peer (λ peer. peer_of p.nue peer rank == rank) none)
 
 -- a statement of the world needs no split
-pub of-world : (p : Progress) (e : Effect) → not (comm_needed e.group == 0) ≡ false → is_refused kind.NotSplit p e ≡ false
+pub of-world : (p : ReadingSoFar) (e : Effect) → not (comm_needed e.group == 0) ≡ false → is_refused kind.NotSplit p e ≡ false
 of-world p e none =
     nobody p.nue p.section (refuses kind.NotSplit p.nue (past p) e)
     (λ rank. and-left (not (comm_needed e.group == 0)) (not (has_split (past p) rank (comm_needed e.group))) none)
 
 -- a statement that reads no register reads none that is not set
-pub without-read : (p : Progress) (e : Effect) → reads e.uses ≡ false → is_refused kind.Unset p e ≡ false
+pub without-read : (p : ReadingSoFar) (e : Effect) → reads e.uses ≡ false → is_refused kind.Unset p e ≡ false
 without-read p e none =
     nobody p.nue p.section (refuses kind.Unset p.nue (past p) e)
     (λ rank. no-use e.uses (λ used. counts_at (run_of p.nue (past p)) e rank used.at && is_none (length_at p.nue (past p) rank used.reg)) none)
 
 -- nor one of another length than it needs, where it sets none either
-pub without-register : (p : Progress) (e : Effect) → (reads e.uses || is_some e.sets) ≡ false → is_refused kind.Shape p e ≡ false
+pub without-register : (p : ReadingSoFar) (e : Effect) → (reads e.uses || is_some e.sets) ≡ false → is_refused kind.Shape p e ≡ false
 without-register p e none = nobody p.nue p.section (refuses kind.Shape p.nue (past p) e) (λ rank. shaped rank)
   where
     shaped : (rank : ℕ) → refuses kind.Shape p.nue (past p) e rank ≡ false

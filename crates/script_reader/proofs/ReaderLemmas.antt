@@ -17,7 +17,7 @@ use Rattle.script_reader.specs.declared.fault.FaultKind.{FaultKind}
 use Rattle.script_reader.specs.declared.repeats.Open.{Open}
 use Rattle.script_reader.specs.declared.script.Item.{Item}
 use Rattle.script_reader.specs.declared.tally.Tally.{Tally}
-use Rattle.script_reader.specs.Checks.{is_past_most, is_too_deep, is_too_long, is_unknown, open_of, opened, refuses, run_of, some_rank, turns_in}
+use Rattle.script_reader.specs.Checks.{is_past_most, is_too_deep, is_too_long, is_unknown, open_of, repeats_after, refuses, run_of, some_rank, turns_in}
 use Rattle.script_reader.specs.Effects.{IsSizedBy, comm_needed, effect_of, split_rule}
 use Rattle.script_reader.specs.Script.{IsSized, or_rule, rules_of}
 use Rattle.script_reader.specs.declared.version.Version.{Version}
@@ -57,7 +57,7 @@ pub kept-more : (version : Version) (nue : ℕ) (items : List Item) (names : Lis
     → IsKept version nue items names run repeats tallies → is_unknown version (run_of nue (reverse items)) (effect_of item.stmt).group ≡ false → IsMade (effect_of item.stmt)
     → IsNamed (length names) (effect_of item.stmt) → is_too_long (effect_of item.stmt) ≡ false
     → is_too_deep (open_of (reverse items)) (effect_of item.stmt).nesting ≡ false → after ≡ run_of nue (reverse (items ++ item ∷ []))
-    → later ≡ opened (effect_of item.stmt).nesting (length items) repeats → AreRules (rules_of (items ++ item ∷ [])) → length noted ≡ nue → IsSettled nue (rules_of items) item
+    → later ≡ repeats_after (effect_of item.stmt).nesting (length items) repeats → AreRules (rules_of (items ++ item ∷ [])) → length noted ≡ nue → IsSettled nue (rules_of items) item
     → ((kind : FaultKind) → some_rank nue (Some item.who) (refuses kind nue (reverse items) (effect_of item.stmt)) ≡ false)
     → ((rank : ℕ) (d : Tally) → rank < nue → get_or noted rank d ≡ noted_at run (turns_in repeats) item.who (effect_of item.stmt) rank (get_or tallies rank d))
     → IsKept version nue (items ++ item ∷ []) names after later noted
@@ -74,8 +74,8 @@ kept-more version nue items names item run after repeats later tallies noted k k
       run_is = is;
       repeats_are =
           opens
-          ∙ ap (λ (r : List Open). opened e.nesting (length items) r) k.repeats_are
-          ∙ ap (λ (n : ℕ). opened e.nesting n (open_of (reverse items))) (sym (length-reverse items))
+          ∙ ap (λ (r : List Open). repeats_after e.nesting (length items) r) k.repeats_are
+          ∙ ap (λ (n : ℕ). repeats_after e.nesting n (open_of (reverse items))) (sym (length-reverse items))
           ∙ ap open_of (sym (past-more items item));
       rules = rules;
       settled = settled-push nue items item k.rules k.settled new;

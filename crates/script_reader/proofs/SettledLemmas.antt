@@ -24,9 +24,9 @@ use Rattle.script_reader.specs.declared.fault.FaultKind.TheVariants as kind
 use Rattle.script_reader.specs.declared.version.Version.{Version}
 use Rattle.script_reader.specs.Checks.{has_no_root, has_split, is_absent, is_not_split, is_past_group, is_unknown, last_comm, refuses, run_of, some_below, some_rank}
 use Rattle.script_reader.specs.Effects.{comm_needed, effect_of, is_split_of, split_rule}
-use Rattle.script_reader.specs.Progress.{Progress, is_refused}
+use Rattle.script_reader.specs.Progress.{ReadingSoFar, is_refused}
 use Rattle.script_reader.specs.Ends.{with_ends}
-use Rattle.script_reader.specs.Tally.{IsAimed, IsSplitMade, IsParted, IsWithin}
+use Rattle.script_reader.specs.Tally.{IsAimed, IsSplitMade, IsParted, IsPeerWithin}
 use Rattle.script_reader.specs.declared.script.Peer.{Peer}
 use Rattle.script_reader.specs.declared.script.Peer.TheVariants as peer
 use Rattle.script_reader.proofs.CheckLemmas.{false-left, false-right, nobody}
@@ -177,13 +177,13 @@ needed-low group.World version run known = lit< tt
 needed-low (group.Of comm) version run known = low-known version comm known
 needed-low (group.Split comm by) version run known = let ok = splittable version run comm by known in omega (arith, ok.below, ok.top)
 
-peer-within : (nue : ℕ) (p : Peer) → 1 ≤ nue → IsWithin nue p → (caller : ℕ) → peer_of nue p caller < nue
+peer-within : (nue : ℕ) (p : Peer) → 1 ≤ nue → IsPeerWithin nue p → (caller : ℕ) → peer_of nue p caller < nue
 peer-within nue (peer.Abs rank) some within caller = within
 peer-within nue (peer.Plus up) some within caller = omega arith
 peer-within nue (peer.Minus down) some within caller = omega arith
 
 -- the other rank of a message is one of the run, where a rank that is named is one
-peer-below : (nue : ℕ) (o : Option Peer) → 1 ≤ nue → IfSome o (IsWithin nue) → (rank : ℕ) → IfSome o (λ peer. peer_of nue peer rank < nue)
+peer-below : (nue : ℕ) (o : Option Peer) → 1 ≤ nue → IfSome o (IsPeerWithin nue) → (rank : ℕ) → IfSome o (λ peer. peer_of nue peer rank < nue)
 peer-below nue None some aimed rank = tt
 peer-below nue (Some other) some aimed rank = peer-within nue other some aimed rank
 
@@ -231,7 +231,7 @@ pub world-present : (items : List Item) → rule_of (rules_of items) 0 ≡ rule.
 world-present items gone = world-there gone
 
 -- a statement without a fault has none for a rank of its section
-pub passed-all : (p : Progress) (e : Effect) → IsSound p e → (kind : FaultKind) → is_refused kind p e ≡ false
+pub passed-all : (p : ReadingSoFar) (e : Effect) → IsSound p e → (kind : FaultKind) → is_refused kind p e ≡ false
 passed-all p e sound kind.RankRange = sound.rooted
 passed-all p e sound kind.SelfMessage = sound.other
 passed-all p e sound kind.NotSplit = sound.split

@@ -16,11 +16,11 @@ use Rattle.script_reader.specs.declared.fault.FaultKind.TheVariants as kind
 use Rattle.script_reader.specs.declared.script.Item.{Item}
 use Rattle.script_reader.specs.declared.tally.Setting.{Setting}
 use Rattle.script_reader.specs.declared.tally.Tally.{Tally}
-use Rattle.script_reader.specs.Checks.{cost_of, counts_at, is_misshapen, is_not_split, is_unset, length_at, open_of, operations, posts_too_much, printed, prints, prints_too_much, refuses, run_of, set_by, set_if, sets_to, turns_in}
+use Rattle.script_reader.specs.Checks.{cost_of, counts_at, is_misshapen, is_not_split, is_unset, length_at, open_of, operations, posts_too_much, bytes_printed, prints, prints_too_much, refuses, run_of, set_by, set_if, sets_to, turns_in}
 use Rattle.script_reader.specs.Effects.{effect_of, is_split_of}
 use Rattle.script_reader.specs.Limits.{most_operations, most_printed}
 use Rattle.script_reader.specs.Script.{has_rank}
-use Rattle.script_reader.specs.Tally.{AreTallies, IsMade, IsSplitMade, IsTally, empty_tally, length_in, noted, noted_at, refuses_by, with_length, with_split}
+use Rattle.script_reader.specs.Tally.{AreTallies, IsMade, IsSplitMade, IsTally, empty_tally, length_in, tally_after, noted_at, refuses_by, with_length, with_split}
 
 -- a default stands everywhere in a list of defaults
 defaults : {A : Type 0} (n k : ℕ) (d : A) → get_or (replicate n d) k d ≡ d
@@ -129,14 +129,14 @@ lengths-noted item tally nue past rank has made t reg =
     ∙ sym (rw has refl)
 
 noted-tally : (item : Item) (tally : Tally) (nue : ℕ) (past : List Item) (rank : ℕ) (has : Bool) → has_rank item.who rank ≡ has → IsMade (effect_of item.stmt) → IsTally tally nue past rank
-    → IsTally (cond has (noted (run_of nue past) (turns_in (open_of past)) (effect_of item.stmt) rank tally) tally) nue (item ∷ past) rank
+    → IsTally (cond has (tally_after (run_of nue past) (turns_in (open_of past)) (effect_of item.stmt) rank tally) tally) nue (item ∷ past) rank
 noted-tally item tally nue past rank true has made t =
     let e = effect_of item.stmt in
     record {
       operations_are = capped tally.operations (operations nue past rank) (operations nue (item ∷ past) rank) (turns_in (open_of past) * cost_of (run_of nue past) e.cost rank) (most_operations + 1) t.operations_are (rw has refl);
       printed_are =
           ap (λ (had : ℕ → Option ℕ). min (tally.printed + turns_in (open_of past) * prints had e) (most_printed + 1)) (fun_ext t.lengths_are)
-          ∙ capped tally.printed (printed nue past rank) (printed nue (item ∷ past) rank) (turns_in (open_of past) * prints (length_at nue past rank) e) (most_printed + 1) t.printed_are (rw has refl);
+          ∙ capped tally.printed (bytes_printed nue past rank) (bytes_printed nue (item ∷ past) rank) (turns_in (open_of past) * prints (length_at nue past rank) e) (most_printed + 1) t.printed_are (rw has refl);
       lengths_are = lengths-noted item tally nue past rank has made t;
       splits_are = λ comm. split-marked e.group tally.splits comm t.splits_room made.split ∙ ap (λ b. b || is_split_of e.group comm) (t.splits_are comm) ∙ sym (rw has refl);
       lengths_room = with_length-room tally.lengths (set_by (run_of nue past) (length_in tally) e rank) ∙ t.lengths_room;
@@ -144,7 +144,7 @@ noted-tally item tally nue past rank true has made t =
     }
 noted-tally item tally nue past rank false has made t = record {
   operations_are = let same : operations nue (item ∷ past) rank ≡ operations nue past rank + 0 = rw has refl in omega (arith, t.operations_are);
-  printed_are = let same : printed nue (item ∷ past) rank ≡ printed nue past rank + 0 = rw has refl in omega (arith, t.printed_are);
+  printed_are = let same : bytes_printed nue (item ∷ past) rank ≡ bytes_printed nue past rank + 0 = rw has refl in omega (arith, t.printed_are);
   lengths_are = λ reg. t.lengths_are reg ∙ sym (or_none _) ∙ sym (rw has refl);
   splits_are = λ comm. t.splits_are comm ∙ sym (or_false _) ∙ sym (rw has refl);
   lengths_room = t.lengths_room;
@@ -173,5 +173,5 @@ refuses-same kind.Shape tally nue past e rank t = ap (λ (had : ℕ → Option �
 refuses-same kind.TooManyOps tally nue past e rank t = over-cap tally.operations (operations nue past rank) (turns_in (open_of past) * cost_of (run_of nue past) e.cost rank) most_operations t.operations_are
 refuses-same kind.TooLong tally nue past e rank t =
     ap (λ (had : ℕ → Option ℕ). posts_too_much had e || prints_too_much had tally.printed (turns_in (open_of past)) e) (fun_ext t.lengths_are)
-    ∙ ap (λ b. posts_too_much (length_at nue past rank) e || b) (over-cap tally.printed (printed nue past rank) (turns_in (open_of past) * prints (length_at nue past rank) e) most_printed t.printed_are)
+    ∙ ap (λ b. posts_too_much (length_at nue past rank) e || b) (over-cap tally.printed (bytes_printed nue past rank) (turns_in (open_of past) * prints (length_at nue past rank) e) most_printed t.printed_are)
 refuses-same _ tally nue past e rank t = refl

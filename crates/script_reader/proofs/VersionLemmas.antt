@@ -38,9 +38,9 @@ use Rattle.script_reader.specs.Counts.{of_five_words, of_four_words, of_six_word
 use Rattle.script_reader.specs.Effects.{effect_of, parent_of, split_rule}
 use Rattle.script_reader.specs.Faults.{◌>>=◌, Gives}
 use Rattle.script_reader.specs.Limits.{most_operations}
-use Rattle.script_reader.specs.Progress.{Progress, after, after_group, after_local, after_message, after_section, checked, local_numbered, named, open_section, past, peer_in, place, rank_said, register_of, rule_said, small, start}
-use Rattle.script_reader.specs.Reading.{at_end, at_line, begun, most_script_bytes, read_all_lines, read_as, read_line, read_lines, read_words, script_of}
-use Rattle.script_reader.specs.Said.{allreduce_said, allreduce_words, alone, barrier_said, bcast_said, bcast_words, colour_said, dash_of, group_said, local_said, local_word, name_said, number_said, of_said, operation_said, peer_said, post_said, post_words, range_said, ranks_said, rcce_said, recv_said, recv_words, reduce_said, reduce_words, register_said, register_said_by, repeat_said, said_of, section_said, send_said, send_words, span_said, split_said, type_said, ue_said, version_number}
+use Rattle.script_reader.specs.Progress.{ReadingSoFar, after_script_line, after_group, after_local, after_message, after_section, section_or_fault, local_numbered, with_known_name, open_section, past, peer_in, place, rank_said, register_of, rule_said, small, start}
+use Rattle.script_reader.specs.Reading.{at_end, at_line, past_opening, most_script_bytes, read_all_lines, read_as, read_line, read_lines, read_words, script_of}
+use Rattle.script_reader.specs.Said.{allreduce_said, allreduce_words, one_word_said, barrier_said, bcast_said, bcast_words, colour_said, dash_of, group_said, local_said, local_word, name_said, number_said, of_said, operation_said, peer_said, post_said, post_words, range_said, ranks_said, rcce_said, recv_said, recv_words, reduce_said, reduce_words, register_said, register_said_by, repeat_said, said_of, section_said, send_said, send_words, span_said, split_said, type_said, ue_said, version_number}
 use Rattle.script_reader.specs.Script.{Script, first_split, rules_of}
 use Rattle.script_reader.specs.Settled.{SplitsWorldAlone}
 use Rattle.texts.specs.Cuts.{is_text, line_count, lines_of, words_of}
@@ -87,7 +87,7 @@ module _ (v : Version) where
   six-plain says plain (a ∷ b ∷ c ∷ d ∷ e ∷ f ∷ []) = plain a b c d e f
   six-plain says plain _ = tt
 
-  alone-plain : (s : Said) → (IsPlain v) s → (words : List (List ℕ)) → IfOk (alone s words) (IsPlain v)
+  alone-plain : (s : Said) → (IsPlain v) s → (words : List (List ℕ)) → IfOk (one_word_said s words) (IsPlain v)
   alone-plain s is [] = is
   alone-plain s is (a ∷ rest) = tt
 
@@ -187,19 +187,19 @@ module _ (v : Version) where
       (register-plain first words))))
 
 -- the lines so far are of version 1, and their splits take apart the world
-abbrev IsFlat : Progress → Type 0
+abbrev IsFlat : ReadingSoFar → Type 0
 IsFlat p = (p.version ≡ version.One) × ((comm : ℕ) → parent_of (first_split p.items comm) ≡ 0)
 
-place-flat : (line : ℕ) (p : Progress) (s : Stmt) → IsFlat p → ((comm : ℕ) → parent_of (split_rule (effect_of s).group comm) ≡ 0) → IfOk (place line p s) IsFlat
+place-flat : (line : ℕ) (p : ReadingSoFar) (s : Stmt) → IsFlat p → ((comm : ℕ) → parent_of (split_rule (effect_of s).group comm) ≡ 0) → IfOk (place line p s) IsFlat
 place-flat line p s flat is =
-    then IsFlat (checked p (effect_of s)) _ (λ who.
+    then IsFlat (section_or_fault p (effect_of s)) _ (λ who.
     let item : Item = record { line = line; who = who; stmt = s } in
     (flat.0, λ comm. ap parent_of (first_split-more p.items item comm) ∙ or_rule-either (λ (r : CommRule). parent_of r ≡ 0) (first_split p.items comm) (split_rule (effect_of s).group comm) (flat.1 comm) (is comm)))
 
-open-flat : (p : Progress) (ranks : Who) → IsFlat p → IfOk (open_section p ranks) IsFlat
+open-flat : (p : ReadingSoFar) (ranks : Who) → IsFlat p → IfOk (open_section p ranks) IsFlat
 open-flat p ranks flat = either IsFlat (length (open_of (past p)) == 0) (Ok (record p { section = Some ranks })) (Err kind.UnclosedRepeat) flat tt
 
-section-flat : (p : Progress) (s : Section) → IsFlat p → IfOk (after_section p s) IsFlat
+section-flat : (p : ReadingSoFar) (s : Section) → IsFlat p → IfOk (after_section p s) IsFlat
 section-flat p section.All flat = open-flat p who.All flat
 section-flat p section.Even flat = open-flat p who.Even flat
 section-flat p section.Odd flat = open-flat p who.Odd flat
@@ -210,13 +210,13 @@ local-world : (names : List (List ℕ)) (l : Local) (comm : ℕ) → parent_of (
 local-world names (local.Bytes name bytes) comm = refl
 local-world names _ comm = refl
 
-local-flat : (line : ℕ) (p : Progress) (l : Local) → IsFlat p → IfOk (after_local line p l) IsFlat
+local-flat : (line : ℕ) (p : ReadingSoFar) (l : Local) → IsFlat p → IfOk (after_local line p l) IsFlat
 local-flat line p l flat = place-flat line (record p { names = (local_numbered p.names l).names }) (local_numbered p.names l).statement flat (local-world p.names l)
 
-message-flat : (line : ℕ) (p : Progress) (s : Message) → IsFlat p → IfOk (after_message line p s) IsFlat
-message-flat line p (message.Send peer name) flat = then IsFlat (peer_in p.nue peer) _ (λ other. place-flat line (named p name) (stmt.Send other (register_of p.names name)) flat (λ comm. refl))
-message-flat line p (message.Post peer name) flat = then IsFlat (peer_in p.nue peer) _ (λ other. place-flat line (named p name) (stmt.Post other (register_of p.names name)) flat (λ comm. refl))
-message-flat line p (message.Recv peer name len) flat = then IsFlat (peer_in p.nue peer) _ (λ other. place-flat line (named p name) (stmt.Recv other (register_of p.names name) len) flat (λ comm. refl))
+message-flat : (line : ℕ) (p : ReadingSoFar) (s : Message) → IsFlat p → IfOk (after_message line p s) IsFlat
+message-flat line p (message.Send peer name) flat = then IsFlat (peer_in p.nue peer) _ (λ other. place-flat line (with_known_name p name) (stmt.Send other (register_of p.names name)) flat (λ comm. refl))
+message-flat line p (message.Post peer name) flat = then IsFlat (peer_in p.nue peer) _ (λ other. place-flat line (with_known_name p name) (stmt.Post other (register_of p.names name)) flat (λ comm. refl))
+message-flat line p (message.Recv peer name len) flat = then IsFlat (peer_in p.nue peer) _ (λ other. place-flat line (with_known_name p name) (stmt.Recv other (register_of p.names name) len) flat (λ comm. refl))
 
 parent-said : (how : Colour) (parent parts : ℕ) → parent_of (rule_said how parent parts) ≡ parent
 parent-said colour.Mod parent parts = refl
@@ -226,15 +226,15 @@ parent-split : (b : Bool) (r : CommRule) → parent_of r ≡ 0 → parent_of (co
 parent-split true r is = is
 parent-split false r is = refl
 
-group-flat : (line : ℕ) (p : Progress) (s : Collective) → IsPlain version.One (said.Collective s) → IsFlat p → IfOk (after_group line p s) IsFlat
+group-flat : (line : ℕ) (p : ReadingSoFar) (s : Collective) → IsPlain version.One (said.Collective s) → IsFlat p → IfOk (after_group line p s) IsFlat
 group-flat line p (group.Barrier comm) is flat = place-flat line p (stmt.Barrier (small comm)) flat (λ comm. refl)
 group-flat line p (group.Split comm parent how parts) is flat =
     place-flat line p (stmt.Split (small comm) (rule_said how (small parent) parts)) flat (λ other. parent-split (small comm == other) (rule_said how (small parent) parts) (parent-said how (small parent) parts ∙ ap small (is refl)))
-group-flat line p (group.Bcast comm root name len) is flat = place-flat line (named p name) (stmt.Bcast (small comm) (small root) (register_of p.names name) len) flat (λ comm. refl)
-group-flat line p (group.Reduce comm root op ty dst src) is flat = place-flat line (named (named p dst) src) (stmt.Reduce (small comm) (small root) op ty (register_of p.names dst) (register_of (named p dst).names src)) flat (λ comm. refl)
-group-flat line p (group.Allreduce comm op ty dst src) is flat = place-flat line (named (named p dst) src) (stmt.Allreduce (small comm) op ty (register_of p.names dst) (register_of (named p dst).names src)) flat (λ comm. refl)
+group-flat line p (group.Bcast comm root name len) is flat = place-flat line (with_known_name p name) (stmt.Bcast (small comm) (small root) (register_of p.names name) len) flat (λ comm. refl)
+group-flat line p (group.Reduce comm root op ty dst src) is flat = place-flat line (with_known_name (with_known_name p dst) src) (stmt.Reduce (small comm) (small root) op ty (register_of p.names dst) (register_of (with_known_name p dst).names src)) flat (λ comm. refl)
+group-flat line p (group.Allreduce comm op ty dst src) is flat = place-flat line (with_known_name (with_known_name p dst) src) (stmt.Allreduce (small comm) op ty (register_of p.names dst) (register_of (with_known_name p dst).names src)) flat (λ comm. refl)
 
-after-flat : (line : ℕ) (p : Progress) (s : Said) → IsPlain version.One s → IsFlat p → IfOk (after line p s) IsFlat
+after-flat : (line : ℕ) (p : ReadingSoFar) (s : Said) → IsPlain version.One s → IsFlat p → IfOk (after_script_line line p s) IsFlat
 after-flat line p said.Version is flat = flat
 after-flat line p (said.Section s) is flat = section-flat p s flat
 after-flat line p (said.Local s) is flat = local-flat line p s flat
@@ -243,21 +243,21 @@ after-flat line p (said.Collective s) is flat = group-flat line p s is flat
 after-flat line p (said.Repeat times) is flat = place-flat line p (stmt.Repeat times 0) flat (λ comm. refl)
 after-flat line p said.End is flat = place-flat line p (stmt.End (innermost (open_of (past p)))) flat (λ comm. refl)
 
-words-flat : (number : ℕ) (p : Progress) (words : List (List ℕ)) → IsFlat p → IfOk (read_words number p words) IsFlat
+words-flat : (number : ℕ) (p : ReadingSoFar) (words : List (List ℕ)) → IsFlat p → IfOk (read_words number p words) IsFlat
 words-flat number p [] flat = flat
 words-flat number p (first ∷ words) flat =
     behind (IsPlain version.One) IsFlat (said_of p.version p.opening first words) _
     (subst (λ (v : Version). IfOk (said_of v p.opening first words) (IsPlain version.One)) (sym flat.0) (said-plain version.One p.opening first words))
-    (λ s is. after-flat number (begun p) s is flat)
+    (λ s is. after-flat number (past_opening p) s is flat)
 
-line-flat : (number : ℕ) (p : Progress) (line : List ℕ) → IsFlat p → IfOk (read_line number p line) IsFlat
+line-flat : (number : ℕ) (p : ReadingSoFar) (line : List ℕ) → IsFlat p → IfOk (read_line number p line) IsFlat
 line-flat number p line flat = either IsFlat (is_text line) (read_words number p (words_of line)) (Err kind.NotText) (words-flat number p (words_of line) flat) tt
 
-at_line-flat : (number : ℕ) (r : Result Progress FaultKind) → IfOk r IsFlat → IfOk (at_line number r) IsFlat
+at_line-flat : (number : ℕ) (r : Result ReadingSoFar FaultKind) → IfOk r IsFlat → IfOk (at_line number r) IsFlat
 at_line-flat number (Ok p) flat = flat
 at_line-flat number (Err kind) flat = tt
 
-lines-flat : (before : ℕ) (p : Progress) (lines : List (List ℕ)) → IsFlat p → IfOk (read_lines before p lines) IsFlat
+lines-flat : (before : ℕ) (p : ReadingSoFar) (lines : List (List ℕ)) → IsFlat p → IfOk (read_lines before p lines) IsFlat
 lines-flat before p [] flat = flat
 lines-flat before p (line ∷ lines) flat =
     behind IsFlat IsFlat (at_line (before + 1) (read_line (before + 1) p line)) _ (at_line-flat (before + 1) (read_line (before + 1) p line) (line-flat (before + 1) p line flat))
@@ -271,7 +271,7 @@ rule-flat items (suc c) flat =
       | inr past ↦ ap parent_of (get_or_past (rules_of items) (suc c) rule.Absent (omega (arith, past, length-map-range_with_len (first_split items) 1 15)))
     ]
 
-end-flat : (count : ℕ) (p : Progress) → IsFlat p → IfOk (at_end count p) SplitsWorldAlone
+end-flat : (count : ℕ) (p : ReadingSoFar) → IsFlat p → IfOk (at_end count p) SplitsWorldAlone
 end-flat count p flat =
     either SplitsWorldAlone (length (open_of (past p)) == 0) (Ok (script_of p)) _ (λ comm. ap (λ (rules : List CommRule). parent_of (rule_of rules comm)) (rules-with_ends (length p.items) p.items) ∙ rule-flat p.items comm flat.1) tt
 

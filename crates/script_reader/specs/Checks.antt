@@ -69,8 +69,8 @@ abbrev pub has_place : SetupView → ℕ → ℕ → ℕ → Bool
 has_place run comm rank place = nat_lt place (size_of run comm rank)
 
 -- whether the rank is known to be at this place of its group
-abbrev pub is_at : SetupView → ℕ → ℕ → ℕ → Bool
-is_at run comm rank place = is_known run comm && place_of run comm rank == place
+abbrev pub is_at_place : SetupView → ℕ → ℕ → ℕ → Bool
+is_at_place run comm rank place = is_known run comm && place_of run comm rank == place
 
 -- RankRange: the root of a collective call is no place of the rank's group, where this is known
 abbrev pub is_past_group : SetupView → ℕ → ℕ → ℕ → Bool
@@ -82,7 +82,7 @@ has_no_root run e rank = option_map_or (is_past_group run (comm_needed e.group) 
 
 -- the rank is known to be the root of its collective call
 abbrev pub is_root : SetupView → Effect → ℕ → Bool
-is_root run e rank = option_map_or (is_at run (comm_needed e.group) rank) e.root false
+is_root run e rank = option_map_or (is_at_place run (comm_needed e.group) rank) e.root false
 
 -- whether a part of the statement counts for a rank of its section
 abbrev pub counts_at : SetupView → Effect → ℕ → At → Bool
@@ -209,15 +209,15 @@ abbrev pub turns_in : List Open → ℕ
 turns_in repeats = option_map_or (λ r. r.turns) (slice_get repeats (length repeats - 1)) 1
 
 -- the repeats that are open behind a statement, the outermost one first
-abbrev pub opened : Nesting → ℕ → List Open → List Open
-opened (nesting.Opens times) place repeats = repeats ++ (record { start = place; turns = turns_in repeats * times }) ∷ []
-opened (nesting.Closes start) place repeats = take (length repeats - 1) repeats
-opened nesting.Stays place repeats = repeats
+abbrev pub repeats_after : Nesting → ℕ → List Open → List Open
+repeats_after (nesting.Opens times) place repeats = repeats ++ (record { start = place; turns = turns_in repeats * times }) ∷ []
+repeats_after (nesting.Closes start) place repeats = take (length repeats - 1) repeats
+repeats_after nesting.Stays place repeats = repeats
 
 -- the repeats that are open after these statements, the outermost one first
 abbrev pub open_of : List Item → List Open
 open_of [] = []
-open_of (item ∷ past) = opened (effect_of item.stmt).nesting (length past) (open_of past)
+open_of (item ∷ past) = repeats_after (effect_of item.stmt).nesting (length past) (open_of past)
 
 -- where the innermost open repeat stands
 abbrev pub innermost : List Open → ℕ
@@ -278,9 +278,9 @@ abbrev pub prints : (ℕ → Option ℕ) → Effect → ℕ
 prints had e = option_map_or (λ reg. unwrap_or (had reg) 0) e.prints 0
 
 -- how many bytes of registers a rank prints in these statements, each as often as its repeats say
-abbrev pub printed : ℕ → List Item → ℕ → ℕ
-printed nue [] rank = 0
-printed nue (item ∷ past) rank = printed nue past rank
+abbrev pub bytes_printed : ℕ → List Item → ℕ → ℕ
+bytes_printed nue [] rank = 0
+bytes_printed nue (item ∷ past) rank = bytes_printed nue past rank
     + (if has_rank item.who rank then turns_in (open_of past) * prints (length_at nue past rank) (effect_of item.stmt) else 0)
 
 -- a length that a statement says is more than a message has
@@ -310,7 +310,7 @@ refuses kind.Shape nue past e rank = is_misshapen (run_of nue past) (length_at n
 refuses kind.TooManyOps nue past e rank = is_overworked (run_of nue past) (operations nue past rank) (turns_in (open_of past)) e.cost rank
 refuses kind.TooLong nue past e rank =
     posts_too_much (length_at nue past rank) e
-    || prints_too_much (length_at nue past rank) (printed nue past rank) (turns_in (open_of past)) e
+    || prints_too_much (length_at nue past rank) (bytes_printed nue past rank) (turns_in (open_of past)) e
 refuses kind.NotText nue past e rank = false
 refuses kind.UnknownStatement nue past e rank = false
 refuses kind.WrongCount nue past e rank = false

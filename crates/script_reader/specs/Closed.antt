@@ -38,9 +38,9 @@ latest_section [] = None
 latest_section (item ∷ past) = Some item.who
 
 -- where a repeat is open, each of these statements, the latest first, stands in the section of the one before it
-abbrev pub AreWithin : List Item → Type 0
-AreWithin [] = Unit {0}
-AreWithin (item ∷ past) = AreWithin past × (1 ≤ length (open_of past) → latest_section past ≡ Some item.who)
+abbrev pub StayInSection : List Item → Type 0
+StayInSection [] = Unit {0}
+StayInSection (item ∷ past) = StayInSection past × (1 ≤ length (open_of past) → latest_section past ≡ Some item.who)
 
 -- a repeat is done at least once
 abbrev pub HasPass : Nesting → Type 0
@@ -59,5 +59,5 @@ pub record IsClosed (script : Script) : Type 0 where
   pub none_open : open_of (reverse script.items) ≡ []
   pub matched : AreMatched (reverse script.items)
   pub ended : HaveEnds script.items
-  pub within : AreWithin (reverse script.items)
+  pub within : StayInSection (reverse script.items)
   pub once : HavePasses (reverse script.items)

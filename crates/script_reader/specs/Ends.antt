@@ -14,19 +14,19 @@ with_end items start place item (nesting.Closes other) = items
 with_end items start place item nesting.Stays = items
 
 -- a repeat's `end` is told to its `repeat`, if the item there is one
-abbrev pub ended : List Item → ℕ → ℕ → List Item
-ended items start place =
+abbrev pub with_end_at : List Item → ℕ → ℕ → List Item
+with_end_at items start place =
     option_map_or (λ item. with_end items start place item (effect_of item.stmt).nesting) (slice_get items start) items
 
 -- a statement tells its repeat its place, if it is an end
-abbrev pub told : List Item → ℕ → Nesting → List Item
-told items place (nesting.Opens times) = items
-told items place (nesting.Closes start) = ended items start place
-told items place nesting.Stays = items
+abbrev pub with_end_told : List Item → ℕ → Nesting → List Item
+with_end_told items place (nesting.Opens times) = items
+with_end_told items place (nesting.Closes start) = with_end_at items start place
+with_end_told items place nesting.Stays = items
 
 -- what the item at a place tells an earlier one: an `end` tells its `repeat`
 abbrev pub told_at : List Item → ℕ → List Item
-told_at items place = option_map_or (λ item. told items place (effect_of item.stmt).nesting) (slice_get items place) items
+told_at items place = option_map_or (λ item. with_end_told items place (effect_of item.stmt).nesting) (slice_get items place) items
 
 -- the items, where each of the first n that is an end has told its repeat
 abbrev pub with_ends : ℕ → List Item → List Item

@@ -38,7 +38,7 @@ use Rattle.script_reader.specs.Limits.{most_names}
 
 -- what the lines so far have given: the statements, the names of the registers, the section that is open, and whether no
 -- line has had words yet
-pub record Progress : Type 0 where
+pub record ReadingSoFar : Type 0 where
   pub version : Version
   pub nue : ℕ
   pub opening : Bool
@@ -47,11 +47,11 @@ pub record Progress : Type 0 where
   pub section : Option Who
 
 -- what was read before the first line: nothing
-abbrev pub start : Version → ℕ → Progress
+abbrev pub start : Version → ℕ → ReadingSoFar
 start version nue = record { version = version; nue = nue; opening = true; items = []; names = []; section = None }
 
 -- the statements so far, the latest first
-abbrev pub past : Progress → List Item
+abbrev pub past : ReadingSoFar → List Item
 past p = reverse p.items
 
 -- the number of a register: the place of its name, or the next place for a new name
@@ -63,15 +63,15 @@ abbrev pub with_name : List (List ℕ) → List ℕ → List (List ℕ)
 with_name names name = if register_of names name == length names then names ++ name ∷ [] else names
 
 -- a name is known from here on
-abbrev pub named : Progress → List ℕ → Progress
-named p name = record p { names = with_name p.names name }
+abbrev pub with_known_name : ReadingSoFar → List ℕ → ReadingSoFar
+with_known_name p name = record p { names = with_name p.names name }
 
 -- whether the statement has the fault for some rank of the section
-abbrev pub is_refused : FaultKind → Progress → Effect → Bool
+abbrev pub is_refused : FaultKind → ReadingSoFar → Effect → Bool
 is_refused kind p e = some_rank p.nue p.section (refuses kind p.nue (past p) e)
 
 -- whether a statement with this effect has a fault behind the lines so far. (The words of its line are none of it.)
-abbrev pub has_fault : Progress → Effect → FaultKind → Bool
+abbrev pub has_fault : ReadingSoFar → Effect → FaultKind → Bool
 has_fault p e kind.NotText = false
 has_fault p e kind.UnknownStatement = false
 has_fault p e kind.WrongCount = false
@@ -99,17 +99,17 @@ fault_table =
     ∷ kind.StrayEnd ∷ kind.TooDeep ∷ kind.TooManyOps ∷ kind.TooLong ∷ kind.TooManyNames ∷ []
 
 -- the first fault of a statement
-abbrev pub first_fault : Progress → Effect → Option FaultKind
+abbrev pub first_fault : ReadingSoFar → Effect → Option FaultKind
 first_fault p e = find (has_fault p e) fault_table
 
 -- the section of a statement behind the lines so far, or its first fault
-abbrev pub checked : Progress → Effect → Result Who FaultKind
-checked p e = option_map_or Err (first_fault p e) (ok_or p.section kind.NoSection)
+abbrev pub section_or_fault : ReadingSoFar → Effect → Result Who FaultKind
+section_or_fault p e = option_map_or Err (first_fault p e) (ok_or p.section kind.NoSection)
 
 -- the statement behind the others, unless a check refuses it
-abbrev pub place : ℕ → Progress → Stmt → Result Progress FaultKind
+abbrev pub place : ℕ → ReadingSoFar → Stmt → Result ReadingSoFar FaultKind
 place line p stmt = do
-  who ← checked p (effect_of stmt)
+  who ← section_or_fault p (effect_of stmt)
   Ok (record p { items = p.items ++ (record { line = line; who = who; stmt = stmt }) ∷ [] })
 
 -- a number as a rank
@@ -134,11 +134,11 @@ rule_said colour.Mod parent parts = rule.Mod parent parts
 rule_said colour.Div parent parts = rule.Div parent parts
 
 -- a section line: the statements that follow belong to these ranks
-abbrev pub open_section : Progress → Who → Result Progress FaultKind
+abbrev pub open_section : ReadingSoFar → Who → Result ReadingSoFar FaultKind
 open_section p who = if length (open_of (past p)) == 0 then Ok (record p { section = Some who }) else Err kind.UnclosedRepeat
 
 -- what is read after the head of a section, which opens it
-abbrev pub after_section : Progress → Section → Result Progress FaultKind
+abbrev pub after_section : ReadingSoFar → Section → Result ReadingSoFar FaultKind
 after_section p section.All = open_section p ranks.All
 after_section p section.Even = open_section p ranks.Even
 after_section p section.Odd = open_section p ranks.Odd
@@ -173,40 +173,41 @@ local_numbered names (local.Apply op ty dst src) = naming_two names dst src (λ 
 local_numbered names (local.Print name form) = naming_one names name (λ reg. stmt.Own (own.Print reg form))
 
 -- what is read after a statement of the rank's own: its item, or why it is refused
-abbrev pub after_local : ℕ → Progress → Local → Result Progress FaultKind
+abbrev pub after_local : ℕ → ReadingSoFar → Local → Result ReadingSoFar FaultKind
 after_local line p local =
     place line (record p { names = (local_numbered p.names local).names }) (local_numbered p.names local).statement
 
 -- what is read after a statement of a message: its item, or why it is refused
-abbrev pub after_message : ℕ → Progress → Message → Result Progress FaultKind
+abbrev pub after_message : ℕ → ReadingSoFar → Message → Result ReadingSoFar FaultKind
 after_message line p (message.Send peer name) = do
   peer ← peer_in p.nue peer
-  place line (named p name) (stmt.Send peer (register_of p.names name))
+  place line (with_known_name p name) (stmt.Send peer (register_of p.names name))
 after_message line p (message.Post peer name) = do
   peer ← peer_in p.nue peer
-  place line (named p name) (stmt.Post peer (register_of p.names name))
+  place line (with_known_name p name) (stmt.Post peer (register_of p.names name))
 after_message line p (message.Recv peer name len) = do
   peer ← peer_in p.nue peer
-  place line (named p name) (stmt.Recv peer (register_of p.names name) len)
+  place line (with_known_name p name) (stmt.Recv peer (register_of p.names name) len)
 
 -- what is read after a statement of a group: its item, or why it is refused
-abbrev pub after_group : ℕ → Progress → Collective → Result Progress FaultKind
+abbrev pub after_group : ℕ → ReadingSoFar → Collective → Result ReadingSoFar FaultKind
 after_group line p (group.Barrier comm) = place line p (stmt.Barrier (small comm))
 after_group line p (group.Split comm parent colour parts) = place line p (stmt.Split (small comm) (rule_said colour (small parent) parts))
 after_group line p (group.Bcast comm root name len) =
-    place line (named p name) (stmt.Bcast (small comm) (small root) (register_of p.names name) len)
+    place line (with_known_name p name) (stmt.Bcast (small comm) (small root) (register_of p.names name) len)
 after_group line p (group.Reduce comm root op ty dst src) =
-    place line (named (named p dst) src)
-    (stmt.Reduce (small comm) (small root) op ty (register_of p.names dst) (register_of (named p dst).names src))
+    place line (with_known_name (with_known_name p dst) src)
+    (stmt.Reduce (small comm) (small root) op ty (register_of p.names dst) (register_of (with_known_name p dst).names src))
 after_group line p (group.Allreduce comm op ty dst src) =
-    place line (named (named p dst) src) (stmt.Allreduce (small comm) op ty (register_of p.names dst) (register_of (named p dst).names src))
+    place line (with_known_name (with_known_name p dst) src)
+    (stmt.Allreduce (small comm) op ty (register_of p.names dst) (register_of (with_known_name p dst).names src))
 
 -- what stands after a line that says this
-abbrev pub after : ℕ → Progress → Said → Result Progress FaultKind
-after line p said.Version = Ok p
-after line p (said.Section section) = after_section p section
-after line p (said.Local local) = after_local line p local
-after line p (said.Message message) = after_message line p message
-after line p (said.Collective group) = after_group line p group
-after line p (said.Repeat times) = place line p (stmt.Repeat times 0)
-after line p said.End = place line p (stmt.End (innermost (open_of (past p))))
+abbrev pub after_script_line : ℕ → ReadingSoFar → Said → Result ReadingSoFar FaultKind
+after_script_line line p said.Version = Ok p
+after_script_line line p (said.Section section) = after_section p section
+after_script_line line p (said.Local local) = after_local line p local
+after_script_line line p (said.Message message) = after_message line p message
+after_script_line line p (said.Collective group) = after_group line p group
+after_script_line line p (said.Repeat times) = place line p (stmt.Repeat times 0)
+after_script_line line p said.End = place line p (stmt.End (innermost (open_of (past p))))

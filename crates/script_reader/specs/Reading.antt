@@ -9,7 +9,7 @@ use Rattle.script_reader.specs.declared.version.Version.TheVariants as version
 use Rattle.script_reader.specs.Checks.{open_of}
 use Rattle.script_reader.specs.Ends.{with_ends}
 use Rattle.script_reader.specs.Faults.{◌>>=◌}
-use Rattle.script_reader.specs.Progress.{Progress, after, past, start}
+use Rattle.script_reader.specs.Progress.{ReadingSoFar, after_script_line, past, start}
 use Rattle.script_reader.specs.Said.{said_of}
 use Rattle.script_reader.specs.Script.{Script}
 use Rattle.texts.specs.Cuts.{is_text, line_count, lines_of, words_of}
@@ -29,16 +29,16 @@ version_of (line ∷ lines) =
     else version.One
 
 -- what was read, where a line with words has come
-abbrev pub begun : Progress → Progress
-begun p = record p { opening = false }
+abbrev pub past_opening : ReadingSoFar → ReadingSoFar
+past_opening p = record p { opening = false }
 
 -- what stands after a line with these words
-abbrev pub read_words : ℕ → Progress → List (List ℕ) → Result Progress FaultKind
+abbrev pub read_words : ℕ → ReadingSoFar → List (List ℕ) → Result ReadingSoFar FaultKind
 read_words number p [] = Ok p
-read_words number p (first ∷ words) = said_of p.version p.opening first words >>= after number (begun p)
+read_words number p (first ∷ words) = said_of p.version p.opening first words >>= after_script_line number (past_opening p)
 
 -- what stands after a line
-abbrev pub read_line : ℕ → Progress → List ℕ → Result Progress FaultKind
+abbrev pub read_line : ℕ → ReadingSoFar → List ℕ → Result ReadingSoFar FaultKind
 read_line number p line = if is_text line then read_words number p (words_of line) else Err kind.NotText
 
 -- a fault with the number of its line
@@ -47,16 +47,16 @@ at_line number (Ok x) = Ok x
 at_line number (Err kind) = Err (record { line = number; kind = kind })
 
 -- what stands after lines, of which the first has the number behind `before`
-abbrev pub read_lines : ℕ → Progress → List (List ℕ) → Result Progress ReadFault
+abbrev pub read_lines : ℕ → ReadingSoFar → List (List ℕ) → Result ReadingSoFar ReadFault
 read_lines before p [] = Ok p
 read_lines before p (line ∷ lines) = at_line (before + 1) (read_line (before + 1) p line) >>= λ q. read_lines (before + 1) q lines
 
 -- what was read, as a script: each repeat has the place of its end
-abbrev pub script_of : Progress → Script
+abbrev pub script_of : ReadingSoFar → Script
 script_of p = record { nue = p.nue; items = with_ends (length p.items) p.items; names = p.names }
 
 -- what was read, at the end of a file of `lines` lines: no repeat may be open there
-abbrev pub at_end : ℕ → Progress → Result Script ReadFault
+abbrev pub at_end : ℕ → ReadingSoFar → Result Script ReadFault
 at_end lines p = if length (open_of (past p)) == 0 then Ok (script_of p) else Err (record { line = lines + 1; kind = kind.UnclosedRepeat })
 
 -- the script that a file says in a version of the language, or its first fault

@@ -5,7 +5,7 @@ use Rattle.scc_base.specs.Setups.{SetupView}
 use Rattle.scc_base.specs.declared.communicators.CommRule.{CommRule}
 
 -- a setup of this many ranks with these rules of communicators
-pub record IsRun (nue : ℕ) (comms : List CommRule) (setup : SetupView) : Type 0 where
+pub record IsRunSetup (nue : ℕ) (comms : List CommRule) (setup : SetupView) : Type 0 where
   pub nue_is : setup.nue ≡ nue
   pub comms_are : setup.comms ≡ comms
   pub rules : AreRules comms

@@ -96,9 +96,9 @@ values_said type front [] = Ok front
 values_said type front (word ∷ words) = value_behind type front word >>= λ bytes. values_said type bytes words
 
 -- a line of one word: `all`, `even`, `odd`, `end`
-abbrev pub alone : Said → List (List ℕ) → Result Said FaultKind
-alone said [] = Ok said
-alone said _ = Err kind.WrongCount
+abbrev pub one_word_said : Said → List (List ℕ) → Result Said FaultKind
+one_word_said said [] = Ok said
+one_word_said said _ = Err kind.WrongCount
 
 -- `ue A` and `ue A-B`
 abbrev pub span_said : List ℕ → List ℕ → Result Said FaultKind
@@ -324,12 +324,12 @@ rcce_said version _ = Err kind.WrongCount
 -- a section line, by its first word
 abbrev pub section_said : List ℕ → List (List ℕ) → Result Said FaultKind
 section_said first words =
-    if bytes_eq first (codes "all") then alone (said.Section section.All) words
-    else if bytes_eq first (codes "even") then alone (said.Section section.Even) words
-    else if bytes_eq first (codes "odd") then alone (said.Section section.Odd) words
+    if bytes_eq first (codes "all") then one_word_said (said.Section section.All) words
+    else if bytes_eq first (codes "even") then one_word_said (said.Section section.Even) words
+    else if bytes_eq first (codes "odd") then one_word_said (said.Section section.Odd) words
     else if bytes_eq first (codes "ue") then ue_said words
     else if bytes_eq first (codes "repeat") then repeat_said words
-    else if bytes_eq first (codes "end") then alone said.End words
+    else if bytes_eq first (codes "end") then one_word_said said.End words
     else Err kind.UnknownStatement
 
 -- a statement of the groups of a communicator, by its first word, or else a section line or a repeat

@@ -68,7 +68,7 @@ abbrev pub IsNamed : ℕ → Effect → Type 0
 IsNamed count e = EachUse (λ used. used.reg < count) e.uses × IfSome e.sets (λ set. set.reg < count)
 
 -- what is true of each script that was read
-pub record IsWhole (nue : ℕ) (items : List Item) : Type 0 where
+pub record IsWholeScript (nue : ℕ) (items : List Item) : Type 0 where
   pub some : 1 ≤ nue
   pub most : nue ≤ 48
   pub sized : All (λ item. IsSized item.stmt) items
@@ -79,7 +79,7 @@ pub record IsWhole (nue : ℕ) (items : List Item) : Type 0 where
 
 -- what is true of each script that was read, with the names of its registers
 pub record IsAccepted (nue : ℕ) (items : List Item) (names : List (List ℕ)) : Type 0 where
-  pub whole : IsWhole nue items
+  pub whole : IsWholeScript nue items
   pub named : All (λ item. IsNamed (length names) (effect_of item.stmt)) items
 
 -- a script has no rule for a communicator past this one

@@ -20,9 +20,9 @@ use Rattle.script_reader.specs.declared.script.Who.{Who}
 use Rattle.script_reader.specs.declared.tally.Setting.{Setting}
 use Rattle.script_reader.specs.declared.tally.Tally.{Tally}
 use Rattle.script_reader.specs.declared.version.Version.{Version}
-use Rattle.script_reader.specs.Checks.{cost_of, has_no_root, has_split, is_known, is_misshapen, is_not_split, is_overworked, is_to_self, is_unset, last_comm, length_at, open_of, operations, posts_too_much, printed, prints, prints_too_much, run_of, set_by}
+use Rattle.script_reader.specs.Checks.{cost_of, has_no_root, has_split, is_known, is_misshapen, is_not_split, is_overworked, is_to_self, is_unset, last_comm, length_at, open_of, operations, posts_too_much, bytes_printed, prints, prints_too_much, run_of, set_by}
 use Rattle.script_reader.specs.Effects.{comm_needed, effect_of}
-use Rattle.script_reader.specs.Progress.{Progress, named, register_of}
+use Rattle.script_reader.specs.Progress.{ReadingSoFar, with_known_name, register_of}
 use Rattle.script_reader.specs.Script.{IsSized, first_split, has_rank, rules_of}
 use Rattle.script_reader.specs.Settled.{AreInLine, ArePassed, HaveRules, IsNamed, IsSettled}
 use Rattle.script_reader.specs.Limits.{most_names, most_operations, most_printed}
@@ -39,7 +39,7 @@ split_in tally comm = slice_index_or tally.splits comm false
 -- is allowed, the length of each register, and its splits
 pub record IsTally (tally : Tally) (nue : ℕ) (past : List Item) (rank : ℕ) : Type 0 where
   pub operations_are : tally.operations ≡ min (operations nue past rank) (most_operations + 1)
-  pub printed_are : tally.printed ≡ min (printed nue past rank) (most_printed + 1)
+  pub printed_are : tally.printed ≡ min (bytes_printed nue past rank) (most_printed + 1)
   pub lengths_are : (reg : ℕ) → length_in tally reg ≡ length_at nue past rank reg
   pub splits_are : (comm : ℕ) → split_in tally comm ≡ has_split past rank comm
   pub lengths_room : length tally.lengths ≡ 256
@@ -85,8 +85,8 @@ with_split splits (group.Of comm) = splits
 with_split splits (group.Split comm rule) = slice_set splits comm true
 
 -- a tally after one more statement of its rank, which runs `turns` times
-abbrev pub noted : SetupView → ℕ → Effect → ℕ → Tally → Tally
-noted run turns e rank tally = record {
+abbrev pub tally_after : SetupView → ℕ → Effect → ℕ → Tally → Tally
+tally_after run turns e rank tally = record {
   operations = min (tally.operations + turns * cost_of run e.cost rank) (most_operations + 1);
   printed = min (tally.printed + turns * prints (length_in tally) e) (most_printed + 1);
   lengths = with_length tally.lengths (set_by run (length_in tally) e rank);
@@ -95,7 +95,7 @@ noted run turns e rank tally = record {
 
 -- a tally of a rank after one more item of the script, whose statement has this effect
 abbrev pub noted_at : SetupView → ℕ → Who → Effect → ℕ → Tally → Tally
-noted_at run turns who e rank tally = if has_rank who rank then noted run turns e rank tally else tally
+noted_at run turns who e rank tally = if has_rank who rank then tally_after run turns e rank tally else tally
 
 -- a split's number of parts is one that a rule may have
 abbrev pub IsParted : CommRule → Type 0
@@ -116,14 +116,14 @@ pub record IsMade (e : Effect) : Type 0 where
   pub split : IsSplitMade e.group
 
 -- a rank that a statement names is a rank of the run
-abbrev pub IsWithin : ℕ → Peer → Type 0
-IsWithin nue (peer.Abs rank) = rank < nue
-IsWithin nue (peer.Plus up) = Unit {0}
-IsWithin nue (peer.Minus down) = Unit {0}
+abbrev pub IsPeerWithin : ℕ → Peer → Type 0
+IsPeerWithin nue (peer.Abs rank) = rank < nue
+IsPeerWithin nue (peer.Plus up) = Unit {0}
+IsPeerWithin nue (peer.Minus down) = Unit {0}
 
 -- the other rank of a message is one of the run, where it is named
 abbrev pub IsAimed : ℕ → Effect → Type 0
-IsAimed nue e = IfSome e.peer (IsWithin nue)
+IsAimed nue e = IfSome e.peer (IsPeerWithin nue)
 
 -- the faults of a statement for a rank of its section, over what is kept
 abbrev pub refuses_by : FaultKind → SetupView → Tally → ℕ → Effect → ℕ → Bool
@@ -161,11 +161,11 @@ is_new_split run (group.Of comm) = false
 is_new_split run (group.Split comm rule) = not (is_known run comm)
 
 -- the lines so far have given at most as many statements as there are lines, and no more names than a file may have; the version stays
-pub record IsUpTo (version : Version) (line : ℕ) (p : Progress) : Type 0 where
+pub record IsUpTo (version : Version) (line : ℕ) (p : ReadingSoFar) : Type 0 where
   pub same : p.version ≡ version
   pub named : length p.names ≤ most_names
   pub counted : length p.items ≤ line
 
 -- the numbers of two registers, of which the first is named first
-abbrev pub register_pair : Progress → List ℕ → List ℕ → Pair
-register_pair p dst src = record { dst = register_of p.names dst; src = register_of (named p dst).names src }
+abbrev pub register_pair : ReadingSoFar → List ℕ → List ℕ → Pair
+register_pair p dst src = record { dst = register_of p.names dst; src = register_of (with_known_name p dst).names src }

@@ -1,7 +1,7 @@
 //! The places of the ends of repeats.
 
 ghost use Rattle.std.specs.Prelude.{◌≡◌, ◌<◌, ◌≤◌, ◌^◌, All, length};
-ghost use Rattle.script_reader.specs.Ends.{ended, told_at, with_ends};
+ghost use Rattle.script_reader.specs.Ends.{with_end_at, told_at, with_ends};
 ghost use Rattle.script_reader.specs.Script.{IsSized};
 
 use crate::effect::{Nesting, effect_of};
@@ -9,7 +9,7 @@ use crate::script::{Item, Stmt};
 
 /// Gives the repeat at a place the place of its end.
 fn end_at(items: &mut [Item], start: usize, place: u32)
-    ensures gives { items.new ≡ ended items.old start place }
+    ensures gives { items.new ≡ with_end_at items.old start place }
 {
     if start >= items.len() {
         return;

@@ -42,10 +42,10 @@ pub(crate) struct Reader {
 }
 
 impl Model for Reader {
-    ghost use Rattle.script_reader.specs.Progress.{Progress};
+    ghost use Rattle.script_reader.specs.Progress.{ReadingSoFar};
     ghost use Rattle.script_reader.specs.Tally.{IsKept};
 
-    ghost Value = { Progress };
+    ghost Value = { ReadingSoFar };
 
     ghost view = { λ r. record {
       version = r.version;
@@ -64,7 +64,7 @@ impl Reader {
     ghost use Rattle.script_reader.specs.Checks.{innermost, last_comm, open_of, refuses, some_below};
     ghost use Rattle.script_reader.specs.Effects.{effect_of};
     ghost use Rattle.script_reader.specs.Faults.{LineGives};
-    ghost use Rattle.script_reader.specs.Progress.{checked, first_fault, has_fault, is_refused, named, open_section, past, place, register_of, start};
+    ghost use Rattle.script_reader.specs.Progress.{section_or_fault, first_fault, has_fault, is_refused, with_known_name, open_section, past, place, register_of, start};
     ghost use Rattle.script_reader.specs.Settled.{HasCommsTo, IsNamed};
     ghost use Rattle.script_reader.specs.Reading.{script_of};
     ghost use Rattle.script_reader.specs.Script.{has_rank};
@@ -242,7 +242,7 @@ impl Reader {
 
     /// The section of a statement behind the lines so far, or its first fault.
     fn checked(&self, effect: &Effect) -> Result<Who, FaultKind>
-        ensures same { result ≡ checked self.now effect.now }
+        ensures same { result ≡ section_or_fault self.now effect.now }
         ensures passed { OnOk result (first_fault self.now effect.now ≡ None) }
         ensures opened { IfOk result (λ who. self.now.section ≡ Some who) }
     {
@@ -259,7 +259,7 @@ impl Reader {
     pub(crate) fn register(&mut self, name: Name) -> Result<u8, AllocError>
         requires { length self.old.names ≤ most_names + 1 }
         ensures gives { IfOk result (λ reg. reg ≡ register_of self.old.names name) }
-        ensures named { OnOk result (self.new ≡ named self.old name) }
+        ensures named { OnOk result (self.new ≡ with_known_name self.old name) }
         ensures within { IfOk result (λ reg. reg < length self.new.names) }
         ensures kept { OnOk result (length self.old.names ≤ length self.new.names) }
         ensures more { OnOk result (length self.new.names ≤ length self.old.names + 1) }
@@ -277,7 +277,7 @@ impl Reader {
         ensures gives { IfOk result (λ pair. pair ≡ register_pair self.old dst src) }
         ensures dst { IfOk result (λ pair. pair.dst < length self.new.names) }
         ensures src { IfOk result (λ pair. pair.src < length self.new.names) }
-        ensures named { OnOk result (self.new ≡ named (named self.old dst) src) }
+        ensures named { OnOk result (self.new ≡ with_known_name (with_known_name self.old dst) src) }
     {
         let dst = self.register(dst)?;
         let src = self.register(src)?;

@@ -1,7 +1,7 @@
 //! The repeats that are open.
 
 ghost use Rattle.std.specs.Prelude.{◌≡◌, false};
-ghost use Rattle.script_reader.specs.Checks.{innermost, is_stray, is_too_deep, opened, turns_in, turns_too_often};
+ghost use Rattle.script_reader.specs.Checks.{innermost, is_stray, is_too_deep, repeats_after, turns_in, turns_too_often};
 
 use crate::effect::Nesting;
 use crate::tally::MOST_OPERATIONS;
@@ -71,7 +71,7 @@ pub(crate) fn turns_too_often(turns: u32, nesting: Nesting) -> bool
 pub(crate) fn note_repeat(repeats: &mut ArrayVec<Open, MOST_OPEN>, nesting: Nesting, place: u32)
     requires flat { is_too_deep repeats.old.items nesting ≡ false }
     requires turning { turns_too_often (turns_in repeats.old.items) nesting ≡ false }
-    ensures { repeats.new.items ≡ opened nesting place repeats.old.items }
+    ensures { repeats.new.items ≡ repeats_after nesting place repeats.old.items }
 {
     match nesting {
         Nesting::Opens(times) => {

@@ -40,13 +40,13 @@ impl Model for Run {
     ghost use Rattle.std.specs.Prelude.{◌≡◌, []};
     ghost use Rattle.scc_base.specs.Setups.{SetupView};
     ghost use Rattle.scc_base.specs.declared.layouts.Layout.TheVariants.{LineFlags};
-    ghost use Rattle.script_reader.specs.Run.{IsRun};
+    ghost use Rattle.script_reader.specs.Run.{IsRunSetup};
 
     ghost Value = { SetupView };
 
     ghost view = { λ r. record { nue = r.nue; layout = LineFlags; hosts = []; comms = r.comms } };
 
-    ghost invariant = { λ r. IsRun r.nue r.comms r.setup };
+    ghost invariant = { λ r. IsRunSetup r.nue r.comms r.setup };
 }
 
 impl Run {
@@ -55,7 +55,7 @@ impl Run {
     ghost use Rattle.scc_base.specs.declared.layouts.Layout.TheVariants.{LineFlags};
     ghost use Rattle.scc_base.specs.declared.communicators.CommRule.TheVariants.{Absent};
     ghost use Rattle.groups.specs.declared.collectives.Coll.TheVariants.{Bcast, Reduce, Allreduce};
-    ghost use Rattle.script_reader.specs.Checks.{has_place, is_at, is_known, is_past_group, of_no_bytes, steps_in};
+    ghost use Rattle.script_reader.specs.Checks.{has_place, is_at_place, is_known, is_past_group, of_no_bytes, steps_in};
 
     pub(crate) fn new(nue: u8, comms: [CommRule; 16]) -> Run
         requires some { 1 ≤ nue }
@@ -109,7 +109,7 @@ impl Run {
     /// Whether the rank is known to be at this place of its group.
     pub(crate) fn is_at(&self, comm: u8, rank: u8, place: u8) -> bool
         requires { rank < self.now.nue }
-        ensures { result ≡ is_at self.now comm rank place }
+        ensures { result ≡ is_at_place self.now comm rank place }
     {
         self.is_known(comm) && self.setup.place(comm, Rank::of(rank)) == place
     }

@@ -2,7 +2,7 @@
 
 ghost use Rattle.std.specs.Prelude.{◌≡◌, map};
 ghost use Rattle.script_reader.specs.Faults.{LineGives};
-ghost use Rattle.script_reader.specs.Said.{dash_of, ranks_said, alone, group_said, local_said, local_word, rcce_said, register_said, repeat_said, said_of, section_said, span_said, ue_said};
+ghost use Rattle.script_reader.specs.Said.{dash_of, ranks_said, one_word_said, group_said, local_said, local_word, rcce_said, register_said, repeat_said, said_of, section_said, span_said, ue_said};
 
 use crate::fault::{FaultKind, LineStop};
 use crate::name::Name;
@@ -151,7 +151,7 @@ pub(crate) enum Collective {
 
 /// A line of one word.
 fn alone(said: Said, words: &[&[u8]]) -> Result<Said, FaultKind>
-    ensures { result ≡ alone said (map (λ word. word.now) words.now) }
+    ensures { result ≡ one_word_said said (map (λ word. word.now) words.now) }
 {
     match words {
         [] => Ok(said),

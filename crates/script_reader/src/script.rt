@@ -219,10 +219,10 @@ impl Scripts {
     ghost use Rattle.scc_base.specs.Communicators.{AreRules};
     ghost use Rattle.scc_base.specs.Setups.{AreApart};
     ghost use Rattle.script_reader.specs.Acceptance.{ForEachRun, IsFitting, IsPostable, IsReadable, groups_of, length_before, length_of};
-    ghost use Rattle.script_reader.specs.Checks.{open_of, operations, printed};
+    ghost use Rattle.script_reader.specs.Checks.{open_of, operations, bytes_printed};
     ghost use Rattle.script_reader.specs.Effects.{effect_of};
     ghost use Rattle.script_reader.specs.Script.{rules_of};
-    ghost use Rattle.script_reader.specs.Settled.{ArePassed, IsAccepted, IsNamed, IsSettled, IsWhole};
+    ghost use Rattle.script_reader.specs.Settled.{ArePassed, IsAccepted, IsNamed, IsSettled, IsWholeScript};
     ghost use Rattle.std.specs.Prelude.{◌≡◌, ◌<◌, ◌≤◌, ℕ, All, [], length, reverse, slice_get, slice_index_or, take};
     ghost use Rattle.scc_base.specs.Heads.{most_message};
     ghost use Rattle.script_reader.specs.Limits.{most_open, most_operations, most_printed};
@@ -283,7 +283,7 @@ impl Scripts {
     pub fn acceptance_law(&self)
         ensures accepted { ArePassed self.now.nue (reverse self.now.items) }
         // All that is true of each script that was read.
-        ensures whole { IsWhole self.now.nue self.now.items }
+        ensures whole { IsWholeScript self.now.nue self.now.items }
         // A message has another rank of the run, a communicator that is used has a rule, a root is a place of the group.
         ensures settled { All (IsSettled self.now.nue (rules_of self.now.items)) self.now.items }
         // A register that is read has been set by the rank in an earlier line.
@@ -303,7 +303,7 @@ impl Scripts {
     pub fn limits_law(&self)
         ensures short { (rank reg len : ℕ) → length_of self.now rank reg ≡ Some len → len ≤ most_message }
         ensures worked { (rank : ℕ) → rank < self.now.nue → operations self.now.nue (reverse self.now.items) rank ≤ most_operations }
-        ensures printed { (rank : ℕ) → rank < self.now.nue → printed self.now.nue (reverse self.now.items) rank ≤ most_printed }
+        ensures printed { (rank : ℕ) → rank < self.now.nue → bytes_printed self.now.nue (reverse self.now.items) rank ≤ most_printed }
         ensures named { All (λ item. IsNamed (length self.now.names) (effect_of item.stmt)) self.now.items }
         // Before each statement, and at the end.
         ensures shallow { (place : ℕ) → length (open_of (reverse (take place self.now.items))) ≤ most_open }

@@ -2,8 +2,8 @@
 
 ghost use Rattle.std.specs.Prelude.{◌≡◌, ◌<◌, ◌≤◌, IfOk, MatchResult, length, OnOk};
 ghost use Rattle.script_reader.specs.Faults.{LineGives};
-ghost use Rattle.script_reader.specs.Progress.{after, after_group, after_local, after_message, after_section, peer_in, rank_said, rule_said, small};
-ghost use Rattle.script_reader.specs.Tally.{IsParted, IsUpTo, IsWithin};
+ghost use Rattle.script_reader.specs.Progress.{after_script_line, after_group, after_local, after_message, after_section, peer_in, rank_said, rule_said, small};
+ghost use Rattle.script_reader.specs.Tally.{IsParted, IsUpTo, IsPeerWithin};
 ghost use Rattle.script_reader.specs.declared.said.Collective.TheVariants.{Allreduce, Bcast, Reduce, Split};
 ghost use Rattle.script_reader.specs.declared.said.Section.TheVariants.{Span};
 ghost use Rattle.script_reader.specs.Limits.{most_names};
@@ -33,7 +33,7 @@ fn rank_said(nue: u8, number: u32) -> Result<Rank, FaultKind>
 fn peer_in(nue: u8, peer: PeerSaid) -> Result<Peer, FaultKind>
     requires { nue ≤ 48 }
     ensures same { result ≡ peer_in nue peer }
-    ensures within { IfOk result (IsWithin nue) }
+    ensures within { IfOk result (IsPeerWithin nue) }
 {
     match peer {
         PeerSaid::Abs(rank) => Ok(Peer::Abs(rank_said(nue, rank)?)),
@@ -295,7 +295,7 @@ fn take_group(reader: &mut Reader, line: u32, group: Collective) -> Result<(), L
 pub(crate) fn take(reader: &mut Reader, line: u32, said: Said) -> Result<(), LineStop>
     requires few { length reader.old.names ≤ most_names }
     requires counted { length reader.old.items < line }
-    ensures gives { LineGives (λ _. reader.new) result (after line reader.old said) }
+    ensures gives { LineGives (λ _. reader.new) result (after_script_line line reader.old said) }
     ensures kept { OnOk result (IsUpTo reader.old.version line reader.new) }
 {
     match said {

@@ -38,7 +38,7 @@ pub(crate) struct Tally {
 
 impl Tally {
     ghost use Rattle.std.specs.Prelude.{◌≡◌, ◌<◌};
-    ghost use Rattle.script_reader.specs.Tally.{length_in, noted, split_in, with_length, with_split};
+    ghost use Rattle.script_reader.specs.Tally.{length_in, tally_after, split_in, with_length, with_split};
 
     /// The length of a register, if the rank has set it.
     pub(crate) fn length(&self, reg: u8) -> Option<u64>
@@ -78,7 +78,7 @@ impl Tally {
     /// Counts one more statement of the rank, which runs `turns` times.
     fn note(&mut self, run: &Run, turns: u32, effect: &Effect, rank: u8)
         requires { rank < run.now.nue }
-        ensures { self.new ≡ noted run.now turns effect.now rank self.old }
+        ensures { self.new ≡ tally_after run.now turns effect.now rank self.old }
     {
         let operations = (turns as u64).saturating_mul(cost_of(run, effect.cost, rank) as u64);
         let printed = (turns as u64).saturating_mul(prints(self, effect));

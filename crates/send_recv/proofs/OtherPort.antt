@@ -15,7 +15,7 @@ use Rattle.send_recv.specs.declared.stages.SendStage.{SendStage}
 use Rattle.send_recv.specs.declared.stages.SendStage.TheVariants as sending
 use Rattle.send_recv.specs.Ops.{RecvAt, SendAt, SlotAt}
 use Rattle.send_recv.specs.Turns.{HoldsNone}
-use Rattle.send_recv.specs.Receiving.{RecvStands, IsReceiving, IsAtStage}
+use Rattle.send_recv.specs.Receiving.{RecvStands, IsReceiving, IsAtRecvStage}
 use Rattle.send_recv.specs.Sending.{SlotStands, SendStands, IsSending, IsAtSendStage, IsBeforeRaise, waiting, lines_in_hand}
 use Rattle.send_recv.specs.Calling.{IsBetweenMessages}
 
@@ -26,7 +26,7 @@ module _ (seat : Seat) (m r : Gv) (h : ℕ) where
   slot_at : (rec : Record) (slot : SlotAt) → SlotStands seat rec slot → SlotStands (seat_at seat m r h) rec slot
   slot_at rec slot st = record { to = st.to; seen = st.seen; peers = st.peers }
 
-  receive_stage : (rec : Record) (c : Private) (op : RecvAt) (bytes : List ℕ) (stage : RecvStage) → IsAtStage seat rec c op bytes stage → IsAtStage (seat_at seat m r h) rec c op bytes stage
+  receive_stage : (rec : Record) (c : Private) (op : RecvAt) (bytes : List ℕ) (stage : RecvStage) → IsAtRecvStage seat rec c op bytes stage → IsAtRecvStage (seat_at seat m r h) rec c op bytes stage
   receive_stage rec c op bytes receive.Look at = at
   receive_stage rec c op bytes receive.Header at = at
   receive_stage rec c op bytes receive.Lower at = at

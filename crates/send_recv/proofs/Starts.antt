@@ -22,11 +22,11 @@ use Rattle.send_recv.specs.declared.stages.SendStage.TheVariants as stages
 use Rattle.send_recv.specs.declared.answers.RecvTurn.TheVariants as recv_turn
 use Rattle.send_recv.specs.Chunks.{chunk_count, lines_of_bytes, lines_from}
 use Rattle.send_recv.specs.Ops.{RecvAt, SendAt, SlotAt, new_receive, new_send, empty_slot, slot_left, slot_left_by}
-use Rattle.send_recv.specs.Receiving.{RecvStands, RecvTurned, IsReceiving, IsAtStage, recv_left}
+use Rattle.send_recv.specs.Receiving.{RecvStands, RecvTurned, IsReceiving, IsAtRecvStage, recv_left}
 use Rattle.send_recv.specs.Sending.{SlotStands, SlotTurned, SendStands, SendTurned, IsSending, IsAtSendStage, was_answered, send_left, of_chunk}
 use Rattle.send_recv.specs.Calling.{IsBetweenMessages, Received, RecvDiffers, FoundUnset, Sent}
 use Rattle.send_recv.specs.Turns.{HoldsNone, IsSamePost, KeepsAllButMessages}
-use Rattle.send_recv.specs.Ranks.{receiving, sending, with_slot, with_bytes}
+use Rattle.send_recv.specs.Ranks.{receiving, sending, holding_slot, with_bytes}
 use Rattle.send_recv.proofs.Receiving.LookTurn.{holds_kept}
 
 some_chunk : (layout : Layout) (len : ℕ) → 0 < chunk_count (chunk_size layout) len
@@ -94,7 +94,7 @@ free_after_test free r = record {
   slot_stands = slot_after r.events r.did r.at_rest.post free.slot_stands;
 }
 
-pub free_after_send : {s t : Sight} {c d : Private} {op : SendAt} {slot after : SlotAt} {bytes : List ℕ} → SendStands s c op slot bytes → Sent (sending s c op slot bytes) (with_slot t d after) → IsBetweenMessages t d after
+pub free_after_send : {s t : Sight} {c d : Private} {op : SendAt} {slot after : SlotAt} {bytes : List ℕ} → SendStands s c op slot bytes → Sent (sending s c op slot bytes) (holding_slot t d after) → IsBetweenMessages t d after
 free_after_send {s} {t} st r = record {
   between = record { stage = r.stage; empty = r.empty };
   hands = hands_after r.events r.did r.rest st.hands;
@@ -121,10 +121,10 @@ sent_at : (seat : Seat) (rec : Record) (c : Private) (op : SendAt) (slot : SlotA
 sent_at seat rec c op slot bytes is st = subst (λ (x : SendStage). IsAtSendStage seat rec c op bytes x) is st.at
 
 received_at : (seat : Seat) (rec : Record) (c : Private) (op : RecvAt) (bytes : List ℕ) → op.stage ≡ receive.Finished → IsReceiving seat rec c op bytes → rec.stage ≡ Idle
-received_at seat rec c op bytes is st = subst (λ (x : RecvStage). IsAtStage seat rec c op bytes x) is st.at
+received_at seat rec c op bytes is st = subst (λ (x : RecvStage). IsAtRecvStage seat rec c op bytes x) is st.at
 
 untaken_at : (seat : Seat) (rec : Record) (c : Private) (op : RecvAt) (bytes : List ℕ) → op.stage ≡ receive.Header → IsReceiving seat rec c op bytes → rec.stage ≡ Idle
-untaken_at seat rec c op bytes is st = (subst (λ (x : RecvStage). IsAtStage seat rec c op bytes x) is st.at).1
+untaken_at seat rec c op bytes is st = (subst (λ (x : RecvStage). IsAtRecvStage seat rec c op bytes x) is st.at).1
 
 pub free_after_sent : {s t : Sight} {c d : Private} {op now : SendAt} {slot after : SlotAt} {bytes : List ℕ} → SendTurned (sending s c op slot bytes) (sending t d now after bytes) turn.Done
     → SendStands t d now after bytes → IsBetweenMessages t d after
@@ -151,7 +151,7 @@ free_after_mismatch {t = t} {d = d} {now = now} {after = after} slot turned st =
   slot_stands = slot_after turned.events turned.did turned.post slot;
 }
 
-pub free_after_slot : {s t : Sight} {c d : Private} {slot now : SlotAt} {answer : Turn} → IsBetweenMessages s c slot → SlotTurned (with_slot s c slot) (with_slot t d now) answer
+pub free_after_slot : {s t : Sight} {c d : Private} {slot now : SlotAt} {answer : Turn} → IsBetweenMessages s c slot → SlotTurned (holding_slot s c slot) (holding_slot t d now) answer
     → SlotStands t.seat (record_in t) now → IsBetweenMessages t d now
 free_after_slot free turned st = record {
   between = record { stage = turned.stage ∙ free.between.stage; empty = turned.buffer };

@@ -44,5 +44,5 @@ pub record SlotHolder : Type 0 where
   pub slot : SlotAt
 
 -- a rank with the slot of its posted message
-abbrev pub with_slot : Sight → Private → SlotAt → SlotHolder
-with_slot sight core slot = record { sight = sight; core = core; slot = slot }
+abbrev pub holding_slot : Sight → Private → SlotAt → SlotHolder
+holding_slot sight core slot = record { sight = sight; core = core; slot = slot }

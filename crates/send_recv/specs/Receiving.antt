@@ -13,7 +13,7 @@ use Rattle.scc_base.specs.declared.layouts.Layout.TheVariants.{LineFlags, BitFla
 use Rattle.scc_base.specs.declared.events.Event.{Event}
 use Rattle.scc_base.specs.declared.events.Spot.{Spot}
 use Rattle.scc_base.specs.declared.events.Spot.TheVariants.{Register}
-use Rattle.scc_proto.specs.Messages.{Notes, noted, has_all, byte_at, head_of, Progress}
+use Rattle.scc_proto.specs.Messages.{Notes, noted_word, has_all, byte_at, head_of, Progress}
 use Rattle.scc_proto.specs.Resting.{is_resting}
 use Rattle.scc_proto.specs.Stages.{Stage, Idle, Between, Taking, Record}
 use Rattle.scc_proto.specs.Permission.{says_head}
@@ -31,7 +31,7 @@ use Rattle.send_recv.specs.Ops.{RecvAt, is_received}
 use Rattle.send_recv.specs.Ranks.{Receiver}
 use Rattle.sync_flags.specs.Tries.{Tried, tries_at, changing_after}
 use Rattle.send_recv.specs.Sights.{chunk_at, layout_at, header_line, chunk_line, LooksFor, Lowers, Raises}
-use Rattle.send_recv.specs.Steps.{flag_spot, cleared, before_line, goes_on}
+use Rattle.send_recv.specs.Steps.{flag_spot, with_empty_cache, before_line, goes_on}
 use Rattle.send_recv.specs.Tries.{aim_of, aim_at}
 use Rattle.send_recv.specs.Turns.{HoldsNone, IsSamePost, KeepsAllButMessages, IsAtRest, OnlyTries, is_no_draft, LastHeld, LoadsLines}
 
@@ -57,7 +57,7 @@ pub record IsRead (size : ℕ) (op : RecvAt) (bytes : List ℕ) (chunk : Notes) 
 -- a cached line of the sender's chunk buffer has the words that the record has noted
 abbrev pub IsNotedLine : Layout → ℕ → Notes → LineAt → List ℕ → Type 0
 IsNotedLine layout core chunk line words = line.core ≡ core → first_chunk layout ≤ line.line → line.line < first_heap
-    → (k : ℕ) → k < 4 → noted chunk (4 * (line.line - first_chunk layout) + k) ≡ Some (slice_index words k)
+    → (k : ℕ) → k < 4 → noted_word chunk (4 * (line.line - first_chunk layout) + k) ≡ Some (slice_index words k)
 
 -- each of these cached lines that is one of the sender's chunk buffer has the words that the record has noted
 abbrev pub AreNoted : Layout → ℕ → Notes → List Entry → Type 0
@@ -74,18 +74,18 @@ pub record IsTakingLines (size : ℕ) (rec : Record) (op : RecvAt) (bytes : List
   pub read : IsRead size op bytes chunk lines
 
 -- what the record, the cache and the caller's bytes are at each stage
-abbrev pub IsAtStage : Seat → Record → Private → RecvAt → List ℕ → RecvStage → Type 0
-IsAtStage seat rec c op bytes Look = rec.stage ≡ between (chunk_of seat.setup) op bytes
-IsAtStage seat rec c op bytes Header = (op.chunk ≡ 0) × (rec.stage ≡ Idle) × (header : Notes) × (rec.notes op.from ≡ Some header)
-IsAtStage seat rec c op bytes Lower =
+abbrev pub IsAtRecvStage : Seat → Record → Private → RecvAt → List ℕ → RecvStage → Type 0
+IsAtRecvStage seat rec c op bytes Look = rec.stage ≡ between (chunk_of seat.setup) op bytes
+IsAtRecvStage seat rec c op bytes Header = (op.chunk ≡ 0) × (rec.stage ≡ Idle) × (header : Notes) × (rec.notes op.from ≡ Some header)
+IsAtRecvStage seat rec c op bytes Lower =
     (rec.stage ≡ between (chunk_of seat.setup) op bytes) × (header : Notes) × (rec.notes op.from ≡ Some header)
     × (op.chunk ≡ 0 → SaysHead header op.head)
-IsAtStage seat rec c op bytes (Lines i) =
+IsAtRecvStage seat rec c op bytes (Lines i) =
     (i < lines_now (chunk_of seat.setup) op) × (chunk : Notes) × IsTakingLines (chunk_of seat.setup) rec op bytes chunk i
     × (i ≢ 0 → AreNoted seat.setup.layout (host_of seat.setup.hosts op.from) chunk c.lines)
-IsAtStage seat rec c op bytes Raise =
+IsAtRecvStage seat rec c op bytes Raise =
     (chunk : Notes) × IsTakingLines (chunk_of seat.setup) rec op bytes chunk (lines_now (chunk_of seat.setup) op)
-IsAtStage seat rec c op bytes Finished = rec.stage ≡ Idle
+IsAtRecvStage seat rec c op bytes Finished = rec.stage ≡ Idle
 
 -- the record, the cache and the caller's bytes stand where the receive stands
 pub record IsReceiving (seat : Seat) (rec : Record) (c : Private) (op : RecvAt) (bytes : List ℕ) : Type 0 where
@@ -95,7 +95,7 @@ pub record IsReceiving (seat : Seat) (rec : Record) (c : Private) (op : RecvAt) 
   pub empty : c.out ≡ None
   pub hands : HoldsNone seat.setup.layout rec
   pub in_hand : op.chunk < chunk_count (chunk_of seat.setup) op.head.len
-  pub at : IsAtStage seat rec c op bytes op.stage
+  pub at : IsAtRecvStage seat rec c op bytes op.stage
 
 -- a receive fits the record, the cache, the combiner and the buffer at its rank
 abbrev pub RecvStands : Sight → Private → RecvAt → List ℕ → Type 0
@@ -201,7 +201,8 @@ filled_to size op = filled_by (chunk_start size op.chunk) op.head.len op.stage (
 -- change is done where the flag was found set, or its register free
 abbrev pub RecvDoes : Receiver → RecvStage → (done : Bool) → Sight → Private → Type 0
 RecvDoes old Look done t d = LooksFor Sent old.sight old.core old.op.from done t d
-RecvDoes old Header done t d = (words : List ℕ) × ReadsLine old.sight (cleared old.core) (header_line old.sight old.op.from) words t d
+RecvDoes old Header done t d =
+    (words : List ℕ) × ReadsLine old.sight (with_empty_cache old.core) (header_line old.sight old.op.from) words t d
 RecvDoes old Lower done t d = Lowers Sent old.sight old.core old.op.from done t d
 RecvDoes old (Lines i) done t d =
     (words : List ℕ) × ReadsLine old.sight (before_line i old.core) (chunk_line old.sight old.op.from i) words t d

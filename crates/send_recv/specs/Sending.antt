@@ -15,7 +15,7 @@ use Rattle.scc_base.specs.declared.events.Spot.{Spot}
 use Rattle.scc_base.specs.declared.events.Spot.TheVariants.{Register}
 use Rattle.scc_base.specs.declared.events.Turn.{Turn}
 use Rattle.scc_base.specs.declared.events.Turn.TheVariants as turn
-use Rattle.scc_proto.specs.Messages.{Notes, noted, header_word}
+use Rattle.scc_proto.specs.Messages.{Notes, noted_word, header_word}
 use Rattle.scc_proto.specs.Resting.{is_resting}
 use Rattle.scc_proto.specs.Stages.{Part, Filling, Raised, Answered, Stage, Idle, Drafting, Sending, OnItsWay, Record}
 use Rattle.scc_proto.specs.Words.{are_peers}
@@ -29,7 +29,7 @@ use Rattle.send_recv.specs.declared.stages.SendStage.TheVariants.{Header, Lines,
 use Rattle.send_recv.specs.Bytes.{word_of_bytes, words_at}
 use Rattle.send_recv.specs.Chunks.{chunk_count, chunk_start, chunk_lines_of, lines_from}
 use Rattle.send_recv.specs.Ops.{SendAt, SlotAt, is_sent, slot_left}
-use Rattle.send_recv.specs.Ranks.{Sender, SlotHolder, with_slot}
+use Rattle.send_recv.specs.Ranks.{Sender, SlotHolder, holding_slot}
 use Rattle.send_recv.specs.Receiving.{progress_at}
 use Rattle.sync_flags.specs.Tries.{Aim, Tried, vain_from, changing_after}
 use Rattle.send_recv.specs.Sights.{chunk_at, layout_at, own_header_line, own_chunk_line, words_of_line, LooksFor, Raises, Lowers}
@@ -133,12 +133,12 @@ waiting seat op bytes (suc i) =
 
 -- all words of the header are drafted
 abbrev pub HasHeader : Notes → SendAt → Type 0
-HasHeader header op = (k : ℕ) → k < 4 → noted header k ≡ Some (header_word op.head op.posted k)
+HasHeader header op = (k : ℕ) → k < 4 → noted_word header k ≡ Some (header_word op.head op.posted k)
 
 -- the words of the first lines of the chunk in hand are drafted
 abbrev pub HasLines : ℕ → Notes → SendAt → List ℕ → ℕ → Type 0
 HasLines size chunk op bytes lines =
-    (k : ℕ) → k < 4 * lines → noted chunk k ≡ Some (word_of_bytes bytes (chunk_start size op.chunk + 8 * k))
+    (k : ℕ) → k < 4 * lines → noted_word chunk k ≡ Some (word_of_bytes bytes (chunk_start size op.chunk + 8 * k))
 
 -- the header, where it is the first chunk, and these lines of the chunk in hand are drafted
 pub data HasDrafted (size : ℕ) (stage : Stage) (op : SendAt) (bytes : List ℕ) (lines : ℕ) : Type 0 where
@@ -266,7 +266,7 @@ SendMeans old now turn.Done = (now.op.stage ≡ Finished) × (now.slot ≡ slot_
 
 -- what a send does at its start: while the slot is full, the slot's turn; then it writes its header line
 abbrev pub StartDoes : Sender → (slot : Option ℕ) → (done : Bool) → Sight → Private → Type 0
-StartDoes old (Some to) done t d = SlotDoes (with_slot old.sight old.core old.slot) done t d
+StartDoes old (Some to) done t d = SlotDoes (holding_slot old.sight old.core old.slot) done t d
 StartDoes old None done t d = WritesLine old.sight old.core (own_header_line old.sight) (header_words old.op.head old.op.posted) t d
 
 -- what each stage does: it writes one line, stores what waits in the buffer, looks at one flag, changes one flag, or

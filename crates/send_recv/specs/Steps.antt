@@ -22,8 +22,8 @@ use Rattle.send_recv.specs.Chunks.{chunk_lines_of, is_last_chunk}
 use Rattle.send_recv.specs.Ops.{RecvAt, SendAt, SlotAt}
 
 -- a core with its cache emptied
-abbrev pub cleared : Private → Private
-cleared c = record c { lines = [] }
+abbrev pub with_empty_cache : Private → Private
+with_empty_cache c = record c { lines = [] }
 
 -- the core of the own rank
 abbrev pub own_core : Seat → ℕ
@@ -42,12 +42,12 @@ abbrev pub flag_spot : ℕ → FlagPlace → Spot
 flag_spot core flag = spot_of_flag (flag_word core flag) flag.bit
 
 -- a line of the buffer of a rank
-abbrev pub line_at : Seat → ℕ → ℕ → LineAt
-line_at seat j line = record { core = core_of seat j; line = line }
+abbrev pub line_of_rank : Seat → ℕ → ℕ → LineAt
+line_of_rank seat j line = record { core = core_of seat j; line = line }
 
 -- the head that a header line says
-abbrev pub head_said : List ℕ → MessageHead
-head_said words = record { kind = slice_index words 0; comm = slice_index words 1; len = slice_index words 2 }
+abbrev pub head_in_line : List ℕ → MessageHead
+head_in_line words = record { kind = slice_index words 0; comm = slice_index words 1; len = slice_index words 2 }
 
 -- whether two heads are one
 abbrev pub is_same_head : MessageHead → MessageHead → Bool
@@ -94,12 +94,12 @@ raise_answer size gone spot op =
 
 -- the header line was read: it says the asked head, or another one
 pub data HeadRead (words : List ℕ) (op now : RecvAt) (answer : RecvTurn) : Type 0 where
-  Same : head_said words ≡ op.head → now ≡ record op { stage = receive.Lower } → answer ≡ recv_turn.Moved → HeadRead words op now answer
-  Differs : head_said words ≢ op.head → now ≡ op → answer ≡ recv_turn.Mismatch (head_said words) → HeadRead words op now answer
+  Same : head_in_line words ≡ op.head → now ≡ record op { stage = receive.Lower } → answer ≡ recv_turn.Moved → HeadRead words op now answer
+  Differs : head_in_line words ≢ op.head → now ≡ op → answer ≡ recv_turn.Mismatch (head_in_line words) → HeadRead words op now answer
 
 -- the cache from which a line of a chunk is read: it is emptied before the first line
 abbrev pub before_line : ℕ → Private → Private
-before_line line c = if line == 0 then cleared c else c
+before_line line c = if line == 0 then with_empty_cache c else c
 
 -- ---- a send and a slot
 

@@ -14,7 +14,7 @@ use Rattle.scc_base.specs.declared.events.Turn.TheVariants.{Waiting}
 use Rattle.scc_base.specs.Setups.{SetupView}
 use Rattle.scc_proto.specs.Stages.{OnItsWay, FlagWords, Record}
 use Rattle.scc_proto.specs.Drafts.{is_draft}
-use Rattle.line_cache.specs.Lines.{held}
+use Rattle.line_cache.specs.Lines.{cached_words}
 use Rattle.put_get.specs.Accesses.{loads_of, stores_of}
 use Rattle.put_get.specs.Cores.{Private}
 use Rattle.put_get.specs.Transfers.{load_count}
@@ -74,7 +74,7 @@ pub data LastHeld (es : List Event) (before : ℕ) (d : Private) : Type 0 where
   NoLoad : load_count es ≡ 0 → LastHeld es before d
   Last : (front : List Event) (line : LineAt) (words : List ℕ) (behind : List Event)
       → es ≡ front ++ (loads_of line words ++ behind) → load_count behind ≡ 0
-      → (d.evictions ≡ before → held d.lines line ≡ Some (stored_since line words behind)) → LastHeld es before d
+      → (d.evictions ≡ before → cached_words d.lines line ≡ Some (stored_since line words behind)) → LastHeld es before d
 
 -- the event is no store of a header or chunk word
 abbrev pub is_no_draft : SetupView → Event → Bool

@@ -3,7 +3,7 @@
 ghost use Rattle.std.specs.Prelude.{◌≡◌, ◌≤◌};
 ghost use Rattle.send_recv.specs.Sending.{SendStands};
 ghost use Rattle.send_recv.specs.Calling.{SendEnds};
-ghost use Rattle.send_recv.specs.Ranks.{sending, with_slot};
+ghost use Rattle.send_recv.specs.Ranks.{sending, holding_slot};
 
 use crate::sends::SendOp;
 use crate::slots::Slot;
@@ -31,7 +31,7 @@ pub fn send<V: Evict, P: Port>(
     requires some { 1 ≤ polls }
     requires stands { SendStands (P.sight port.old) core.old op slot.old bytes.now }
     ensures ends { SendEnds (sending (P.sight port.old) core.old op slot.old bytes.now) polls
-        (with_slot (P.sight port.new) core.new slot.new) result }
+        (holding_slot (P.sight port.new) core.new slot.new) result }
 {
     let mut op = op;
     let mut vain: u32 = 0;

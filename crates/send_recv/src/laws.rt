@@ -19,7 +19,7 @@ ghost use Rattle.send_recv.specs.Receiving.{RecvStands, RecvTurned, recv_left};
 ghost use Rattle.send_recv.specs.Turns.{HoldsNone};
 ghost use Rattle.send_recv.specs.Sending.{SlotStands, SlotTurned, SendStands, SendTurned, send_left};
 ghost use Rattle.send_recv.specs.Calling.{IsBetweenMessages, Received, RecvStalled, RecvDiffers, FoundUnset, Sent};
-ghost use Rattle.send_recv.specs.Ranks.{receiving, sending, with_slot, with_bytes};
+ghost use Rattle.send_recv.specs.Ranks.{receiving, sending, holding_slot, with_bytes};
 
 /// A new receive, a new send and a new post have at most 4 + 5c + l turns left that do not wait, for c chunks
 /// and l lines of chunks; a slot has at most two.
@@ -56,7 +56,7 @@ pub fn ends_law()
     ensures test { (s t : Sight) (c d : Private) (slot : SlotAt) (aim : Aim) (op : RecvAt) (old bytes : List ℕ) → IsBetweenMessages s c slot
         → FoundUnset aim (receiving s c op old) (with_bytes t d bytes) → IsBetweenMessages t d slot }
     ensures send { (s t : Sight) (c d : Private) (op : SendAt) (slot after : SlotAt) (bytes : List ℕ) → SendStands s c op slot bytes
-        → Sent (sending s c op slot bytes) (with_slot t d after) → IsBetweenMessages t d after }
+        → Sent (sending s c op slot bytes) (holding_slot t d after) → IsBetweenMessages t d after }
 {}
 
 /// A slot stands after a receive that gave up as it stood before.
@@ -98,6 +98,6 @@ pub fn done_law()
         → SendTurned (sending s c op slot bytes) (sending t d now after bytes) turn.Done
         → SendStands t d now after bytes → IsBetweenMessages t d after }
     ensures slot { (s t : Sight) (c d : Private) (slot now : SlotAt) (answer : Turn) → IsBetweenMessages s c slot
-        → SlotTurned (with_slot s c slot) (with_slot t d now) answer
+        → SlotTurned (holding_slot s c slot) (holding_slot t d now) answer
         → SlotStands t.seat (record_in t) now → IsBetweenMessages t d now }
 {}

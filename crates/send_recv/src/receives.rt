@@ -43,7 +43,7 @@ impl RecvOp {
     ghost use Rattle.send_recv.specs.Receiving.{RecvStands, RecvTurned, recv_waits};
     ghost use Rattle.scc_base.specs.declared.signals.Signal.TheVariants.{Sent, Ready};
     ghost use Rattle.send_recv.specs.Sights.{chunk_at, IsSeatPeer, first_byte, header_line, chunk_line, LooksFor, Lowers, Raises, MayLower, MayRaise, signal_spot, own_register, register_spot};
-    ghost use Rattle.send_recv.specs.Steps.{cleared, goes_on, recv_or_waits, after_look, after_lower, after_line, after_raise, raise_answer, HeadRead, before_line};
+    ghost use Rattle.send_recv.specs.Steps.{with_empty_cache, goes_on, recv_or_waits, after_look, after_lower, after_line, after_raise, raise_answer, HeadRead, before_line};
     ghost use Rattle.send_recv.specs.Ranks.{receiving};
     ghost use Rattle.send_recv.specs.Stretches.{ReadLines, is_reading};
     ghost use Rattle.scc_base.specs.declared.events.Spot.{Spot};
@@ -94,7 +94,7 @@ impl RecvOp {
         requires empty { core.old.out ≡ None }
         requires seen { (header : Notes) × ((record_in (P.sight port.old)).notes self.old.from ≡ Some header) }
         ensures reads { (words : List ℕ)
-            × ReadsLine (P.sight port.old) (cleared core.old) (header_line (P.sight port.old) self.old.from) words
+            × ReadsLine (P.sight port.old) (with_empty_cache core.old) (header_line (P.sight port.old) self.old.from) words
             (P.sight port.new) core.new
             × HeadRead words self.old self.new result }
         ensures sound { IsSoundPort (P.sight port.new) }

@@ -35,7 +35,7 @@ impl Slot {
     ghost use Rattle.send_recv.specs.Sights.{LooksFor, Lowers, MayLower, signal_spot, own_register};
     ghost use Rattle.send_recv.specs.Steps.{moves_on, moved_or_waits, slot_seen, slot_lowered};
     ghost use Rattle.send_recv.specs.Turns.{HoldsNone, waits_at};
-    ghost use Rattle.send_recv.specs.Ranks.{with_slot};
+    ghost use Rattle.send_recv.specs.Ranks.{holding_slot};
 
     /// No message is on its way.
     pub fn new() -> Slot
@@ -99,8 +99,8 @@ impl Slot {
         requires empty { core.old.out ≡ None }
         requires hands { HoldsNone (P.sight port.old).seat.setup.layout (record_in (P.sight port.old)) }
         ensures stands { SlotStands (P.sight port.new).seat (record_in (P.sight port.new)) self.new }
-        ensures turned { SlotTurned (with_slot (P.sight port.old) core.old self.old)
-            (with_slot (P.sight port.new) core.new self.new) result }
+        ensures turned { SlotTurned (holding_slot (P.sight port.old) core.old self.old)
+            (holding_slot (P.sight port.new) core.new self.new) result }
         ensures steps { (spot : Spot) → waits_at result ≡ Some spot → MadeSteps P.stepped (P.sight port.old) (P.sight port.new) }
     {
         known(port);

@@ -16,7 +16,7 @@ use Rattle.sync_flags.proofs.LoopLemmas.{Row, row_moved, row_none, row_waited}
 use Rattle.sync_flags.proofs.RowLemmas.{waited}
 use Rattle.coll_more.specs.Ops.{HasOwn, MoreAt, Participant, data_calls, new_more, taking_part}
 use Rattle.coll_more.specs.Standing.{HasEnded, IsFit, MoreStands}
-use Rattle.coll_more.specs.Turns.{MetOther, MoreTurned, aim_by}
+use Rattle.coll_more.specs.Turns.{MetOther, MoreTurned, stage_aim}
 use Rattle.coll_more.specs.declared.kinds.More.{More}
 use Rattle.coll_more.proofs.EndLemmas.{begins}
 use Rattle.station.specs.Calls.{OnlyMessages}
@@ -35,7 +35,7 @@ collective_begins s a more len src dst free fit =
 -- ---- the turns so far, of which so many at the end were vain in a row
 
 pub record Way (old : Participant) (vain : ℕ) (now : Participant) : Type 0 where
-  pub row : Row (aim_by old.sight.seat now.slot now.op.stage) vain old.sight now.sight
+  pub row : Row (stage_aim old.sight.seat now.slot now.op.stage) vain old.sight now.sight
   pub stands : (base : List DataCall) → MoreStands base old → MoreStands base now
   pub seat : now.sight.seat ≡ old.sight.seat
   pub more : now.op.more ≡ old.op.more
@@ -49,7 +49,7 @@ module _ {old mid now : Participant} {vain : ℕ} {answer : RecvTurn} (way : Way
   same_seat : now.sight.seat ≡ old.sight.seat
   same_seat = seat_kept mid.sight turned.events now.sight turned.did ∙ way.seat
 
-  pub with_row : {n : ℕ} → ((base : List DataCall) → MoreStands base mid → MoreStands base now) → Row (aim_by old.sight.seat now.slot now.op.stage) n old.sight now.sight → Way old n now
+  pub with_row : {n : ℕ} → ((base : List DataCall) → MoreStands base mid → MoreStands base now) → Row (stage_aim old.sight.seat now.slot now.op.stage) n old.sight now.sight → Way old n now
   with_row stands row = record {
     row = row;
     stands = λ base is. stands base (way.stands base is);
@@ -88,11 +88,11 @@ module _ {old mid now : Participant} {vain : ℕ} {answer : RecvTurn} (way : Way
 
 -- a turn that waits makes the row longer by one
 module _ {old mid now : Participant} {vain : ℕ} {spot : Spot} (way : Way old vain mid) (turned : MoreTurned mid now (turn.Waiting spot)) where
-  tried_there : Tried (aim_by old.sight.seat mid.slot mid.op.stage) turned.events (Some spot)
-  tried_there = subst (λ (x : Seat). Tried (aim_by x mid.slot mid.op.stage) turned.events (Some spot)) way.seat turned.tried
+  tried_there : Tried (stage_aim old.sight.seat mid.slot mid.op.stage) turned.events (Some spot)
+  tried_there = subst (λ (x : Seat). Tried (stage_aim x mid.slot mid.op.stage) turned.events (Some spot)) way.seat turned.tried
 
-  aim_stays : aim_by old.sight.seat now.slot now.op.stage ≡ aim_by old.sight.seat mid.slot mid.op.stage
-  aim_stays = λ i. aim_by old.sight.seat (turned.means.0.same_slot i) (turned.means.0.same_op i).stage
+  aim_stays : stage_aim old.sight.seat now.slot now.op.stage ≡ stage_aim old.sight.seat mid.slot mid.op.stage
+  aim_stays = λ i. stage_aim old.sight.seat (turned.means.0.same_slot i) (turned.means.0.same_op i).stage
 
   pub way_waited : ((base : List DataCall) → MoreStands base mid → MoreStands base now) → Way old (vain + 1) now
   way_waited stands = with_row way turned stands
@@ -102,14 +102,14 @@ module _ {old mid now : Participant} {vain : ℕ} {spot : Spot} (way : Way old v
   way_stalls stands polls enough =
       let w = waited tried_there in
       let n : Way old (vain + 1) now = way_waited stands in
-      let looks : aim_by old.sight.seat now.slot now.op.stage ≡ Some w.at = aim_stays ∙ w.is in
+      let looks : stage_aim old.sight.seat now.slot now.op.stage ≡ Some w.at = aim_stays ∙ w.is in
       let many = n.row.tried w.at looks in
       record {
         events = n.row.events;
         did = n.row.did;
         same = (n.more, n.len);
         aim = w.at;
-        looks = ap (λ (x : Seat). aim_by x now.slot now.op.stage) n.seat ∙ looks;
+        looks = ap (λ (x : Seat). stage_aim x now.slot now.op.stage) n.seat ∙ looks;
         at = w.spot_is;
         tried = omega (arith, enough, many);
       }

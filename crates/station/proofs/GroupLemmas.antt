@@ -12,7 +12,7 @@ use Rattle.sync_flags.specs.Tries.{TriedInVain}
 use Rattle.send_recv.specs.Sights.{layout_at}
 use Rattle.send_recv.specs.Tries.{aim_of}
 use Rattle.send_recv.proofs.Loops.RecvLoop.{rest_both, rest_itself}
-use Rattle.groups.specs.Collectives.{IsCallable, comm_of, fold_each, head_of, other_steps, others_of, root_place, root_steps, send_each, steps_of}
+use Rattle.groups.specs.Collectives.{IsCallable, comm_of, fold_each, head_of_kind, other_steps, others_of, root_place, root_steps, send_each, steps_of}
 use Rattle.groups.specs.Folds.{bytes_in as value_bytes}
 use Rattle.groups.specs.declared.collectives.Coll.{Coll}
 use Rattle.groups.specs.declared.collectives.Coll.TheVariants.{Bcast, Reduce, Allreduce}
@@ -20,7 +20,7 @@ use Rattle.groups.specs.declared.collectives.Step.{Step}
 use Rattle.groups.specs.declared.collectives.Step.TheVariants.{Begin, Send, Recv, Fold, Finish}
 use Rattle.std.specs.Prelude.{cond, slice_index}
 use Rattle.station.specs.Calls.{OnlyMessages}
-use Rattle.station.specs.Groups.{AreFit, FoldFits, GroupStart, HasStepped, HasRun, HaveRun, IsFoldable, IsInGroup, SaysWhyGroup, SaysWhyStep, StandsInStep, StepFits, StepLeaves, group_stop_of, in_group_call, in_step, new_group, op_in, part_in, start_at, steps_at}
+use Rattle.station.specs.Groups.{AreFit, FoldFits, GroupStart, HasStepped, HasRunGroup, HaveRun, IsFoldable, IsInGroup, SaysWhyGroup, SaysWhyStep, StandsInStep, StepFits, StepLeaves, group_stop_of, in_group_call, in_step, new_group, op_in, part_in, start_at, steps_at}
 use Rattle.station.specs.Stations.{NoCallOpen, StationAt}
 use Rattle.station.specs.Steps.{Held, GroupPart, StepDoes, StepsDo, part_by}
 use Rattle.station.specs.declared.steps.Folding.{Folding}
@@ -71,18 +71,18 @@ folds_fit how len input held fit = record { same = fit.output_is ∙ sym fit.wor
 
 root_fit : (c : Coll) (folding : Option Folding) (input : List ℕ) (held : Held) (others : List ℕ) → AreFit c folding input held
     → AllFit (part_by true folding input) held (root_steps c others)
-root_fit (Bcast comm root len) folding input held others fit = fit_sends (part_by true folding input) held (head_of kind.Bcast comm len) others (λ to. fit)
+root_fit (Bcast comm root len) folding input held others fit = fit_sends (part_by true folding input) held (head_of_kind kind.Bcast comm len) others (λ to. fit)
 root_fit (Reduce comm root len) (Some how) input held others fit =
     let p = part_by true (Some how) input in (
       fit.input_is ∙ sym fit.output_is,
-      fit_both p held (fold_each (head_of kind.Reduce comm len) others) (Finish ∷ [])
-          (fit_folds p held (head_of kind.Reduce comm len) others (λ from. fit.work_is) (folds_fit how len input held fit)) (tt, tt),
+      fit_both p held (fold_each (head_of_kind kind.Reduce comm len) others) (Finish ∷ [])
+          (fit_folds p held (head_of_kind kind.Reduce comm len) others (λ from. fit.work_is) (folds_fit how len input held fit)) (tt, tt),
     )
 root_fit (Reduce comm root len) None input held others fit = absurd fit
 root_fit (Allreduce comm len) (Some how) input held others fit =
     let p = part_by true (Some how) input in
-    let up = head_of kind.AllUp comm len in
-    let down = head_of kind.AllDown comm len in
+    let up = head_of_kind kind.AllUp comm len in
+    let down = head_of_kind kind.AllDown comm len in
     fit_both p held (Begin ∷ fold_each up others ++ send_each down others) (Finish ∷ [])
     (fit_both p held (Begin ∷ fold_each up others) (send_each down others)
     (fit.input_is ∙ sym fit.output_is, fit_folds p held up others (λ from. fit.work_is) (folds_fit how len input held fit))
@@ -222,13 +222,13 @@ module _ (s t : Sight) (a b : StationAt) (coll : Coll) (folding : Option Folding
       }
 
     -- nothing is left
-    pub all_done : length (steps_of s.seat.setup s.seat.rank coll) ≤ at → HasRun start (in_group_call s a op input held)
+    pub all_done : length (steps_of s.seat.setup s.seat.rank coll) ≤ at → HasRunGroup start (in_group_call s a op input held)
     all_done past = by hand is.stands
       where
         none_left : {A : Type 0} (x : Step) → slice_get steps at ≡ Some x → A
         none_left x found = let within = slice_get_within steps at x found in absurd (omega (arith, within, past))
 
-        by : (h : Hand) → StandsInStep is.before (in_step s a (part_in s.seat op input) held) (slice_get steps at) h → HasRun start (in_group_call s a op input held)
+        by : (h : Hand) → StandsInStep is.before (in_step s a (part_in s.seat op input) held) (slice_get steps at) h → HasRunGroup start (in_group_call s a op input held)
         by Between at_start = record {
           run = record {
             calls = is.run.calls;

@@ -5,7 +5,7 @@ use Rattle.scc_base.specs.Setups.{IsSetup, host_of}
 use Rattle.scc_base.specs.Events.{free_of, load_of, store_of}
 use Rattle.scc_base.specs.declared.events.Event.{Event}
 use Rattle.scc_base.specs.declared.events.Stalled as base
-use Rattle.scc_proto.specs.Tables.{put}
+use Rattle.scc_proto.specs.Tables.{table_with}
 use Rattle.scc_proto.specs.Stages.{FlagWords, Record}
 use Rattle.scc_proto.specs.Permission.{leaves_heap}
 use Rattle.scc_proto.specs.Ports.{Did, Seat, Sight, record_in, record_next, record_on}
@@ -191,8 +191,8 @@ module _ (seat : Seat) (valid : IsSetup seat.setup) (r : ℕ) (lt : r < seat.set
         post = alone.post;
         flips = alone.flips;
         calls = alone.calls;
-        held = λ k. same_or_other (put stored.held core None k ≡ rec.held k) k core
-            (λ test same. ap (λ (x : ℕ). put stored.held core None x) same ∙ put_here stored.held core None ∙ sym (none core) ∙ ap (λ (x : ℕ). rec.held x) (sym same))
+        held = λ k. same_or_other (table_with stored.held core None k ≡ rec.held k) k core
+            (λ test same. ap (λ (x : ℕ). table_with stored.held core None x) same ∙ put_here stored.held core None ∙ sym (none core) ∙ ap (λ (x : ℕ). rec.held x) (sym same))
             (λ test other. put_there stored.held core None k other ∙ alone.held k ∙ put_there rec.held core (Some (record { sent = None; ready = None })) k other);
       })
 

@@ -6,12 +6,12 @@ use Rattle.scc_base.specs.Calls.DataCall.{Send as CallSend, Recv as CallRecv}
 use Rattle.scc_base.specs.Heads.{MessageHead}
 use Rattle.scc_base.specs.declared.kinds.Kind.TheVariants as kind
 use Rattle.scc_proto.specs.Ports.{Seat, Sight, record_in}
-use Rattle.groups.specs.Collectives.{fold_each, head_of, other_steps, root_steps, send_each}
+use Rattle.groups.specs.Collectives.{fold_each, head_of_kind, other_steps, root_steps, send_each}
 use Rattle.groups.specs.Folds.{fold_of, fold_values}
 use Rattle.groups.specs.declared.collectives.Coll.TheVariants.{Bcast, Reduce, Allreduce}
 use Rattle.groups.specs.declared.collectives.Step.{Step}
 use Rattle.groups.specs.declared.collectives.Step.TheVariants.{Begin, Finish}
-use Rattle.station.specs.Groups.{HasRun, in_group_call, new_group, part_in, start_at, steps_at}
+use Rattle.station.specs.Groups.{HasRunGroup, in_group_call, new_group, part_in, start_at, steps_at}
 use Rattle.station.specs.Stations.{StationAt}
 use Rattle.station.specs.declared.steps.GroupOp.{GroupOp}
 use Rattle.station.specs.Reductions.{AllreduceBy, AllreduceDoes, GainsCalls, GroupCall, ReduceBy, ReduceDoes, bcast_by, bcast_calls, group_call, is_root_of, other_ranks, receives_from, root_rank, sends_to}
@@ -83,12 +83,12 @@ pub bcast_does : (root : Bool) (seat : Seat) (comm place len : ℕ) (old new : H
     → (calls ≡ bcast_by root (group_call seat (Bcast comm place len) []) new.output) × (root ≡ true → new ≡ old)
 bcast_does true seat comm place len old new calls did =
     let c = group_call seat (Bcast comm place len) [] in
-    let head = head_of kind.Bcast comm len in
+    let head = head_of_kind kind.Bcast comm len in
     let done = sends_do None [] head (other_ranks c) old new calls did in
     (done.1 ∙ ap (λ (h : Held). sends_to head h.output (other_ranks c)) (sym done.0), λ is. done.0)
 bcast_does false seat comm place len old new calls did =
     let c = group_call seat (Bcast comm place len) [] in
-    let head = head_of kind.Bcast comm len in
+    let head = head_of_kind kind.Bcast comm len in
     let got = did.3 in
     let more = did.4 in
     let kept : new ≡ did.0 = more.4.0 ∙ more.3.0 in
@@ -117,7 +117,7 @@ pub reduce_does : (root : Bool) (how : Folding) (seat : Seat) (comm place len : 
     → ReduceBy root how (group_call seat (Reduce comm place len) input) old new calls
 reduce_does true how seat comm place len input old new calls did =
     let c = group_call seat (Reduce comm place len) input in
-    let head = head_of kind.Reduce comm len in
+    let head = head_of_kind kind.Reduce comm len in
     let two = in_two (part_by true (Some how) input) (Begin ∷ fold_each head (other_ranks c)) (Finish ∷ []) old new calls did in
     let folds = begins_folds how input head (other_ranks c) old two.mid two.first two.one in
     let end = ends (part_by true (Some how) input) two.mid new two.rest two.two in
@@ -136,8 +136,8 @@ pub allreduce_does : (root : Bool) (how : Folding) (seat : Seat) (comm len : ℕ
 allreduce_does true how seat comm len input old new calls did =
     let c = group_call seat (Allreduce comm len) input in
     let p = part_by true (Some how) input in
-    let up = head_of kind.AllUp comm len in
-    let down = head_of kind.AllDown comm len in
+    let up = head_of_kind kind.AllUp comm len in
+    let down = head_of_kind kind.AllDown comm len in
     let both = in_two p (Begin ∷ fold_each up (other_ranks c) ++ send_each down (other_ranks c)) (Finish ∷ []) old new calls did in
     let parts = in_two p (Begin ∷ fold_each up (other_ranks c)) (send_each down (other_ranks c)) old both.mid both.first both.one in
     let folds = begins_folds how input up (other_ranks c) old parts.mid parts.first parts.one in
@@ -157,7 +157,7 @@ allreduce_does true how seat comm len input old new calls did =
     }
 allreduce_does false how seat comm len input old new calls did =
     let c = group_call seat (Allreduce comm len) input in
-    let down = head_of kind.AllDown comm len in
+    let down = head_of_kind kind.AllDown comm len in
     let sent = did.3 in
     let more = did.4 in
     let got = more.3 in
@@ -167,16 +167,16 @@ allreduce_does false how seat comm len input old new calls did =
     let bytes : new.output ≡ got.0 = ap (λ (h : Held). h.output) (kept ∙ got.1) in (
       ap (λ (h : Held). h.work) (kept ∙ got.1 ∙ ap (λ (h : Held). record h { output = got.0 }) sent.0),
       did.5 ∙ (λ i. sent.1 i ++ (more.5 ∙ (λ j. got.2 j ++ rest j)) i)
-          ∙ ap (λ (b : List ℕ). CallSend (root_rank c) (head_of kind.AllUp comm len) input ∷ CallRecv (root_rank c) down b ∷ []) (sym bytes),
+          ∙ ap (λ (b : List ℕ). CallSend (root_rank c) (head_of_kind kind.AllUp comm len) input ∷ CallRecv (root_rank c) down b ∷ []) (sym bytes),
     )
 
 -- ---- at a rank
 
 module _ (s t : Sight) (b : StationAt) (input : List ℕ) (old new : Held) (seat : t.seat ≡ s.seat) where
-  run_at : (op : GroupOp) (run : HasRun (start_at s old) (in_group_call t b op input new)) → StepsDo (part_in s.seat op input) (steps_at s.seat op) old new run.run.calls
+  run_at : (op : GroupOp) (run : HasRunGroup (start_at s old) (in_group_call t b op input new)) → StepsDo (part_in s.seat op input) (steps_at s.seat op) old new run.run.calls
   run_at op run = subst (λ (x : Seat). StepsDo (part_in x op input) (steps_at x op) old new run.run.calls) seat run.run.did
 
-  pub reduced_at : (how : Folding) (comm place len : ℕ) → HasRun (start_at s old) (in_group_call t b (new_group (Reduce comm place len) (Some how)) input new)
+  pub reduced_at : (how : Folding) (comm place len : ℕ) → HasRunGroup (start_at s old) (in_group_call t b (new_group (Reduce comm place len) (Some how)) input new)
       → GainsCalls s t (λ calls. ReduceDoes how (group_call s.seat (Reduce comm place len) input) old new calls)
   reduced_at how comm place len run = (
     run.run.calls,
@@ -185,7 +185,7 @@ module _ (s t : Sight) (b : StationAt) (input : List ℕ) (old new : Held) (seat
         (run_at (new_group (Reduce comm place len) (Some how)) run),
   )
 
-  pub allreduced_at : (how : Folding) (comm len : ℕ) → HasRun (start_at s old) (in_group_call t b (new_group (Allreduce comm len) (Some how)) input new)
+  pub allreduced_at : (how : Folding) (comm len : ℕ) → HasRunGroup (start_at s old) (in_group_call t b (new_group (Allreduce comm len) (Some how)) input new)
       → GainsCalls s t (λ calls. AllreduceDoes how (group_call s.seat (Allreduce comm len) input) old new calls)
   allreduced_at how comm len run = (
     run.run.calls,
@@ -195,7 +195,7 @@ module _ (s t : Sight) (b : StationAt) (input : List ℕ) (old new : Held) (seat
   )
 
 module _ (s t : Sight) (b : StationAt) (old new : Held) (comm place len : ℕ) (seat : t.seat ≡ s.seat)
-    (run : HasRun (start_at s old) (in_group_call t b (new_group (Bcast comm place len) None) [] new)) where
+    (run : HasRunGroup (start_at s old) (in_group_call t b (new_group (Bcast comm place len) None) [] new)) where
   bcast_at : (run.run.calls ≡ bcast_calls (group_call s.seat (Bcast comm place len) []) new.output) × (is_root_of (group_call s.seat (Bcast comm place len) []) ≡ true → new ≡ old)
   bcast_at = bcast_does (is_root_of (group_call s.seat (Bcast comm place len) [])) s.seat comm place len old new run.run.calls
       (run_at s t b [] old new seat (new_group (Bcast comm place len) None) run)

@@ -14,7 +14,7 @@ use Rattle.scc_proto.specs.Messages.{received_messages, sent_messages}
 use Rattle.scc_proto.specs.Ports.{Seat}
 use Rattle.scc_proto.proofs.Legality.LegalMessages.{legal_messages}
 use Rattle.scc_proto.proofs.Tests.{eqb_same}
-use Rattle.groups.specs.Collectives.{head_of}
+use Rattle.groups.specs.Collectives.{head_of_kind}
 use Rattle.groups.specs.declared.collectives.Coll.TheVariants.{Bcast}
 use Rattle.station.specs.Reductions.{HaveTold, bcast_by, call_at_rank, is_root_of, other_ranks, root_rank, sends_to}
 
@@ -43,7 +43,7 @@ member_is nue key r x place same low at =
 module _ (seat : Seat) (comm place len : ℕ) (keys : ℕ → ℕ → ℕ) (calls : ℕ → List DataCall) (slots : ℕ → Option Outgoing) (held : ℕ → List ℕ)
     (legal : IsLegal seat.setup.nue keys calls slots) (told : HaveTold seat (Bcast comm place len) held calls) where
   abbrev head : MessageHead
-  head = head_of kind.Bcast comm len
+  head = head_of_kind kind.Bcast comm len
 
   -- whoever received from a root holds its bytes
   from_root : (r x : ℕ) → r < seat.setup.nue → x < seat.setup.nue → root_rank (call_at_rank seat (Bcast comm place len) r) ≡ x

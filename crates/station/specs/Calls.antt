@@ -5,7 +5,7 @@ use Rattle.scc_base.specs.declared.events.Event.{Event}
 use Rattle.scc_proto.specs.Ports.{Did, Sight, record_in}
 use Rattle.send_recv.specs.Ops.{RecvAt, SendAt, new_receive, new_send}
 use Rattle.send_recv.specs.Turns.{KeepsAllButMessages}
-use Rattle.send_recv.specs.Ranks.{BufferHolder, Receiver, Sender, SlotHolder, receiving, sending, with_bytes, with_slot}
+use Rattle.send_recv.specs.Ranks.{BufferHolder, Receiver, Sender, SlotHolder, receiving, sending, with_bytes, holding_slot}
 use Rattle.barrier.specs.Stages.{BarAt, Member, ParityHolder, meeting, new_barrier, with_parity}
 use Rattle.station.specs.Stations.{StationAt}
 
@@ -23,7 +23,7 @@ at_post s a to bytes = in_send s a (new_send to (plain_head (length bytes)) true
 
 -- a rank behind a send, a post or a turn of the slot
 abbrev pub behind_send : Sight → StationAt → SlotHolder
-behind_send s a = with_slot s a.core a.slot
+behind_send s a = holding_slot s a.core a.slot
 
 -- a rank in a receive, with what its buffer holds
 abbrev pub in_receive : Sight → StationAt → RecvAt → List ℕ → Receiver

@@ -9,7 +9,7 @@ use Rattle.sync_flags.specs.Tries.{Aim, TriedInVain, spot_of}
 use Rattle.barrier.specs.Flags.{IsParityOf}
 use Rattle.coll_more.specs.Ops.{MoreAt, Participant, taking_part}
 use Rattle.coll_more.specs.Standing.{MoreStands}
-use Rattle.coll_more.specs.Turns.{MetOther, aim_by}
+use Rattle.coll_more.specs.Turns.{MetOther, stage_aim}
 use Rattle.station.specs.Stations.{HoldsNoRegister, StationAt}
 use Rattle.station.specs.declared.stops.CollStop.{CollStop}
 use Rattle.station.specs.declared.stops.CollStop.TheVariants.{Stalled, Mismatch}
@@ -30,7 +30,7 @@ pub record MoreStalled (old : Participant) (polls : ℕ) (now : Participant) (sp
   pub did : Did old.sight events now.sight
   pub same : (now.op.more ≡ old.op.more) × (now.op.len ≡ old.op.len)
   pub aim : Aim
-  pub looks : aim_by now.sight.seat now.slot now.op.stage ≡ Some aim
+  pub looks : stage_aim now.sight.seat now.slot now.op.stage ≡ Some aim
   pub at : spot ≡ spot_of aim
   pub tried : TriedInVain aim polls events
 

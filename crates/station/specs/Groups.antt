@@ -14,7 +14,7 @@ use Rattle.send_recv.specs.Sending.{send_spot}
 use Rattle.send_recv.specs.Sights.{chunk_at, layout_at}
 use Rattle.send_recv.specs.Tries.{aim_of}
 use Rattle.groups.specs.Collectives.{IsCallable, comm_of, root_place, steps_of}
-use Rattle.groups.specs.Folds.{Fits, bytes_in as value_bytes}
+use Rattle.groups.specs.Folds.{CanFold, bytes_in as value_bytes}
 use Rattle.groups.specs.declared.collectives.Coll.{Coll}
 use Rattle.groups.specs.declared.collectives.Coll.TheVariants.{Bcast, Reduce, Allreduce}
 use Rattle.groups.specs.declared.collectives.Step.{Step}
@@ -38,7 +38,7 @@ use Rattle.station.specs.declared.stops.GroupStop.TheVariants.{Stalled, Mismatch
 -- what a fold asks of the buffers, where the call folds
 abbrev pub FoldFits : Option Folding → (output work : List ℕ) → Type 0
 FoldFits None output work = Unit {0}
-FoldFits (Some how) output work = Fits how.ty output work
+FoldFits (Some how) output work = CanFold how.ty output work
 
 -- what a step asks of the buffers
 abbrev pub StepFits : GroupPart → Held → Step → Type 0
@@ -215,7 +215,7 @@ pub record IsInGroup (start : GroupStart) (r : GroupRank) : Type 0 where
       (slice_get (steps_at r.sight.seat r.op) r.op.at) r.op.hand
 
 -- a call that began at `start` is at its end: all its steps are done, and the rank is between two calls
-pub record HasRun (start : GroupStart) (r : GroupRank) : Type 0 where
+pub record HasRunGroup (start : GroupStart) (r : GroupRank) : Type 0 where
   pub run : HaveRun start (steps_at r.sight.seat r.op) r r.held
   pub free : NoCallOpen r.sight r.station
 

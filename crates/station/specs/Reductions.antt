@@ -7,7 +7,7 @@ use Rattle.scc_base.specs.Heads.{MessageHead}
 use Rattle.scc_base.specs.Setups.{members_of, place_of}
 use Rattle.scc_base.specs.declared.kinds.Kind.TheVariants as kind
 use Rattle.scc_proto.specs.Ports.{Seat, Sight, record_in}
-use Rattle.groups.specs.Collectives.{comm_of, head_of, len_of, others_of, root_place}
+use Rattle.groups.specs.Collectives.{comm_of, head_of_kind, len_of, others_of, root_place}
 use Rattle.groups.specs.Folds.{fold_of}
 use Rattle.groups.specs.declared.collectives.Coll.{Coll}
 use Rattle.station.specs.Steps.{Held}
@@ -51,8 +51,8 @@ GainsCalls s t Holds = (calls : List DataCall) × ((record_in t).calls ≡ (reco
 
 -- the messages of a broadcast of these bytes, at the root and at another rank
 abbrev pub bcast_by : Bool → GroupCall → List ℕ → List DataCall
-bcast_by true c bytes = sends_to (head_of kind.Bcast (comm_of c.coll) (len_of c.coll)) bytes (other_ranks c)
-bcast_by false c bytes = CallRecv (root_rank c) (head_of kind.Bcast (comm_of c.coll) (len_of c.coll)) bytes ∷ []
+bcast_by true c bytes = sends_to (head_of_kind kind.Bcast (comm_of c.coll) (len_of c.coll)) bytes (other_ranks c)
+bcast_by false c bytes = CallRecv (root_rank c) (head_of_kind kind.Bcast (comm_of c.coll) (len_of c.coll)) bytes ∷ []
 
 -- the messages of a broadcast of these bytes: the root's to each of the others, and that one at each other
 abbrev pub bcast_calls : GroupCall → List ℕ → List DataCall
@@ -67,9 +67,9 @@ pub record HasFolded (how : Folding) (head : MessageHead) (c : GroupCall) (resul
 
 -- what a reduction does at the root and at another rank
 abbrev pub ReduceBy : Bool → Folding → GroupCall → (old new : Held) → List DataCall → Type 0
-ReduceBy true how c old new calls = HasFolded how (head_of kind.Reduce (comm_of c.coll) (len_of c.coll)) c new.output calls
+ReduceBy true how c old new calls = HasFolded how (head_of_kind kind.Reduce (comm_of c.coll) (len_of c.coll)) c new.output calls
 ReduceBy false how c old new calls =
-    (new ≡ old) × (calls ≡ CallSend (root_rank c) (head_of kind.Reduce (comm_of c.coll) (len_of c.coll)) c.input ∷ [])
+    (new ≡ old) × (calls ≡ CallSend (root_rank c) (head_of_kind kind.Reduce (comm_of c.coll) (len_of c.coll)) c.input ∷ [])
 
 -- what a reduction does: the root folds what the others send into its output, and another rank sends what it hands in
 abbrev pub ReduceDoes : Folding → GroupCall → (old new : Held) → List DataCall → Type 0
@@ -78,15 +78,15 @@ ReduceDoes how c old new calls = ReduceBy (is_root_of c) how c old new calls
 -- member 0 has folded what the others sent, and has sent each of them the result
 pub record HasShared (how : Folding) (c : GroupCall) (result : List ℕ) (calls : List DataCall) : Type 0 where
   pub up : List DataCall
-  pub gathers : HasFolded how (head_of kind.AllUp (comm_of c.coll) (len_of c.coll)) c result up
-  pub calls_are : calls ≡ up ++ sends_to (head_of kind.AllDown (comm_of c.coll) (len_of c.coll)) result (other_ranks c)
+  pub gathers : HasFolded how (head_of_kind kind.AllUp (comm_of c.coll) (len_of c.coll)) c result up
+  pub calls_are : calls ≡ up ++ sends_to (head_of_kind kind.AllDown (comm_of c.coll) (len_of c.coll)) result (other_ranks c)
 
 -- what a reduction to all does at member 0 and at another rank
 abbrev pub AllreduceBy : Bool → Folding → GroupCall → (old new : Held) → List DataCall → Type 0
 AllreduceBy true how c old new calls = HasShared how c new.output calls
 AllreduceBy false how c old new calls = (new.work ≡ old.work)
-    × (calls ≡ CallSend (root_rank c) (head_of kind.AllUp (comm_of c.coll) (len_of c.coll)) c.input
-    ∷ CallRecv (root_rank c) (head_of kind.AllDown (comm_of c.coll) (len_of c.coll)) new.output ∷ [])
+    × (calls ≡ CallSend (root_rank c) (head_of_kind kind.AllUp (comm_of c.coll) (len_of c.coll)) c.input
+    ∷ CallRecv (root_rank c) (head_of_kind kind.AllDown (comm_of c.coll) (len_of c.coll)) new.output ∷ [])
 
 -- what a reduction to all does: member 0 folds and shares; another rank sends what it hands in, and receives the result
 abbrev pub AllreduceDoes : Folding → GroupCall → (old new : Held) → List DataCall → Type 0

@@ -28,7 +28,7 @@ impl<V: Evict> Station<V> {
     ghost use Rattle.groups.specs.Collectives.{IsCallable};
     ghost use Rattle.groups.specs.declared.collectives.Coll.TheVariants.{Allreduce, Bcast, Reduce};
     ghost use Rattle.station.specs.Calls.{OnlyMessages};
-    ghost use Rattle.station.specs.Groups.{AreFit, GroupStart, HasRun, IsInGroup, IsSameCall, SaysWhyGroup, held_in, in_group_call, new_group, op_in, start_at};
+    ghost use Rattle.station.specs.Groups.{AreFit, GroupStart, HasRunGroup, IsInGroup, IsSameCall, SaysWhyGroup, held_in, in_group_call, new_group, op_in, start_at};
     ghost use Rattle.station.specs.Reductions.{AllreduceDoes, GainsCalls, ReduceDoes, bcast_calls, group_call, is_root_of};
     ghost use Rattle.station.specs.Stations.{KeepsHeap, NoCallOpen};
 
@@ -149,7 +149,7 @@ impl<V: Evict> Station<V> {
         ensures free { IfOk result (λ done. NoCallOpen (P.sight port.new) self.new) }
         ensures ran { IfOk result (λ done. (start : GroupStart)
             → IsInGroup start (in_group_call (P.sight port.old) self.old stall.op input.now (held_in output.old work.old))
-            → HasRun start (in_group_call (P.sight port.new) self.new stall.op input.now (held_in output.new work.new))) }
+            → HasRunGroup start (in_group_call (P.sight port.new) self.new stall.op input.now (held_in output.new work.new))) }
         ensures open { IfErr result (λ stop. (start : GroupStart)
             → IsInGroup start (in_group_call (P.sight port.old) self.old stall.op input.now (held_in output.old work.old))
             → IsInGroup start (in_group_call (P.sight port.new) self.new (op_in stop) input.now (held_in output.new work.new))) }

@@ -38,7 +38,7 @@ impl<V: Evict> Model for Station<V> {
 
 impl<V: Evict> Station<V> {
     ghost use Rattle.std.specs.Prelude.{◌≡◌, ◌≤◌, ◌↔◌, ◌++◌, ◌∷◌, [], IsTrue, IfOk, OnErr, OnOk, Contains};
-    ghost use Rattle.mpb_alloc.specs.Heaps.{all_free, given_back, lines_for, malloc_answer, returned, run_of_lines, taken_from};
+    ghost use Rattle.mpb_alloc.specs.Heaps.{all_free, given_back, lines_for, malloc_answer, without_buffer, run_of_lines, taken_from};
     ghost use Rattle.scc_proto.specs.Ports.{Sight};
     ghost use Rattle.station.specs.Stations.{KeepsAllButHeap, NoCallOpen};
 
@@ -80,7 +80,7 @@ impl<V: Evict> Station<V> {
     pub fn free(&mut self, buffer: Buf)
         requires out { Contains self.old.heap.out (run_of_lines buffer) }
         ensures free { self.new.heap.free ≡ given_back (run_of_lines buffer) self.old.heap.free }
-        ensures out { self.new.heap.out ≡ returned (run_of_lines buffer) self.old.heap.out }
+        ensures out { self.new.heap.out ≡ without_buffer (run_of_lines buffer) self.old.heap.out }
         ensures same { KeepsAllButHeap self.old self.new }
     {
         self.heap.free(buffer);

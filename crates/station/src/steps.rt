@@ -187,7 +187,7 @@ impl<V: Evict> Station<V> {
     ghost use Rattle.groups.specs.Peers.{IsWithPeer};
     ghost use Rattle.groups.specs.declared.collectives.Step.TheVariants.{Recv};
     ghost use Rattle.station.specs.Calls.{OnlyMessages};
-    ghost use Rattle.station.specs.Groups.{GroupStart, HasStepped, HasRun, IsInStepReceive, IsInGroup, IsSameCall, SaysWhyGroup, SaysWhyStep, StandsInStep, StepFits, StepLeaves, held_in, in_group_call, in_step, op_in};
+    ghost use Rattle.station.specs.Groups.{GroupStart, HasStepped, HasRunGroup, IsInStepReceive, IsInGroup, IsSameCall, SaysWhyGroup, SaysWhyStep, StandsInStep, StepFits, StepLeaves, held_in, in_group_call, in_step, op_in};
     ghost use Rattle.station.specs.Stations.{KeepsHeap};
     ghost use Rattle.station.specs.Steps.{Held, GroupPart, part_by};
 
@@ -306,7 +306,7 @@ impl<V: Evict> Station<V> {
             (held_in output.old work.old)) }
         ensures ended { IfOk result (λ done. (start : GroupStart)
             → IsInGroup start (in_group_call (P.sight port.old) self.old op input.now (held_in output.old work.old))
-            → HasRun start (in_group_call (P.sight port.new) self.new op input.now (held_in output.new work.new))) }
+            → HasRunGroup start (in_group_call (P.sight port.new) self.new op input.now (held_in output.new work.new))) }
         ensures open { IfErr result (λ stop. (start : GroupStart)
             → IsInGroup start (in_group_call (P.sight port.old) self.old op input.now (held_in output.old work.old))
             → IsInGroup start (in_group_call (P.sight port.new) self.new (op_in stop) input.now (held_in output.new work.new))) }

@@ -3,15 +3,15 @@ use Rattle.std.proofs.Common.{◌≡◌, ℕ, Bool, true, false, ◌==◌, if◌
 use Rattle.scc_base.specs.Places.{WordAt}
 use Rattle.scc_base.specs.Setups.{SetupView}
 use Rattle.scc_base.specs.Events.{load_of, store_of}
-use Rattle.scc_proto.specs.Tables.{put}
+use Rattle.scc_proto.specs.Tables.{table_with}
 use Rattle.scc_proto.specs.Stages.{FlagWords, Record}
 use Rattle.scc_proto.specs.Words.{Role, HeaderWord, ChunkWord, SignalFlag, SignalFlags, GatherFlag, ReleaseFlag, HeapWord, IdleWord, role_of}
-use Rattle.scc_proto.specs.Records.{Act, Moving, NotingSignal, ChangingSignal, Holding, Freeing, act_of, load_act, store_act, after_act, permits_act, chunk_of, note_flags, forget_flags}
+use Rattle.scc_proto.specs.Records.{EventAct, Moving, NotingSignal, ChangingSignal, Holding, Freeing, act_of, load_act, store_act, after_act, permits_act, chunk_of, note_flags, forget_flags}
 use Rattle.scc_proto.specs.Ports.{Seat, record_next}
 use Rattle.scc_proto.proofs.Tests.{same_by_eqb}
 use Rattle.tas_lock.specs.Holds.{IsHolding}
 
-is_freeing : Act → Bool
+is_freeing : EventAct → Bool
 is_freeing (Freeing core) = true
 is_freeing (Moving move) = false
 is_freeing (NotingSignal signal core value) = false
@@ -23,7 +23,7 @@ some_mapped change None h = h
 some_mapped change (Some x) h = refl
 
 put_some : (held : ℕ → Option FlagWords) (core k : ℕ) (o : Option FlagWords) → (core ≡ k → is_some o ≡ true) → is_some (held k) ≡ true
-    → is_some (put held core o k) ≡ true
+    → is_some (table_with held core o k) ≡ true
 put_some held core k o here there = by (k == core) refl
   where
     by : (b : Bool) → (k == core) ≡ b → is_some (if k == core then o else held k) ≡ true
@@ -31,11 +31,11 @@ put_some held core k o here there = by (k == core) refl
     by false e = (λ i. is_some (if e i then o else held k)) ∙ there
 
 changed_some : (change : FlagWords → FlagWords) (held : ℕ → Option FlagWords) (core k : ℕ) → is_some (held k) ≡ true
-    → is_some (put held core (option_map change (held core)) k) ≡ true
+    → is_some (table_with held core (option_map change (held core)) k) ≡ true
 changed_some change held core k h =
     put_some held core k (option_map change (held core)) (λ e. some_mapped change (held core) (ap (λ (x : ℕ). is_some (held x)) e ∙ h)) h
 
-holds_after : (size : ℕ) (a : Act) (rec : Record) (k : ℕ) → is_freeing a ≡ false → IsHolding rec k → IsHolding (after_act size a rec) k
+holds_after : (size : ℕ) (a : EventAct) (rec : Record) (k : ℕ) → is_freeing a ≡ false → IsHolding rec k → IsHolding (after_act size a rec) k
 unfolding is_freeing
 holds_after size (Moving move) rec k quiet h = h
 holds_after size (NotingSignal signal core value) rec k quiet h = changed_some (note_flags signal value) rec.held core k h
@@ -43,7 +43,7 @@ holds_after size (ChangingSignal signal core move) rec k quiet h = changed_some 
 holds_after size (Holding core) rec k quiet h = put_some rec.held core k (Some (record { sent = None; ready = None })) (λ e. refl) h
 holds_after size (Freeing core) rec k quiet h = absurd (cc)
 
-either_quiet : (b : Bool) (x y : Act) → is_freeing x ≡ false → is_freeing y ≡ false → is_freeing (if b then x else y) ≡ false
+either_quiet : (b : Bool) (x y : EventAct) → is_freeing x ≡ false → is_freeing y ≡ false → is_freeing (if b then x else y) ≡ false
 either_quiet true x y p q = p
 either_quiet false x y p q = q
 

@@ -4,7 +4,7 @@ use mathlib.Core.Bool.{beq}
 use Rattle.scc_base.specs.Places.{WordAt, LineAt, line_of_word}
 use Rattle.scc_proto.specs.Ports.{Sight, Did}
 use Rattle.scc_proto.proofs.PortLaws.{did_nothing, did_both}
-use Rattle.line_cache.specs.Lines.{held}
+use Rattle.line_cache.specs.Lines.{cached_words}
 use Rattle.put_get.proofs.FillLemmas.{fills_held}
 use Rattle.put_get.specs.Accesses.{loads_of}
 use Rattle.put_get.specs.Cores.{Private, Fills, Fetch, Held, Loaded, ReadsWord}
@@ -15,7 +15,7 @@ use Rattle.sync_flags.specs.Looks.{LooksAtLine, LooksAt, ReadsFlag, LooksAll, lo
 -- nothing is held in an empty cache, so a fetch loads
 pub fetch_looks : {s t : Sight} {c1 d : Private} {line : LineAt} {words : List ℕ} → Fetch s c1 line words t d → (c : Private)
     → c1 ≡ record c { lines = [] } → LooksAtLine s c line words t d
-fetch_looks {line = line} {words = words} (Held h e f) c empty = let none : None ≡ Some words = sym (ap (λ (x : Private). held x.lines line) empty) ∙ h in absurd (cc)
+fetch_looks {line = line} {words = words} (Held h e f) c empty = let none : None ≡ Some words = sym (ap (λ (x : Private). cached_words x.lines line) empty) ∙ h in absurd (cc)
 fetch_looks {d = d} {line = line} {words = words} (Loaded h len did fills) c empty =
     let now = subst (λ (x : Private). Fills x line words d) empty fills in
     record { did = did; fills = now; held = fills_held now refl }

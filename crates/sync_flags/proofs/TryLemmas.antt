@@ -5,11 +5,11 @@ use Rattle.scc_base.specs.declared.events.Event.{Event}
 use Rattle.scc_proto.proofs.Tests.{eqb_same}
 use Rattle.put_get.specs.Accesses.{loads_of}
 use Rattle.sync_flags.specs.Flags.{is_set_in}
-use Rattle.sync_flags.specs.Tries.{AtFlag, is_at, is_unwanted, vain_from}
+use Rattle.sync_flags.specs.Tries.{AtFlag, is_same_word, is_unwanted, vain_from}
 use Rattle.sync_flags.specs.Looks.{AreVain, looks_of}
 
 -- a word of the flag's line is the flag's word where it has its number
-at_word : (p : WordAt) (k : ℕ) → is_at p (word_of_line (line_of_word p) k) ≡ (k == p.word)
+at_word : (p : WordAt) (k : ℕ) → is_same_word p (word_of_line (line_of_word p) k) ≡ (k == p.word)
 at_word p k = λ i. eqb_same p.core i && (eqb_same p.line i && (k == p.word))
 
 -- the count after one load of the line

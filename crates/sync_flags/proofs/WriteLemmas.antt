@@ -11,7 +11,7 @@ use Rattle.scc_proto.proofs.PortLaws.{did_both, record_did, record_did_one, seat
 use Rattle.scc_proto.proofs.Tests.{eqb_same, put_here}
 use Rattle.write_combine.specs.declared.combiner.Out.{Out}
 use Rattle.put_get.specs.Accesses.{loads_of, stores_of}
-use Rattle.line_cache.specs.Lines.{noted}
+use Rattle.line_cache.specs.Lines.{lines_with_word}
 use Rattle.put_get.specs.Cores.{Private, WritesThrough}
 use Rattle.put_get.proofs.StepLemmas.{events_once}
 use Rattle.tas_lock.specs.Holds.{IsHolding, IsNotHolding, after_try}
@@ -33,7 +33,7 @@ may_through seat rec out p v empty may = subst (λ (o : Option Out). MayMakeAll 
 pub through_stores : {s t : Sight} {c d : Private} {p : WordAt} {v : ℕ} → WritesThrough s c p v t d → c.out ≡ None → StoresWord s c p v t d
 through_stores {s} {t} {c} {d} {p} {v} w empty = record {
   did = subst (λ (o : Option Out). Did s (stores_of o ++ store_of p v ∷ []) t) empty w.did;
-  is = w.is ∙ (λ i. record c { lines = noted c.lines p v; out = sym empty i });
+  is = w.is ∙ (λ i. record c { lines = lines_with_word c.lines p v; out = sym empty i });
 }
 
 -- ---- a bit under its register

@@ -5,7 +5,7 @@ use Rattle.scc_base.specs.Places.{WordAt, LineAt, line_of_word}
 use Rattle.scc_base.specs.declared.events.Event.{Event}
 use Rattle.scc_base.specs.declared.events.Stalled.{Stalled}
 use Rattle.scc_proto.specs.Ports.{Sight, Did}
-use Rattle.line_cache.specs.Lines.{held}
+use Rattle.line_cache.specs.Lines.{cached_words}
 use Rattle.put_get.specs.Accesses.{loads_of}
 use Rattle.put_get.specs.Cores.{Private, Fills}
 use Rattle.sync_flags.specs.Flags.{is_set_in, spot_of_flag}
@@ -16,7 +16,7 @@ pub record LooksAtLine (s : Sight) (c : Private) (line : LineAt) (words : List �
   pub did : Did s (loads_of line words) t
   pub fills : Fills (record c { lines = [] }) line words d
   -- the loaded line stands in the cache, unless a line was evicted
-  pub held : d.evictions ≡ c.evictions → held d.lines line ≡ Some words
+  pub held : d.evictions ≡ c.evictions → cached_words d.lines line ≡ Some words
 
 -- a word was looked at once, and this is its value
 pub record LooksAt (s : Sight) (c : Private) (place : WordAt) (value : ℕ) (t : Sight) (d : Private) : Type 0 where

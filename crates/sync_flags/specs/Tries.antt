@@ -35,8 +35,8 @@ is_write Free = true
 is_write access = false
 
 -- whether two places are one word
-abbrev pub is_at : WordAt → WordAt → Bool
-is_at place other = (other.core == place.core) && ((other.line == place.line) && (other.word == place.word))
+abbrev pub is_same_word : WordAt → WordAt → Bool
+is_same_word place other = (other.core == place.core) && ((other.line == place.line) && (other.word == place.word))
 
 -- after this event a bit flag is being changed: a register was taken, and was not freed since
 abbrev pub is_changing : Bool → Access → ℕ → Bool
@@ -47,8 +47,8 @@ is_changing before access value = before
 -- a try at a flag or a word is a load of the word that is not made in the midst of a bit flag's change; a try at
 -- a register is a take of it
 abbrev pub is_try : Bool → Aim → Event → Bool
-is_try changing (AtFlag place bit want) e = not changing && (is_load e.access && is_at place e.place)
-is_try changing (AtWord place value) e = not changing && (is_load e.access && is_at place e.place)
+is_try changing (AtFlag place bit want) e = not changing && (is_load e.access && is_same_word place e.place)
+is_try changing (AtWord place value) e = not changing && (is_load e.access && is_same_word place e.place)
 is_try changing (AtRegister core) e = is_take e.access && (e.place.core == core)
 
 -- the flag is not as wanted

@@ -10,7 +10,7 @@ use Rattle.scc_base.specs.declared.events.Spot.TheVariants.{Register}
 use Rattle.scc_proto.specs.Stages.{Record}
 use Rattle.scc_proto.specs.Soundness.{IsSound}
 use Rattle.scc_proto.specs.Ports.{Seat, Sight, Did, MayMake, MayMakeAll, WereMade, record_in, record_on}
-use Rattle.line_cache.specs.Lines.{noted}
+use Rattle.line_cache.specs.Lines.{lines_with_word}
 use Rattle.write_combine.specs.Combining.{handed_out}
 use Rattle.put_get.specs.Accesses.{loads_of, stores_of}
 use Rattle.put_get.specs.Cores.{Private, Fills, WritesThrough}
@@ -51,7 +51,7 @@ MayWrite seat rec place (Some b) set = IsNotHolding rec place.core × MayStoreBi
 -- a word was written and sent out: one store, and the cached line has the new word
 pub record StoresWord (s : Sight) (c : Private) (place : WordAt) (value : ℕ) (t : Sight) (d : Private) : Type 0 where
   pub did : Did s (store_of place value ∷ []) t
-  pub is : d ≡ record c { lines = noted c.lines place value }
+  pub is : d ≡ record c { lines = lines_with_word c.lines place value }
 
 -- a register was taken after fewer vain takes than were allowed, or there were that many of them
 abbrev pub TakesWithin : Sight → ℕ → ℕ → Sight → Option ℕ → Type 0
@@ -67,7 +67,7 @@ pub record ChangesBit (s : Sight) (c : Private) (place : WordAt) (b : ℕ) (set 
   pub was_loaded : WasLoaded s.seat (record_in s) (loads_of (line_of_word place) words)
   pub loaded : Private
   pub fills : Fills (record c { lines = [] }) (line_of_word place) words loaded
-  pub is : d ≡ record loaded { lines = noted loaded.lines place (with_bit b set (slice_index words place.word)) }
+  pub is : d ≡ record loaded { lines = lines_with_word loaded.lines place (with_bit b set (slice_index words place.word)) }
 
 -- one try at a bit's change: the register was found taken, or the events of the change were made, and the line came
 -- in and has the new word. Eight parameters: those of `ChangesBit`, and whether the try was done.
@@ -76,7 +76,7 @@ pub data TriesChange (s : Sight) (c : Private) (place : WordAt) (b : ℕ) (set :
   BitChanged : done ≡ true → (words : List ℕ)
       → WasLoaded s.seat (record_in s) (take_of place.core true ∷ loads_of (line_of_word place) words)
       → Did s (change_events place b set words) t → (loaded : Private) → Fills (record c { lines = [] }) (line_of_word place) words loaded
-      → d ≡ record loaded { lines = noted loaded.lines place (with_bit b set (slice_index words place.word)) }
+      → d ≡ record loaded { lines = lines_with_word loaded.lines place (with_bit b set (slice_index words place.word)) }
       → TriesChange s c place b set done t d
 
 -- a flag that is a bit was written: after fewer vain takes than were allowed, the events of its change; the
@@ -88,7 +88,7 @@ pub record WritesBit (s : Sight) (c : Private) (place : WordAt) (b : ℕ) (set :
   pub did : Did s (vain_takes place.core vain ++ change_events place b set words) t
   pub loaded : Private
   pub fills : Fills (record c { lines = [] }) (line_of_word place) words loaded
-  pub is : d ≡ record loaded { lines = noted loaded.lines place (with_bit b set (slice_index words place.word)) }
+  pub is : d ≡ record loaded { lines = lines_with_word loaded.lines place (with_bit b set (slice_index words place.word)) }
 
 -- nothing but `polls` vain takes of a register
 pub record GivesUp (s : Sight) (c : Private) (place : WordAt) (polls : ℕ) (t : Sight) (d : Private) : Type 0 where

@@ -2,7 +2,7 @@
 
 ghost use Rattle.std.specs.Prelude.{◌≡◌, ◌<◌, ◌≤◌, ◌++◌, ◌↔◌, [], ◌∷◌, Some, None, IsErr, IfOk, IfSome, OnOk, OnErr, Contains};
 ghost use Rattle.scc_base.specs.Places.{first_heap};
-ghost use Rattle.mpb_alloc.specs.Heaps.{run_of_lines, answer_for, lines_in_runs, taken_from, given_back, returned, IsHeap};
+ghost use Rattle.mpb_alloc.specs.Heaps.{run_of_lines, answer_for, lines_in_runs, taken_from, given_back, without_buffer, IsHeap};
 ghost use Rattle.sync_flags.specs.Flags.{is_set_in, spot_of_flag};
 
 use mpb_alloc::{Heap, MallocFault};
@@ -67,7 +67,7 @@ pub fn flag_alloc(heap: &mut Heap) -> Result<Buf, MallocFault>
 pub fn flag_free(heap: &mut Heap, buffer: Buf)
     requires { Contains heap.old.out (run_of_lines buffer) }
     ensures free { heap.new.free ≡ given_back (run_of_lines buffer) heap.old.free }
-    ensures out { heap.new.out ≡ returned (run_of_lines buffer) heap.old.out }
+    ensures out { heap.new.out ≡ without_buffer (run_of_lines buffer) heap.old.out }
     ensures heap { IsHeap heap.new }
 {
     heap.free(buffer);

@@ -28,13 +28,13 @@ abbrev pub line_count : List (List ℕ) → ℕ
 line_count lines = lines_before lines (length lines - 1) (slice_get lines (length lines - 1))
 
 -- a line up to its first `#`
-abbrev pub uncommented : List ℕ → List ℕ
-uncommented line = before_first (λ b. b == 35) line
+abbrev pub without_comment : List ℕ → List ℕ
+without_comment line = before_first (λ b. b == 35) line
 
 -- whether each byte outside the comment may stand there
 abbrev pub is_text : List ℕ → Bool
-is_text line = list_all is_text_byte (uncommented line)
+is_text line = list_all is_text_byte (without_comment line)
 
 -- the words of a line: what stands between the blanks
 abbrev pub words_of : List ℕ → List (List ℕ)
-words_of line = filter (λ word. not (length word == 0)) (slice_split is_blank (uncommented line))
+words_of line = filter (λ word. not (length word == 0)) (slice_split is_blank (without_comment line))

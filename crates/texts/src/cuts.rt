@@ -1,7 +1,7 @@
 //! A text cut into its parts: lines, and the words of a line.
 
 ghost use Rattle.std.specs.Prelude.{◌≡◌, ◌≤◌, IfOk, length, map};
-ghost use Rattle.texts.specs.Cuts.{cut_by, is_blank, is_text, is_text_byte, line_count, lines_of, uncommented, words_of};
+ghost use Rattle.texts.specs.Cuts.{cut_by, is_blank, is_text, is_text_byte, line_count, lines_of, without_comment, words_of};
 
 use std::alloc::{AllocError, Global};
 
@@ -45,7 +45,7 @@ pub fn line_count(lines: &[&[u8]]) -> usize
 
 /// A line up to its first `#`.
 pub fn uncommented(line: &[u8]) -> &[u8]
-    ensures { result.now ≡ uncommented line.now }
+    ensures { result.now ≡ without_comment line.now }
 {
     let end = line.iter().position(|b| *b == b'#').unwrap_or(line.len());
     &line[..end]

@@ -5,7 +5,7 @@ use Rattle.std.specs.List.{range_with_len}
 use Rattle.std.proofs.lemmas.List.Elements.{All-nil, All-cons}
 use Rattle.outcomes.specs.Delivery.{Delivers, Sinks, with_outcome}
 use Rattle.outcomes.specs.Outcomes.{Outcome, Ran, run_outcome, too_long}
-use Rattle.outcomes.specs.Plans.{contents_outcome, expected, plan_outcome, words_outcome}
+use Rattle.outcomes.specs.Plans.{contents_outcome, expected_outcome, plan_outcome, words_outcome}
 use Rattle.outcomes.specs.declared.status.Status.{Status}
 use Rattle.outcomes.specs.declared.status.Status.TheVariants as status
 use Rattle.texts.specs.Cuts.{lines_of}
@@ -22,7 +22,7 @@ use Rattle.scc_mesh.specs.Scenes.{ChipView, IsOpen, about_in, events_in, records
 use Rattle.scc_proto.specs.Histories.{IsPermittedRun, events_of, records_from}
 use Rattle.scc_proto.specs.Records.{record_after, record_of}
 use Rattle.scc_proto.specs.Stages.{Record, blank}
-use Rattle.scc_proto.specs.Tables.{put}
+use Rattle.scc_proto.specs.Tables.{table_with}
 use Rattle.scc_proto.specs.Words.{RankEvent}
 use Rattle.scc_proto.proofs.Agreement.ListLaw.{records_from_start}
 use Rattle.trace_judge.specs.Judged.{Judged, judged_by, new_judged}
@@ -49,7 +49,7 @@ use Rattle.trace_commands.proofs.AskedLemmas.{asked_writable}
 are_made : (s : SetupView) (records : ℕ → Record) (run : List RankEvent) → IsPermittedRun s records run → AreRankEvents s run
 are_made s records [] may = All-nil (λ (e : RankEvent). (e.rank < s.nue) × IsEvent e.event)
 are_made s records (e ∷ run) (below, made, permitted, rest) =
-    All-cons (λ (x : RankEvent). (x.rank < s.nue) × IsEvent x.event) e run (below, made) (are_made s (put records e.rank (record_after s e.rank (records e.rank) e.event)) run rest)
+    All-cons (λ (x : RankEvent). (x.rank < s.nue) × IsEvent x.event) e run (below, made) (are_made s (table_with records e.rank (record_after s e.rank (records e.rank) e.event)) run rest)
 
 -- a text that says a trace is not too long
 fits : (text : List ℕ) (trace : TraceView) → trace_of text ≡ Ok trace → nat_lt most_trace_bytes (length text) ≡ false
@@ -62,7 +62,7 @@ fits text trace said = by (nat_lt most_trace_bytes (length text)) refl said
 -- what is expected of words that name a file with a trace
 read_again : (words : List (List ℕ)) (command : TraceCommand) (told : List NamedFile) (text : List ℕ) (trace : TraceView) (j : Judged) → trace_command words ≡ Some command → contents_of command.file told ≡ Some text
     → trace_of text ≡ Ok trace → ruling_from 0 (new_judged trace.setup) trace.events ≡ Ok j
-    → expected rccetrace words told ≡ run_outcome (record { finished = true; out = legal_text trace.setup.nue command.asked (finished_calls j); err = [] })
+    → expected_outcome rccetrace words told ≡ run_outcome (record { finished = true; out = legal_text trace.setup.nue command.asked (finished_calls j); err = [] })
 read_again words command told text trace j asked holds said ruled =
     let name = codes "rccetrace" in
     ap (λ (o : Option TraceCommand). words_outcome name (plan_of trace_file_plan o) told) asked

@@ -2,7 +2,7 @@
 use Rattle.std.specs.Prelude.{◌≡◌, ◌≢◌, ◌≤◌, ℕ, Bool, true, List, [], map, Some}
 use Rattle.std.specs.List.{range_with_len}
 use Rattle.outcomes.specs.Outcomes.{Ran, run_outcome}
-use Rattle.outcomes.specs.Plans.{expected}
+use Rattle.outcomes.specs.Plans.{expected_outcome}
 use Rattle.outcomes.specs.declared.status.Status.TheVariants as status
 use Rattle.rcce_io.specs.Files.{NamedFile, contents_of}
 use Rattle.rcce_io.specs.Sending.{SinkView}
@@ -26,7 +26,7 @@ chip_ran asked chip = record { finished = true; out = legal_text (about_in chip)
 -- words that name a file with this text are to end so: the trace in it is legal, and its calls are those of the chip
 abbrev pub TellsOfChip : ChipView → List ℕ → Type 0
 TellsOfChip chip text = (words : List (List ℕ)) (command : TraceCommand) (told : List NamedFile) → trace_command words ≡ Some command
-    → contents_of command.file told ≡ Some text → expected rccetrace words told ≡ run_outcome (chip_ran command.asked chip)
+    → contents_of command.file told ≡ Some text → expected_outcome rccetrace words told ≡ run_outcome (chip_ran command.asked chip)
 
 -- a sink that had taken nothing has taken this text, which has no more lines than a trace may have
 pub record HasPrinted (before after : SinkView) (text : List ℕ) : Type 0 where

@@ -9,7 +9,7 @@ use Rattle.scc_base.specs.declared.events.Event.{Event}
 use Rattle.scc_proto.specs.Histories.{memory_from, records_from}
 use Rattle.scc_proto.specs.Records.{IsPermitted, record_after}
 use Rattle.scc_proto.specs.Stages.{Record, blank}
-use Rattle.scc_proto.specs.Tables.{put}
+use Rattle.scc_proto.specs.Tables.{table_with}
 use Rattle.scc_proto.specs.Words.{Memory, zeros, memory_after, RankEvent}
 use Rattle.scc_proto.proofs.Tests.{put_here, put_there, same_or_other}
 use Rattle.record_machine.specs.Following.{Adds, FinishesCall, FollowsRecord}
@@ -28,7 +28,7 @@ memory_pushed memory (x ∷ run) e = memory_pushed (memory_after memory x.event)
 
 -- the records with one event more of a rank
 abbrev pub records_after : SetupView → (ℕ → Record) → RankEvent → ℕ → Record
-records_after s records e = put records e.rank (record_after s e.rank (records e.rank) e.event)
+records_after s records e = table_with records e.rank (record_after s e.rank (records e.rank) e.event)
 
 pub records_pushed : (s : SetupView) (records : ℕ → Record) (run : List RankEvent) (e : RankEvent) → records_from s records (run ++ e ∷ []) ≡ records_after s (records_from s records run) e
 records_pushed s records [] e = refl

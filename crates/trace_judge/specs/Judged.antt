@@ -4,7 +4,7 @@ use Rattle.scc_base.specs.Setups.{SetupView}
 use Rattle.scc_proto.specs.Histories.{memory_from, records_from}
 use Rattle.scc_proto.specs.Records.{record_after}
 use Rattle.scc_proto.specs.Stages.{Record, blank}
-use Rattle.scc_proto.specs.Tables.{put}
+use Rattle.scc_proto.specs.Tables.{table_with}
 use Rattle.scc_proto.specs.Words.{Memory, zeros, memory_after, RankEvent}
 
 -- a chip as its events have left it: its setup, its words and registers, and the record of each rank
@@ -22,7 +22,7 @@ abbrev pub judged_after : Judged → RankEvent → Judged
 judged_after j e = record {
   setup = j.setup;
   memory = memory_after j.memory e.event;
-  records = put j.records e.rank (record_after j.setup e.rank (j.records e.rank) e.event);
+  records = table_with j.records e.rank (record_after j.setup e.rank (j.records e.rank) e.event);
 }
 
 -- the chip after all events of a list, the first first

@@ -10,7 +10,7 @@ use Rattle.scc_base.specs.declared.events.Event.{Event}
 use Rattle.scc_proto.specs.Records.{is_permitted}
 use Rattle.record_machine.specs.Next.{allowed_for}
 use Rattle.scc_proto.specs.Stages.{Record}
-use Rattle.scc_proto.specs.Tables.{put}
+use Rattle.scc_proto.specs.Tables.{table_with}
 use Rattle.scc_proto.specs.Words.{Memory, word_at, RankEvent}
 use Rattle.trace_judge.specs.declared.judge.Refusal.{Refusal}
 use Rattle.trace_judge.specs.declared.judge.Refusal.TheVariants.{OtherValue, NotPermitted}
@@ -30,7 +30,7 @@ stands_at memory e = stands_by e.access e.place memory
 
 -- the memory with another value in a core's register
 abbrev pub register_changed : Memory → ℕ → ℕ → Memory
-register_changed memory core value = record memory { register = put memory.register core value }
+register_changed memory core value = record memory { register = table_with memory.register core value }
 
 -- an access with `value` is a step where `found` stands: a load tells what it found, a take has 1 where it found 0, and 0
 -- where it found 1, and a store and a free always are

@@ -2,7 +2,7 @@
 use Rattle.std.proofs.Common.{◌≡◌, ℕ, zero, suc, ◌+◌, ◌-◌, ◌*◌, ◌<◌, ◌≤◌, Bool, true, false, cond, ◌&&◌, ◌==◌, if◌then◌else◌, List, [], ◌∷◌, ◌++◌, length, length-append, codes, decimal, Option, Some, None, refl, arith}
 use Rattle.std.specs.Prelude.{nat_le, nat_lt}
 use Rattle.std.proofs.lemmas.Fmt.{length-decimal-le}
-use Rattle.rcce_io.specs.Sending.{joined}
+use Rattle.rcce_io.specs.Sending.{joined_texts}
 use Rattle.scc_base.specs.Events.{IsAccess}
 use Rattle.scc_base.specs.Layouts.{first_chunk, first_gather, first_release}
 use Rattle.scc_base.specs.Places.{first_heap, IsPlace, WordAt}
@@ -130,7 +130,7 @@ signal_is : (signal : Signal) → IsFrom 32 (signal_name signal)
 signal_is Sent = refl
 signal_is Ready = refl
 
-four_texts : (a x b y : List ℕ) (i j : ℕ) → length a ≡ i → length b ≡ j → i + length x + j + length y ≤ 25 → IsFrom 32 a → IsFrom 32 x → IsFrom 32 b → IsFrom 32 y → IsComment (joined (a ∷ x ∷ b ∷ y ∷ []))
+four_texts : (a x b y : List ℕ) (i j : ℕ) → length a ≡ i → length b ≡ j → i + length x + j + length y ≤ 25 → IsFrom 32 a → IsFrom 32 x → IsFrom 32 b → IsFrom 32 y → IsComment (joined_texts (a ∷ x ∷ b ∷ y ∷ []))
 four_texts a x b y i j of_i of_j few of_a of_x of_b of_y = record {
   short = simp length-append (omega (arith, of_i, of_j, few));
   bytes = from_append 32 a (x ++ (b ++ (y ++ []))) of_a (from_append 32 x (b ++ (y ++ [])) of_x (from_append 32 b (y ++ []) of_b (from_append 32 y [] of_y refl)));
@@ -138,7 +138,7 @@ four_texts a x b y i j of_i of_j few of_a of_x of_b of_y = record {
 
 -- the flag of a signal, between two ranks
 five_texts : (a b x d y : List ℕ) (i j : ℕ) → length b ≡ i → length d ≡ j → length a + i + length x + j + length y ≤ 25 → IsFrom 32 a → IsFrom 32 b → IsFrom 32 x → IsFrom 32 d → IsFrom 32 y
-    → IsComment (joined (a ∷ b ∷ x ∷ d ∷ y ∷ []))
+    → IsComment (joined_texts (a ∷ b ∷ x ∷ d ∷ y ∷ []))
 five_texts a b x d y i j of_i of_j few of_a of_b of_x of_d of_y = record {
   short = simp length-append (omega (arith, of_i, of_j, few));
   bytes = from_append 32 a (b ++ (x ++ (d ++ (y ++ [])))) of_a
@@ -146,16 +146,16 @@ five_texts a b x d y i j of_i of_j few of_a of_b of_x of_d of_y = record {
 }
 
 -- the flags of a signal, at a rank
-three_texts : (a b x : List ℕ) (i : ℕ) → length b ≡ i → length a + i + length x ≤ 25 → IsFrom 32 a → IsFrom 32 b → IsFrom 32 x → IsComment (joined (a ∷ b ∷ x ∷ []))
+three_texts : (a b x : List ℕ) (i : ℕ) → length b ≡ i → length a + i + length x ≤ 25 → IsFrom 32 a → IsFrom 32 b → IsFrom 32 x → IsComment (joined_texts (a ∷ b ∷ x ∷ []))
 three_texts a b x i of_i few of_a of_b of_x = record {
   short = simp length-append (omega (arith, of_i, few));
   bytes = from_append 32 a (b ++ (x ++ [])) of_a (from_append 32 b (x ++ []) of_b (from_append 32 x [] of_x refl));
 }
 
-one_text : (a : List ℕ) (i : ℕ) → i ≡ length a → i ≤ 25 → IsFrom 32 a → IsComment (joined (a ∷ []))
+one_text : (a : List ℕ) (i : ℕ) → i ≡ length a → i ≤ 25 → IsFrom 32 a → IsComment (joined_texts (a ∷ []))
 one_text a i of_i few of_a = record { short = simp length-append (omega (arith, of_i, few)); bytes = from_append 32 a [] of_a refl }
 
-role_comment : (role : Role) → IsLowRole role → IsComment (joined (role_words role))
+role_comment : (role : Role) → IsLowRole role → IsComment (joined_texts (role_words role))
 role_comment (HeaderWord owner k) low =
     let a = two owner low in
     let b = name_long k in
@@ -185,7 +185,7 @@ role_comment (ReleaseFlag comm owner) (few, low) =
 role_comment HeapWord low = one_text (codes "heap") 4 refl (omega arith) refl
 role_comment IdleWord low = one_text (codes "nobody's") 8 refl (omega arith) refl
 
-pub comment_is : (s : SetupView) (a : Access) (p : WordAt) (v : ℕ) → s.nue ≤ 48 → IsAccess a p v → IsComment (joined (comment_words s a p))
+pub comment_is : (s : SetupView) (a : Access) (p : WordAt) (v : ℕ) → s.nue ≤ 48 → IsAccess a p v → IsComment (joined_texts (comment_words s a p))
 comment_is s Load p v ranks is = role_comment (role_of s p) (role_is_low s p ranks is.0)
 comment_is s Store p v ranks is = role_comment (role_of s p) (role_is_low s p ranks is.0)
 comment_is s Take p v ranks is = one_text (codes "register") 8 refl (omega arith) refl

@@ -5,9 +5,9 @@ use Rattle.std.specs.Option.{ok_or}
 use Rattle.std.proofs.lemmas.Bool.{and_left, cond-false, le-ltb, ne_eqb}
 use Rattle.std.proofs.lemmas.List.{append-nil}
 use Rattle.std.proofs.lemmas.List.Elements.{All-head, All-tail}
-use Rattle.rcce_io.specs.Sending.{joined}
-use Rattle.rcce_audit.specs.Grammar.{begins_comm, rank_said}
-use Rattle.rcce_audit.specs.Words.{◌>>=◌, only_if, words_of}
+use Rattle.rcce_io.specs.Sending.{joined_texts}
+use Rattle.rcce_audit.specs.Grammar.{begins_comm, log_rank_said}
+use Rattle.rcce_audit.specs.Words.{◌>>=◌, only_if, log_words_of}
 use Rattle.rcce_audit.proofs.CallTexts.{BeginsLow, decimal_low}
 use Rattle.rcce_audit.proofs.WordLemmas.{range_said-decimal}
 use Rattle.scc_base.specs.Events.{IsAccess, IsEvent, free_of, load_of, store_of, take_of}
@@ -34,7 +34,7 @@ where_text Store p = place_text p
 where_text Take p = register_text p.core
 where_text Free p = register_text p.core
 
-where_pieces : (a : Access) (p : WordAt) → decimal p.core ++ joined (place_words a p) ≡ where_text a p
+where_pieces : (a : Access) (p : WordAt) → decimal p.core ++ joined_texts (place_words a p) ≡ where_text a p
 where_pieces Load p = ap (λ (word : List ℕ). decimal p.core ++ 46 ∷ (decimal p.line ++ 46 ∷ word)) (append-nil (decimal p.word))
 where_pieces Store p = ap (λ (word : List ℕ). decimal p.core ++ 46 ∷ (decimal p.line ++ 46 ∷ word)) (append-nil (decimal p.word))
 where_pieces Take p = refl
@@ -42,7 +42,7 @@ where_pieces Free p = refl
 
 -- what stands behind the mark
 abbrev pub comment_text : SetupView → RankEvent → List ℕ
-comment_text s e = joined (comment_words s e.event.access e.event.place)
+comment_text s e = joined_texts (comment_words s e.event.access e.event.place)
 
 -- the line without its line feed, and what of it stands behind the rank
 abbrev pub event_rest : SetupView → RankEvent → List ℕ
@@ -58,7 +58,7 @@ line_pieces r a c p v t = simp append_assoc
 
 pub event_line_is : (s : SetupView) (e : RankEvent) → event_line s e ≡ event_body s e ++ 10 ∷ []
 event_line_is s e =
-    line_pieces (decimal e.rank) (access_name e.event.access) (decimal e.event.place.core) (joined (place_words e.event.access e.event.place)) (value_text e.event.value) (comment_text s e)
+    line_pieces (decimal e.rank) (access_name e.event.access) (decimal e.event.place.core) (joined_texts (place_words e.event.access e.event.place)) (value_text e.event.value) (comment_text s e)
     ∙ ap (λ (place : List ℕ). (decimal e.rank ++ 32 ∷ (access_name e.event.access ++ 32 ∷ (place ++ 32 ∷ (value_text e.event.value ++ 32 ∷ 35 ∷ 32 ∷ comment_text s e)))) ++ 10 ∷ [])
     (where_pieces e.event.access e.event.place)
 
@@ -75,9 +75,9 @@ where_word Take p v is = register_word p.core is.0
 where_word Free p v is = register_word p.core is.0
 
 abbrev pub event_words : SetupView → RankEvent → List (List ℕ)
-event_words s e = decimal e.rank ∷ access_name e.event.access ∷ where_text e.event.access e.event.place ∷ value_text e.event.value ∷ codes "#" ∷ words_of (comment_text s e)
+event_words s e = decimal e.rank ∷ access_name e.event.access ∷ where_text e.event.access e.event.place ∷ value_text e.event.value ∷ codes "#" ∷ log_words_of (comment_text s e)
 
-words_are : (s : SetupView) (e : RankEvent) → e.rank < 48 → IsEvent e.event → words_of (event_body s e) ≡ event_words s e
+words_are : (s : SetupView) (e : RankEvent) → e.rank < 48 → IsEvent e.event → log_words_of (event_body s e) ≡ event_words s e
 words_are s e low is =
     let a = e.event.access in
     let place = where_text a e.event.place in
@@ -138,7 +138,7 @@ access_told Store p v is = store_told p v is
 access_told Take p v is = take_told p v is
 access_told Free p v is = free_told p v is
 
-rank_told : (nue r : ℕ) → nue ≤ 48 → r < nue → rank_said nue (decimal r) ≡ Some r
+rank_told : (nue r : ℕ) → nue ≤ 48 → r < nue → log_rank_said nue (decimal r) ≡ Some r
 rank_told nue r ranks below = range_said-decimal 0 (nue - 1) r (omega arith) (omega arith) (omega arith)
 
 said : (s : SetupView) (nue : ℕ) (e : RankEvent) → nue ≤ 48 → e.rank < nue → IsEvent e.event → event_said nue (event_words s e) ≡ Some e
@@ -172,7 +172,7 @@ taken s t comm before e ranks is short =
     let r = at_events t comm before in
     let line = event_body s e in
     cond-false (nat_lt most_line_bytes (length line)) None _ (le-ltb most_line_bytes (length line) short)
-    ∙ cond-false (begins_comm line) (split_taken r (words_of line)) (event_taken r (words_of line)) (not_comm (decimal e.rank) (event_rest s e) (decimal_low e.rank (omega (arith, is.0, ranks))))
+    ∙ cond-false (begins_comm line) (split_taken r (log_words_of line)) (event_taken r (log_words_of line)) (not_comm (decimal e.rank) (event_rest s e) (decimal_low e.rank (omega (arith, is.0, ranks))))
     ∙ ap (event_taken r) (words_are s e (omega (arith, is.0, ranks)) is.1)
     ∙ ap (λ (o : Option RankEvent). o >>= λ x. Some (event_added r x)) (said s t.nue e ranks is.0 is.1)
 

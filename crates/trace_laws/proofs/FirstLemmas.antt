@@ -6,8 +6,8 @@ use Rattle.std.proofs.lemmas.Bool.{cond-false, cond-true, eq-eqb, le-ltb}
 use Rattle.std.proofs.lemmas.List.{length-replicate, replicate-append-replicate}
 use Rattle.std.proofs.lemmas.List.Elements.{All-nil, All-cons}
 use Rattle.std.proofs.lemmas.List.FromFn.{length-map-range_with_len}
-use Rattle.rcce_io.specs.Sending.{joined}
-use Rattle.rcce_audit.specs.Words.{◌>>=◌, only_if, words_of}
+use Rattle.rcce_io.specs.Sending.{joined_texts}
+use Rattle.rcce_audit.specs.Words.{◌>>=◌, only_if, log_words_of}
 use Rattle.rcce_audit.proofs.WordLemmas.{range_said-decimal}
 use Rattle.scc_base.specs.Setups.{AreApart, SetupView, host_of}
 use Rattle.scc_base.specs.declared.layouts.Layout.{Layout}
@@ -54,7 +54,7 @@ abbrev pub head_is : SetupView → List (List ℕ)
 head_is s =
     codes "rcce" ∷ codes "trace" ∷ codes "1" ∷ codes "nue" ∷ decimal s.nue ∷ codes "layout" ∷ layout_name s.layout ∷ codes "hosts" ∷ hosts_from s 0 s.nue ∷ []
 
-head_words_are : (s : SetupView) → s.nue ≤ 48 → AreOnChip s s.nue → words_of (head_body s) ≡ head_is s
+head_words_are : (s : SetupView) → s.nue ≤ 48 → AreOnChip s s.nue → log_words_of (head_body s) ≡ head_is s
 head_words_are s most are =
     let hosts = hosts_from s 0 s.nue in
     let layout = layout_name s.layout in
@@ -81,10 +81,10 @@ head_said_is s some most are apart =
     ∙ ap (λ (o : Option (List ℕ)). o >>= λ h. Some (record { nue = s.nue; layout = s.layout; hosts = h })) (cores_told s some most are apart)
 
 -- a line that is short and whose words are those of a first line
-head_taken : (line : List ℕ) (words : List (List ℕ)) (head : TraceHead) → words_of line ≡ words → head_of_words words ≡ Some head → nat_lt most_line_bytes (length line) ≡ false → first_taken line ≡ Ok (behind_head head)
+head_taken : (line : List ℕ) (words : List (List ℕ)) (head : TraceHead) → log_words_of line ≡ words → head_of_words words ≡ Some head → nat_lt most_line_bytes (length line) ≡ false → first_taken line ≡ Ok (behind_head head)
 head_taken line words head are said short =
     ap (λ (o : Option TraceHead). ok_or {E = TraceFault} (option_map behind_head o) (record { line = 1; kind = kind.BadHead }))
-    (cond-false (nat_lt most_line_bytes (length line)) None (head_of_words (words_of line)) short ∙ ap head_of_words are ∙ said)
+    (cond-false (nat_lt most_line_bytes (length line)) None (head_of_words (log_words_of line)) short ∙ ap head_of_words are ∙ said)
 
 pub first_told : (s : SetupView) → 1 ≤ s.nue → s.nue ≤ 48 → AreOnChip s s.nue → AreApart s.nue (cores_from s 0 s.nue) → length (head_body s) ≤ 255 → first_taken (head_body s) ≡ Ok (behind_head (head_read s))
 first_told s some most are apart short = head_taken (head_body s) (head_is s) (head_read s) (head_words_are s most are) (head_said_is s some most are apart) (le-ltb most_line_bytes (length (head_body s)) short)
@@ -92,7 +92,7 @@ first_told s some most are apart short = head_taken (head_body s) (head_is s) (h
 -- ---- the pieces of the line
 
 pub head_pieces : (s : SetupView) (rest : List ℕ)
-    → joined (codes "rcce trace 1 nue " ∷ decimal s.nue ∷ codes " layout " ∷ layout_name s.layout ∷ codes " hosts " ∷ []) ++ (hosts_from s 0 s.nue ++ (codes "\n" ++ rest)) ≡ head_body s ++ 10 ∷ rest
+    → joined_texts (codes "rcce trace 1 nue " ∷ decimal s.nue ∷ codes " layout " ∷ layout_name s.layout ∷ codes " hosts " ∷ []) ++ (hosts_from s 0 s.nue ++ (codes "\n" ++ rest)) ≡ head_body s ++ 10 ∷ rest
 head_pieces s rest = pieces (decimal s.nue) (layout_name s.layout) (hosts_from s 0 s.nue)
   where
     pieces : (n l h : List ℕ) → (codes "rcce trace 1 nue " ++ (n ++ (codes " layout " ++ (l ++ (codes " hosts " ++ []))))) ++ (h ++ (codes "\n" ++ rest))

@@ -6,7 +6,7 @@ use Rattle.std.proofs.lemmas.Bool.{and_from, cond-false, cond-true, lt-ltb, ne_e
 use Rattle.std.proofs.lemmas.List.{append-nil}
 use Rattle.std.proofs.lemmas.List.Elements.{All-head, All-tail}
 use Rattle.std.proofs.lemmas.List.Splits.{slice_split_none, slice_split_at}
-use Rattle.rcce_io.specs.Sending.{joined}
+use Rattle.rcce_io.specs.Sending.{joined_texts}
 use Rattle.rcce_audit.specs.Words.{◌>>=◌, only_if}
 use Rattle.rcce_audit.proofs.WordLemmas.{range_said-decimal}
 use Rattle.scc_base.specs.Setups.{AreApart, SetupView, host_of}
@@ -24,7 +24,7 @@ abbrev pub cores_from : SetupView → ℕ → ℕ → List ℕ
 cores_from s n m = map (host_of s.hosts) (range_with_len n m)
 
 abbrev pub hosts_from : SetupView → ℕ → ℕ → List ℕ
-hosts_from s n m = joined (map (host_words s) (range_with_len n m))
+hosts_from s n m = joined_texts (map (host_words s) (range_with_len n m))
 
 -- each of the first ranks is on a core of the chip
 abbrev pub AreOnChip : SetupView → ℕ → Type 0

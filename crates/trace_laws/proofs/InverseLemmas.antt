@@ -6,8 +6,8 @@ use Rattle.std.proofs.lemmas.Bool.{cond-false, cond-true, le-ltb, lt-ltb}
 use Rattle.std.proofs.lemmas.List.{length-map}
 use Rattle.std.proofs.lemmas.List.Splits.{length-slice_split}
 use Rattle.std.proofs.lemmas.List.FromFn.{get_or-map-range_with_len}
-use Rattle.rcce_io.specs.Sending.{joined}
-use Rattle.rcce_audit.specs.Grammar.{world_alone}
+use Rattle.rcce_io.specs.Sending.{joined_texts}
+use Rattle.rcce_audit.specs.Grammar.{first_rules}
 use Rattle.rcce_audit.specs.Texts.{rule_lines, table_lines, text_of}
 use Rattle.texts.specs.Cuts.{lines_of}
 use Rattle.rcce_audit.proofs.TextLemmas.{text_of-append}
@@ -112,10 +112,10 @@ module _ (s : SetupView) (rs : List CommRule) (run : List RankEvent) (is : IsTol
 
   text_is : trace_text s run ≡ head_body s ++ 10 ∷ text_of later
   text_is =
-      let comms = joined (map (comm_line_behind s) (range_with_len 0 15)) in
-      let events = joined (map (event_line s) run) in
+      let comms = joined_texts (map (comm_line_behind s) (range_with_len 0 15)) in
+      let events = joined_texts (map (event_line s) run) in
       let full = fifteen in
-      let split_text : comms ≡ text_of splits = ap (λ (n : ℕ). joined (map (comm_line_behind s) (range_with_len 0 n))) (sym full)
+      let split_text : comms ≡ text_of splits = ap (λ (n : ℕ). joined_texts (map (comm_line_behind s) (range_with_len 0 n))) (sym full)
       ∙ lines_are s rs 0 (λ k below. let at : 0 + k + 1 ≡ k + 1 = omega arith in ap (λ (j : ℕ). rule_of s.comms j) at ∙ rule_at k below) in
       ap (λ (t : List ℕ). t ++ events) (head_pieces s comms)
       ∙ append_assoc (head_body s) (10 ∷ comms) events
@@ -154,7 +154,7 @@ module _ (s : SetupView) (rs : List CommRule) (run : List RankEvent) (is : IsTol
   told = record { setup = told_setup s; events = run }
 
   -- of the lines behind the first
-  later_told : (lines_taken 2 (at_rules (told_setup s) world_alone 0) later >-> last_taken (length later + 2) []) ≡ Ok told
+  later_told : (lines_taken 2 (at_rules (told_setup s) first_rules 0) later >-> last_taken (length later + 2) []) ≡ Ok told
   later_told =
       let full = fifteen in
       let done = last_taken (length later + 2) [] in

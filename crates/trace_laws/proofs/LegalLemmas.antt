@@ -11,9 +11,9 @@ use Rattle.scc_base.specs.declared.layouts.Layout.{Layout}
 use Rattle.scc_base.specs.declared.layouts.Layout.TheVariants.{LineFlags, BitFlags}
 use Rattle.scc_proto.specs.Histories.{IsPermittedRun, records_from}
 use Rattle.scc_proto.specs.Moves.{Move, LowerSignal, RaiseSignal}
-use Rattle.scc_proto.specs.Records.{Act, ChangingSignal, act_by, act_of, after_act, change_at, chunk_of, load_act, permits_by, permits_act, flags_noted, record_after, store_act}
+use Rattle.scc_proto.specs.Records.{EventAct, ChangingSignal, act_by, act_of, after_act, change_at, chunk_of, load_act, permits_by, permits_act, flags_noted, record_after, store_act}
 use Rattle.scc_proto.specs.Stages.{Record}
-use Rattle.scc_proto.specs.Tables.{put}
+use Rattle.scc_proto.specs.Tables.{table_with}
 use Rattle.scc_proto.specs.Words.{RankEvent, Role, HeaderWord, ChunkWord, SignalFlag, SignalFlags, GatherFlag, ReleaseFlag, HeapWord, IdleWord, barrier_role, flag_role, rank_below, rank_on, role_at, role_of, role_where}
 
 -- the setup with other cores
@@ -83,7 +83,7 @@ act_same s hosts me rec Free p v same = refl
 
 permits_same : (s : SetupView) (hosts : List ℕ) (me : ℕ) (rec : Record) (a : Access) (p : WordAt) (v : ℕ) → AreSame s hosts → permits_by (on_hosts s hosts) me rec a p v ≡ permits_by s me rec a p v
 permits_same s hosts me rec Load p v same = refl
-permits_same s hosts me rec Store p v same = ap (λ (act : Act). permits_act (chunk_of s) act rec) (act_same s hosts me rec Store p v same)
+permits_same s hosts me rec Store p v same = ap (λ (act : EventAct). permits_act (chunk_of s) act rec) (act_same s hosts me rec Store p v same)
 permits_same s hosts me rec Take p v same = refl
 permits_same s hosts me rec Free p v same = refl
 
@@ -104,13 +104,13 @@ permitted_same s hosts records (e ∷ run) same (below, made, may, rest) =
       below,
       made,
       now ∙ may,
-      subst (λ (rec : Record). IsPermittedRun (on_hosts s hosts) (put records e.rank rec) run) (sym next)
-          (permitted_same s hosts (put records e.rank (record_after s e.rank (records e.rank) e.event)) run same rest),
+      subst (λ (rec : Record). IsPermittedRun (on_hosts s hosts) (table_with records e.rank rec) run) (sym next)
+          (permitted_same s hosts (table_with records e.rank (record_after s e.rank (records e.rank) e.event)) run same rest),
     )
 
 pub records_same : (s : SetupView) (hosts : List ℕ) (records : ℕ → Record) (run : List RankEvent) → AreSame s hosts → records_from (on_hosts s hosts) records run ≡ records_from s records run
 records_same s hosts records [] same = refl
 records_same s hosts records (e ∷ run) same =
     let next = after_same s hosts e.rank (records e.rank) e.event same in
-    ap (λ (rec : Record). records_from (on_hosts s hosts) (put records e.rank rec) run) next
-    ∙ records_same s hosts (put records e.rank (record_after s e.rank (records e.rank) e.event)) run same
+    ap (λ (rec : Record). records_from (on_hosts s hosts) (table_with records e.rank rec) run) next
+    ∙ records_same s hosts (table_with records e.rank (record_after s e.rank (records e.rank) e.event)) run same

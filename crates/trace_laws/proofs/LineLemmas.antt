@@ -3,7 +3,7 @@ use Rattle.std.proofs.Common.{◌≡◌, ℕ, suc, ◌+◌, ◌*◌, ◌<◌, �
 use Rattle.std.specs.Prelude.{◌==◌, All}
 use Rattle.std.proofs.lemmas.List.Elements.{All-head, All-tail}
 use Rattle.std.proofs.lemmas.List.Splits.{slice_split_at}
-use Rattle.rcce_io.specs.Sending.{joined}
+use Rattle.rcce_io.specs.Sending.{joined_texts}
 use Rattle.rcce_audit.specs.Texts.{line_of, rule_lines, split_words, table_lines, text_of}
 use Rattle.texts.specs.Cuts.{lines_of}
 use Rattle.scc_base.specs.Communicators.{IsRule}
@@ -123,10 +123,10 @@ events_are_lines s nue (e ∷ run) ranks most are =
     let first = All-head (IsOf nue) e run are in
     (body_is_line s nue e ranks most first, event_short s nue e ranks most first, events_are_lines s nue run ranks most (All-tail (IsOf nue) e run are))
 
-pub events_are : (s : SetupView) (run : List RankEvent) → joined (map (event_line s) run) ≡ text_of (map (event_body s) run)
+pub events_are : (s : SetupView) (run : List RankEvent) → joined_texts (map (event_line s) run) ≡ text_of (map (event_body s) run)
 events_are s [] = refl
 events_are s (e ∷ run) =
-    ap (λ (t : List ℕ). t ++ joined (map (event_line s) run)) (event_line_is s e) ∙ ap (λ (t : List ℕ). (event_body s e ++ 10 ∷ []) ++ t) (events_are s run)
+    ap (λ (t : List ℕ). t ++ joined_texts (map (event_line s) run)) (event_line_is s e) ∙ ap (λ (t : List ℕ). (event_body s e ++ 10 ∷ []) ++ t) (events_are s run)
 
 -- ---- how many lines the communicators have
 

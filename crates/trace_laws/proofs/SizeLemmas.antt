@@ -2,7 +2,7 @@
 use Rattle.std.proofs.Common.{◌≡◌, ℕ, zero, suc, ◌+◌, ◌*◌, ◌<◌, ◌≤◌, List, [], ◌∷◌, ◌++◌, length, length-append, codes, decimal, refl, ap, ◌∙◌, arith}
 use Rattle.std.proofs.lemmas.Fmt.{length-decimal-le}
 use Rattle.std.proofs.lemmas.List.{append-nil}
-use Rattle.rcce_io.specs.Sending.{joined}
+use Rattle.rcce_io.specs.Sending.{joined_texts}
 use Rattle.scc_base.specs.Events.{IsAccess}
 use Rattle.scc_base.specs.Places.{WordAt}
 use Rattle.scc_base.specs.Setups.{SetupView, host_of}
@@ -72,26 +72,26 @@ register_long : (core : ℕ) → core < 48 → length (decimal core ++ codes ".r
 register_long core below = let a = two_digits core (omega (arith, below)) in simp length-append (omega (arith, a))
 
 -- what an access, its place and its comment are long, together
-event_long : (s : SetupView) (a : Access) (p : WordAt) (v : ℕ) → s.nue ≤ 48 → IsAccess a p v → length (access_name a) + length (where_text a p) + length (joined (comment_words s a p)) ≤ 38
+event_long : (s : SetupView) (a : Access) (p : WordAt) (v : ℕ) → s.nue ≤ 48 → IsAccess a p v → length (access_name a) + length (where_text a p) + length (joined_texts (comment_words s a p)) ≤ 38
 event_long s Load p v ranks is =
     let name : length (access_name Load) ≡ 4 = refl in
     let place : length (where_text Load p) ≤ 8 = place_long p is.0.core_below is.0.line_below is.0.word_below in
-    let comment : length (joined (comment_words s Load p)) ≤ 25 = (comment_is s Load p v ranks is).short in
+    let comment : length (joined_texts (comment_words s Load p)) ≤ 25 = (comment_is s Load p v ranks is).short in
     omega (arith, name, place, comment)
 event_long s Store p v ranks is =
     let name : length (access_name Store) ≡ 5 = refl in
     let place : length (where_text Store p) ≤ 8 = place_long p is.0.core_below is.0.line_below is.0.word_below in
-    let comment : length (joined (comment_words s Store p)) ≤ 25 = (comment_is s Store p v ranks is).short in
+    let comment : length (joined_texts (comment_words s Store p)) ≤ 25 = (comment_is s Store p v ranks is).short in
     omega (arith, name, place, comment)
 event_long s Take p v ranks is =
     let name : length (access_name Take) ≡ 4 = refl in
     let place : length (where_text Take p) ≤ 11 = register_long p.core is.0 in
-    let comment : length (joined (comment_words s Take p)) ≡ 8 = refl in
+    let comment : length (joined_texts (comment_words s Take p)) ≡ 8 = refl in
     omega (arith, name, place, comment)
 event_long s Free p v ranks is =
     let name : length (access_name Free) ≡ 4 = refl in
     let place : length (where_text Free p) ≤ 11 = register_long p.core is.0 in
-    let comment : length (joined (comment_words s Free p)) ≡ 8 = refl in
+    let comment : length (joined_texts (comment_words s Free p)) ≡ 8 = refl in
     omega (arith, name, place, comment)
 
 pub event_short : (s : SetupView) (nue : ℕ) (e : RankEvent) → s.nue ≤ 48 → nue ≤ 48 → IsOf nue e → length (event_body s e) ≤ 62

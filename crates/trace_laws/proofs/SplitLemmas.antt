@@ -6,10 +6,10 @@ use Rattle.std.specs.Option.{ok_or}
 use Rattle.std.proofs.lemmas.Bool.{cond-false, le-ltb}
 use Rattle.std.proofs.lemmas.Fmt.{length-decimal-le}
 use Rattle.std.proofs.lemmas.List.{append-nil}
-use Rattle.rcce_io.specs.Sending.{joined}
-use Rattle.rcce_audit.specs.Grammar.{begins_comm, is_present, rule_named}
+use Rattle.rcce_io.specs.Sending.{joined_texts}
+use Rattle.rcce_audit.specs.Grammar.{begins_comm, has_rule, rule_named}
 use Rattle.rcce_audit.specs.Texts.{line_of, rule_lines, split_words, table_lines, text_of}
-use Rattle.rcce_audit.specs.Words.{◌>>=◌, words_of}
+use Rattle.rcce_audit.specs.Words.{◌>>=◌, log_words_of}
 use Rattle.rcce_audit.specs.declared.lines.CommSplit.{CommSplit}
 use Rattle.rcce_audit.proofs.TextLemmas.{split_pieces, text_of-append}
 use Rattle.rcce_audit.proofs.WritingLemmas.{present_before, set-middle, split_told}
@@ -33,11 +33,11 @@ one_line c (Mod p k) = split_pieces (decimal c) (decimal p) (codes "mod") (decim
 one_line c (Div p k) = split_pieces (decimal c) (decimal p) (codes "div") (decimal k) ∙ sym (append-nil (line_of (split_words c p (codes "div") k) ++ 10 ∷ []))
 
 pub lines_are : (s : SetupView) (rs : List CommRule) (n : ℕ) → ((k : ℕ) → k < length rs → rule_of s.comms (n + k + 1) ≡ get_or rs k Absent)
-    → joined (map (comm_line_behind s) (range_with_len n (length rs))) ≡ text_of (table_lines rule_lines (n + 1) rs)
+    → joined_texts (map (comm_line_behind s) (range_with_len n (length rs))) ≡ text_of (table_lines rule_lines (n + 1) rs)
 lines_are s [] n are = refl
 lines_are s (rule ∷ rs) n are =
     let here : rule_of s.comms (n + 1) ≡ rule = ap (λ (k : ℕ). rule_of s.comms k) (omega arith) ∙ are 0 (omega arith) in
-    let rest = joined (map (comm_line_behind s) (range_with_len (n + 1) (length rs))) in
+    let rest = joined_texts (map (comm_line_behind s) (range_with_len (n + 1) (length rs))) in
     ap (λ (r : CommRule). comm_line (n + 1) r ++ rest) here
     ∙ ap (λ (t : List ℕ). t ++ rest) (one_line (n + 1) rule)
     ∙ ap (λ (t : List ℕ). text_of (rule_lines (n + 1) rule) ++ t)
@@ -46,7 +46,7 @@ lines_are s (rule ∷ rs) n are =
 
 -- ---- one line
 
-words_are : (c p k : ℕ) (how : List ℕ) → c < 16 → p < c → k ≤ 48 → IsFrom 33 how → words_of (line_of (split_words c p how k)) ≡ split_words c p how k
+words_are : (c p k : ℕ) (how : List ℕ) → c < 16 → p < c → k ≤ 48 → IsFrom 33 how → log_words_of (line_of (split_words c p how k)) ≡ split_words c p how k
 words_are c p k how below low most is =
     word_at (codes "comm") (decimal c ++ 32 ∷ (decimal p ++ 32 ∷ (how ++ 32 ∷ decimal k))) refl
     ∙ ap (λ (ws : List (List ℕ)). codes "comm" ∷ ws) (word_at (decimal c) (decimal p ++ 32 ∷ (how ++ 32 ∷ decimal k)) (number_word c (omega (arith, below)))
@@ -68,13 +68,13 @@ split_short c p k how below low most three =
 abbrev pub at_rules : SetupView → List CommRule → ℕ → TraceReading
 at_rules t comms last = record { trace = record { setup = record t { comms = comms }; events = [] }; comm = last }
 
-split_line_taken : (t : SetupView) (comms : List CommRule) (last c p k : ℕ) (how : List ℕ) (rule : CommRule) → last < c → c < 16 → p < c → is_present (rule_of comms p) ≡ true → 1 ≤ k → k ≤ 48 → rule_named how p k ≡ Some rule
+split_line_taken : (t : SetupView) (comms : List CommRule) (last c p k : ℕ) (how : List ℕ) (rule : CommRule) → last < c → c < 16 → p < c → has_rule (rule_of comms p) ≡ true → 1 ≤ k → k ≤ 48 → rule_named how p k ≡ Some rule
     → IsFrom 33 how → length how ≡ 3 → line_taken (at_rules t comms last) (line_of (split_words c p how k)) ≡ Some (at_rules t (set comms c rule) c)
 split_line_taken t comms last c p k how rule above below low stands some most named is three =
     let r = at_rules t comms last in
     let line = line_of (split_words c p how k) in
     let short = split_short c p k how below low most three in
-    cond-false (nat_lt most_line_bytes (length line)) None (cond (begins_comm line) (split_taken r (words_of line)) (event_taken r (words_of line))) (le-ltb most_line_bytes (length line) (omega (arith, short)))
+    cond-false (nat_lt most_line_bytes (length line)) None (cond (begins_comm line) (split_taken r (log_words_of line)) (event_taken r (log_words_of line))) (le-ltb most_line_bytes (length line) (omega (arith, short)))
     ∙ ap (split_taken r) (words_are c p k how below low most is)
     ∙ ap (λ (o : Option CommSplit). o >>= split_added r) (split_told last comms c p k how rule above below low stands some most named)
 

@@ -11,7 +11,7 @@ use Rattle.hex.specs.Hex.{IsBytes, decode_sized, lower_digits}
 use Rattle.hex.specs.declared.error.FromHexError.{FromHexError}
 use Rattle.hex.proofs.HexLemmas.{decode_of-encode_lower, decode_sized-twice, length-encode_with}
 use Rattle.rcce_io.specs.Digits.{hex_text}
-use Rattle.rcce_audit.specs.Words.{◌>>=◌, is_lower, only_if, range_said, words_of}
+use Rattle.rcce_audit.specs.Words.{◌>>=◌, is_lower, only_if, exact_range_said, log_words_of}
 use Rattle.rcce_audit.proofs.HexTextLemmas.{text_lower}
 use Rattle.rcce_audit.proofs.WordLemmas.{range_said-decimal}
 use Rattle.scc_base.specs.Places.{IsPlace, WordAt}
@@ -22,10 +22,10 @@ use Rattle.trace_text.specs.Words.{dot_parts, hex_word_said, layout_said, place_
 use Rattle.trace_laws.proofs.ByteLemmas.{IsFrom, decimal_from, digits_from, from_append, from_lower, no_byte}
 
 -- a word, and what stands behind the blank after it
-pub word_at : (w rest : List ℕ) → IsFrom 33 w → words_of (w ++ 32 ∷ rest) ≡ w ∷ words_of rest
+pub word_at : (w rest : List ℕ) → IsFrom 33 w → log_words_of (w ++ 32 ∷ rest) ≡ w ∷ log_words_of rest
 word_at w rest is = slice_split_at (λ b. b == 32) w 32 rest (no_byte 32 33 w (omega arith) is) refl
 
-pub last_word : (w : List ℕ) → IsFrom 33 w → words_of w ≡ w ∷ []
+pub last_word : (w : List ℕ) → IsFrom 33 w → log_words_of w ≡ w ∷ []
 last_word w is = slice_split_none (λ b. b == 32) w (no_byte 32 33 w (omega arith) is)
 
 -- numbers
@@ -81,7 +81,7 @@ dot_at w rest is = slice_split_at (λ b. b == 46) w 46 rest (no_byte 46 48 w (om
 dot_none : (w : List ℕ) → IsFrom 48 w → dot_parts w ≡ w ∷ []
 dot_none w is = slice_split_none (λ b. b == 46) w (no_byte 46 48 w (omega arith) is)
 
-number_told : (most n : ℕ) → n ≤ most → n ≤ 65536 → range_said 0 most (decimal n) ≡ Some n
+number_told : (most n : ℕ) → n ≤ most → n ≤ 65536 → exact_range_said 0 most (decimal n) ≡ Some n
 number_told most n within small = range_said-decimal 0 most n (omega arith) within (omega (arith, small))
 
 pub place_told : (p : WordAt) → IsPlace p → place_said (dot_parts (place_text p)) ≡ Some p
@@ -92,8 +92,8 @@ place_told p is =
     ap place_said (dot_at (decimal p.core) (decimal p.line ++ 46 ∷ decimal p.word) (number_from p.core (omega (arith, core)))
     ∙ ap (λ (parts : List (List ℕ)). decimal p.core ∷ parts) (dot_at (decimal p.line) (decimal p.word) (number_from p.line (omega (arith, line)))
     ∙ ap (λ (parts : List (List ℕ)). decimal p.line ∷ parts) (dot_none (decimal p.word) (number_from p.word (omega (arith, word))))))
-    ∙ ap (λ (o : Option ℕ). o >>= λ c. range_said 0 255 (decimal p.line) >>= λ l. range_said 0 3 (decimal p.word) >>= λ w. Some (record { core = c; line = l; word = w })) (number_told 47 p.core (omega (arith, core)) (omega (arith, core)))
-    ∙ ap (λ (o : Option ℕ). o >>= λ l. range_said 0 3 (decimal p.word) >>= λ w. Some (record { core = p.core; line = l; word = w })) (number_told 255 p.line (omega (arith, line)) (omega (arith, line)))
+    ∙ ap (λ (o : Option ℕ). o >>= λ c. exact_range_said 0 255 (decimal p.line) >>= λ l. exact_range_said 0 3 (decimal p.word) >>= λ w. Some (record { core = c; line = l; word = w })) (number_told 47 p.core (omega (arith, core)) (omega (arith, core)))
+    ∙ ap (λ (o : Option ℕ). o >>= λ l. exact_range_said 0 3 (decimal p.word) >>= λ w. Some (record { core = p.core; line = l; word = w })) (number_told 255 p.line (omega (arith, line)) (omega (arith, line)))
     ∙ ap (λ (o : Option ℕ). o >>= λ w. Some (record { core = p.core; line = p.line; word = w })) (number_told 3 p.word (omega (arith, word)) (omega (arith, word)))
 
 pub place_word : (p : WordAt) → IsPlace p → IsFrom 33 (place_text p)

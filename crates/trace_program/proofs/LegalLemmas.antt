@@ -2,7 +2,7 @@
 use Rattle.std.proofs.Common.{◌≡◌, inl, inr, ℕ, Bool, true, false, List, codes, length, Option, Some, None, Result, Ok, Err, refl, sym, ◌∙◌, ap}
 use Rattle.std.specs.Prelude.{IsOk, nat_lt}
 use Rattle.std.proofs.lemmas.Bool.{ltb-false}
-use Rattle.outcomes.specs.Coming.{ByTest, Comes, Holds, IsMeant, LeadsOn}
+use Rattle.outcomes.specs.Coming.{ByTest, Comes, FileHolds, IsMeant, LeadsOn}
 use Rattle.outcomes.specs.Delivery.{Delivers, Sinks}
 use Rattle.outcomes.specs.Outcomes.{Outcome, run_outcome, too_long}
 use Rattle.outcomes.specs.declared.status.Status.{Status}
@@ -68,7 +68,7 @@ said_legal command (Err fault) before after o (stays, inr is) finished = let e :
 -- a file that was read
 record FileLegal (command : TraceCommand) (told : Option (List NamedFile)) : Type 0 where
   pub text : List ℕ
-  pub holds : Holds told command.file text
+  pub holds : FileHolds told command.file text
   pub says : SaysLegal (trace_of text)
 
 read_legal : (command : TraceCommand) (before between after : FilesView) (o : Outcome) (answer : Result (List ℕ) ReadEnd) → ReadsAll command.file most_trace_bytes before between answer

@@ -1,6 +1,6 @@
 -- What it means that a trace is legal (this project's profile).
 use Rattle.std.specs.Prelude.{◌≡◌, ℕ, ◌<◌, List, Option, Some, Ok}
-use Rattle.outcomes.specs.Coming.{Holds}
+use Rattle.outcomes.specs.Coming.{FileHolds}
 use Rattle.rcce_io.specs.Files.{NamedFile}
 use Rattle.scc_proto.specs.Agreement.{Agrees}
 use Rattle.scc_proto.specs.Histories.{IsPermittedRun, memory_from, records_of}
@@ -25,7 +25,7 @@ pub record NamesLegal (words : List (List ℕ)) (told : Option (List NamedFile))
   pub command : TraceCommand
   pub asked : trace_command words ≡ Some command
   pub text : List ℕ
-  pub holds : Holds told command.file text
+  pub holds : FileHolds told command.file text
   pub trace : TraceView
   pub said : trace_of text ≡ Ok trace
   pub legal : IsLegalTrace trace

@@ -1,6 +1,6 @@
 -- What `rccetrace` says of what a record allows next (this project's profile).
 use Rattle.std.specs.Prelude.{ℕ, List, [], ◌∷◌, ◌++◌, codes, decimal, Option, Some, None}
-use Rattle.rcce_io.specs.Sending.{joined}
+use Rattle.rcce_io.specs.Sending.{joined_texts}
 use Rattle.record_machine.specs.declared.next.NextEvent.{NextEvent}
 use Rattle.record_machine.specs.declared.next.NextEvent.TheVariants as next
 use Rattle.record_machine.specs.declared.next.NextStore.{NextStore}
@@ -8,7 +8,7 @@ use Rattle.record_machine.specs.declared.next.NextStore.TheVariants as may
 
 -- a text with a number in it
 abbrev pub text_round : (before : List ℕ) → ℕ → (after : List ℕ) → List ℕ
-text_round before number after = joined (before ∷ decimal number ∷ after ∷ [])
+text_round before number after = joined_texts (before ∷ decimal number ∷ after ∷ [])
 
 -- the stores that messages and barriers allow
 abbrev pub store_text : NextStore → List ℕ

@@ -7,7 +7,7 @@ use Rattle.trace_program.specs.declared.finished.FinishedCalls.{FinishedCalls}
 use Rattle.std.specs.Int.{w64, to_be_bytes}
 use Rattle.rcce_audit.specs.Texts.{call_lines, table_lines, text_of}
 use Rattle.rcce_io.specs.Digits.{hex_text}
-use Rattle.rcce_io.specs.Sending.{joined}
+use Rattle.rcce_io.specs.Sending.{joined_texts}
 use Rattle.scc_base.specs.Calls.{DataCall}
 use Rattle.trace_judge.specs.declared.judge.Refusal.{Refusal}
 use Rattle.trace_judge.specs.declared.judge.Refusal.TheVariants.{OtherValue, NotPermitted}
@@ -15,7 +15,7 @@ use Rattle.trace_program.specs.NextTexts.{next_text}
 
 -- the line of a rank: how many calls it has finished
 abbrev pub count_line : (r count : ℕ) → List ℕ
-count_line r count = joined (codes "rank " ∷ decimal r ∷ codes " finished " ∷ decimal count ∷ codes " calls" ∷ [])
+count_line r count = joined_texts (codes "rank " ∷ decimal r ∷ codes " finished " ∷ decimal count ∷ codes " calls" ∷ [])
 
 -- the line of a rank of the run, and none of another
 abbrev pub count_lines : (nue r count : ℕ) → List (List ℕ)
@@ -45,7 +45,8 @@ kept_text nue f = codes "legal\n" ++ (text_of (table_lines (count_lines nue) 0 f
 -- what is printed of one that is not: the line of its first event that is refused, and why
 abbrev pub refused_text : (line rank : ℕ) → Refusal → List ℕ
 refused_text line rank (OtherValue found) =
-    joined (codes "not legal: line " ∷ decimal line ∷ codes ": the value there is " ∷ hex_text (to_be_bytes w64 found) ∷ codes "\n" ∷ [])
+    joined_texts (codes "not legal: line " ∷ decimal line ∷ codes ": the value there is "
+    ∷ hex_text (to_be_bytes w64 found) ∷ codes "\n" ∷ [])
 refused_text line rank (NotPermitted next) =
-    joined (codes "not legal: line " ∷ decimal line ∷ codes ": the record of rank " ∷ decimal rank ∷ codes " does not permit it; "
+    joined_texts (codes "not legal: line " ∷ decimal line ∷ codes ": the record of rank " ∷ decimal rank ∷ codes " does not permit it; "
     ∷ next_text next ∷ codes "\n" ∷ [])

@@ -4,7 +4,7 @@ use Rattle.std.specs.List.{range_with_len}
 use Rattle.rand_pcg.specs.Lcg.{Lcg}
 use Rattle.rand_pcg.specs.Pcg.{pcg32}
 use Rattle.scc_mesh.specs.Scenes.{ChipView}
-use Rattle.chip_run.specs.Orders.{TurnsOf, drawn, drawn_in, named, ranks_by}
+use Rattle.chip_run.specs.Orders.{TurnsOf, generator_after, drawn_in, named_ranks, ranks_by}
 use Rattle.chip_run.specs.Conducts.{Conduct}
 use Rattle.chip_run.proofs.OrderLaws.{turns_then}
 
@@ -13,7 +13,7 @@ module _ (nue : ℕ) (g : Lcg) where
   unfolding ranks_by
   none_ranks = refl
 
-  more_ranks : (n : ℕ) → ranks_by pcg32 nue (n + 1) g ≡ ranks_by pcg32 nue n g ++ (named pcg32 nue (1000 * nue) (drawn_in pcg32 nue n g) ++ range_with_len 0 nue)
+  more_ranks : (n : ℕ) → ranks_by pcg32 nue (n + 1) g ≡ ranks_by pcg32 nue n g ++ (named_ranks pcg32 nue (1000 * nue) (drawn_in pcg32 nue n g) ++ range_with_len 0 nue)
   unfolding ranks_by
   more_ranks n = let e : n + 1 ≡ suc n = omega arith in ap (λ (k : ℕ). ranks_by pcg32 nue k g) e
 
@@ -21,7 +21,7 @@ module _ (nue : ℕ) (g : Lcg) where
   unfolding drawn_in
   none_in = refl
 
-  more_drawn : (n : ℕ) → drawn_in pcg32 nue (n + 1) g ≡ drawn pcg32 (1000 * nue) (drawn_in pcg32 nue n g)
+  more_drawn : (n : ℕ) → drawn_in pcg32 nue (n + 1) g ≡ generator_after pcg32 (1000 * nue) (drawn_in pcg32 nue n g)
   unfolding drawn_in
   more_drawn n = let e : n + 1 ≡ suc n = omega arith in ap (λ (k : ℕ). drawn_in pcg32 nue k g) e
 
@@ -37,16 +37,16 @@ at_first c first picks chip crew is = record {
 }
 
 pub at_next : {A : Type 0} (c : Conduct A) (first old new : Lcg) (n : ℕ) (chip mid half last : ChipView) (crew some more later : List A) → AtRound c first n old chip crew mid some
-    → length some ≡ length crew → length more ≡ length some → new ≡ drawn pcg32 (1000 * length some) old → TurnsOf c (named pcg32 (length some) (1000 * length some) old) mid some half more
+    → length some ≡ length crew → length more ≡ length some → new ≡ generator_after pcg32 (1000 * length some) old → TurnsOf c (named_ranks pcg32 (length some) (1000 * length some) old) mid some half more
     → TurnsOf c (range_with_len 0 (length more)) half more last later → AtRound c first (n + 1) new chip crew last later
 at_next c first old new n chip mid half last crew some more later at many same drew round sweep =
     let size = length crew in
     record {
-      drew = drew ∙ ap (λ (k : ℕ). drawn pcg32 (1000 * k) old) many ∙ ap (λ (g : Lcg). drawn pcg32 (1000 * size) g) at.drew ∙ sym (more_drawn size first n);
+      drew = drew ∙ ap (λ (k : ℕ). generator_after pcg32 (1000 * k) old) many ∙ ap (λ (g : Lcg). generator_after pcg32 (1000 * size) g) at.drew ∙ sym (more_drawn size first n);
       turns = subst (λ (l : List ℕ). TurnsOf c l chip crew last later) (sym (more_ranks size first n))
-          (turns_then c (ranks_by pcg32 size n first) (named pcg32 size (1000 * size) (drawn_in pcg32 size n first) ++ range_with_len 0 size) chip mid last crew some later at.turns
-          (turns_then c (named pcg32 size (1000 * size) (drawn_in pcg32 size n first)) (range_with_len 0 size) mid half last some more later
-          (subst (λ (g : Lcg). TurnsOf c (named pcg32 size (1000 * size) g) mid some half more) at.drew
-          (subst (λ (k : ℕ). TurnsOf c (named pcg32 k (1000 * k) old) mid some half more) many round))
+          (turns_then c (ranks_by pcg32 size n first) (named_ranks pcg32 size (1000 * size) (drawn_in pcg32 size n first) ++ range_with_len 0 size) chip mid last crew some later at.turns
+          (turns_then c (named_ranks pcg32 size (1000 * size) (drawn_in pcg32 size n first)) (range_with_len 0 size) mid half last some more later
+          (subst (λ (g : Lcg). TurnsOf c (named_ranks pcg32 size (1000 * size) g) mid some half more) at.drew
+          (subst (λ (k : ℕ). TurnsOf c (named_ranks pcg32 k (1000 * k) old) mid some half more) many round))
           (subst (λ (k : ℕ). TurnsOf c (range_with_len 0 k) half more last later) (same ∙ many) sweep)));
     }

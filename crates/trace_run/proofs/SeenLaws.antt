@@ -9,7 +9,7 @@ use Rattle.scc_proto.specs.Words.{RankEvent}
 use Rattle.scc_proto.proofs.Tests.{same_or_other}
 use Rattle.scc_mesh.specs.Scenes.{ChipView, about_in, events_in, home_in, sight_in, view_coded}
 use Rattle.chip_run.specs.Conducts.{Conduct}
-use Rattle.scc_mesh.specs.SeatViews.{View, list_at, list_or_none, without}
+use Rattle.scc_mesh.specs.SeatViews.{SeatView, list_at, list_or_none, without}
 use Rattle.scc_mesh.proofs.ViewLemmas.{known_there}
 use Rattle.trace_run.specs.Seen.{HasSeen, HasSeenAll, ToldAll, ToldAt}
 
@@ -75,7 +75,7 @@ below_seen u told s r seen below = subst (λ (x : SetupView). r < x.nue) (sym se
 -- ---- from a chip to a port and back
 
 -- the lists that a port has of the other ranks are those of the chip
-list_without : (home : View) (r q : ℕ) → q ≢ r → list_at (without home r) q ≡ list_at home q
+list_without : (home : SeatView) (r q : ℕ) → q ≢ r → list_at (without home r) q ≡ list_at home q
 list_without home r q ne = ap list_or_none (known_there home r None q ne)
 
 lent_at : (told : List RankEvent → Type 0) (chip : ChipView) (at hold : ℕ) → ToldAll told chip → ToldAt told (sight_in chip at hold)
@@ -96,7 +96,7 @@ back_all told now at hold there =
       noted = there.noted;
       each = λ q. same_or_other (events_of q there.run ≡ events_in now q) q at
           (λ t is. subst (λ (k : ℕ). events_of k there.run ≡ events_in now k) (sym is) there.own)
-          (λ t ne. there.others q ne ∙ ap (λ (v : View). list_at v q) (sym rests) ∙ list_without (home_in now) at q ne);
+          (λ t ne. there.others q ne ∙ ap (λ (v : SeatView). list_at v q) (sym rests) ∙ list_without (home_in now) at q ne);
     }
 
 -- a port that was lent the chip

@@ -5,7 +5,7 @@ use Rattle.scc_proto.specs.Histories.{events_of}
 use Rattle.scc_proto.specs.Ports.{Sight}
 use Rattle.scc_proto.specs.Words.{RankEvent}
 use Rattle.scc_mesh.specs.Scenes.{ChipView, about_in, events_in, view_coded}
-use Rattle.scc_mesh.specs.SeatViews.{View, list_at}
+use Rattle.scc_mesh.specs.SeatViews.{SeatView, list_at}
 
 -- a list of events that was told (`told` says so) has the events of a chip: those of each rank are the rank's own, in order
 pub record ToldAll (told : List RankEvent → Type 0) (chip : ChipView) : Type 0 where
@@ -19,7 +19,7 @@ pub record ToldAt (told : List RankEvent → Type 0) (sight : Sight) : Type 0 wh
   pub run : List RankEvent
   pub noted : told run
   pub own : events_of sight.seat.rank run ≡ sight.events
-  pub resting : View
+  pub resting : SeatView
   pub rest : sight.seat.rest ≡ view_coded.code resting
   pub others : (rank : ℕ) → rank ≢ sight.seat.rank → events_of rank run ≡ list_at resting rank
 

@@ -4,7 +4,7 @@ ghost use Rattle.std.specs.Prelude.{◌≡◌, ◌<◌, ◌*◌, length};
 ghost use Rattle.std.specs.List.{range_with_len};
 ghost use Rattle.rand_pcg.specs.Pcg.{pcg32};
 ghost use Rattle.chip_run.specs.Crews.{CrewStands, IsCrew, OneTurn, SweepStands};
-ghost use Rattle.chip_run.specs.Orders.{TurnsOf, drawn, named};
+ghost use Rattle.chip_run.specs.Orders.{TurnsOf, generator_after, named_ranks};
 ghost use Rattle.trace_run.specs.Seen.{HasSeenAll};
 
 use crate::turns::turn_at_home;
@@ -63,8 +63,8 @@ pub(crate) fn round<W: Worker, N: Witness>(
     requires crew { IsCrew W.conduct chip.old crew.old }
     requires some { 0 < length crew.old }
     requires seen { HasSeenAll (N.setup witness) (N.noted witness) chip.old }
-    ensures picks { picks.new ≡ drawn pcg32 (1000 * length crew.old) picks.old }
-    ensures order { TurnsOf W.conduct (named pcg32 (length crew.old) (1000 * length crew.old) picks.old) chip.old crew.old
+    ensures picks { picks.new ≡ generator_after pcg32 (1000 * length crew.old) picks.old }
+    ensures order { TurnsOf W.conduct (named_ranks pcg32 (length crew.old) (1000 * length crew.old) picks.old) chip.old crew.old
         chip.new crew.new }
     ensures stands { CrewStands W.conduct chip.old crew.old chip.new crew.new }
     ensures seen { HasSeenAll (N.setup result) (N.noted result) chip.new }

@@ -1,7 +1,7 @@
 -- What a call leaves that runs a script and writes its trace (this project's profile).
 use Rattle.std.specs.Prelude.{◌≡◌, ◌⊎◌, ℕ, List, [], ◌∷◌, codes, decimal, None, Some, unwrap_or, Result, Ok, Err}
 use Rattle.rcce_io.specs.Files.{FilesView}
-use Rattle.rcce_io.specs.Sending.{CutShort, Sends, SinkView, joined, with_text}
+use Rattle.rcce_io.specs.Sending.{CutShort, Sends, SinkView, joined_texts, with_text}
 use Rattle.rcce_io.specs.declared.writing.WriteFault.{WriteFault}
 use Rattle.scc_proto.specs.Histories.{events_of}
 use Rattle.scc_proto.specs.Words.{RankEvent}
@@ -65,7 +65,7 @@ pub record WasCutOff (asked : Asked) (chip : ChipView) (before after : Sinks) : 
 
 -- the line of an event that the judge refused
 abbrev pub refused_line : ℕ → List ℕ
-refused_line rank = joined (codes "rccetrace: an event of ue " ∷ decimal rank ∷ codes " is not legal\n" ∷ [])
+refused_line rank = joined_texts (codes "rccetrace: an event of ue " ∷ decimal rank ∷ codes " is not legal\n" ∷ [])
 
 -- the judge refused the event behind a legal front of the chip's events, whose trace was written
 pub record WasBroken (asked : Asked) (chip : ChipView) (before after : Sinks) : Type 0 where

@@ -3,10 +3,10 @@ use Rattle.std.proofs.Common.{◌≡◌, ◌⊎◌, inl, inr, ℕ, ◌+◌, ◌=
 use Rattle.std.specs.Prelude.{nat_lt}
 use Rattle.std.specs.Option.{ok_or}
 use Rattle.rcce_audit.specs.Grammar.{begins_comm, comm_said}
-use Rattle.rcce_audit.specs.Words.{words_of}
+use Rattle.rcce_audit.specs.Words.{log_words_of}
 use Rattle.rcce_audit.proofs.WordLemmas.{only_some, then_some}
 use Rattle.scc_proto.specs.Words.{RankEvent}
-use Rattle.trace_text.specs.Grammar.{TraceHead, TraceReading, behind_head, event_added, event_said, event_taken, head_said, line_fault, line_taken, split_added, split_taken}
+use Rattle.trace_text.specs.Grammar.{TraceHead, TraceReading, behind_head, event_added, event_said, event_taken, trace_head_said, line_fault, line_taken, split_added, split_taken}
 use Rattle.trace_text.specs.Traces.{most_line_bytes}
 use Rattle.trace_text.specs.Walks.{GainsEvent, last_line, next_said, text_reading, trace_lines_said, whole_lines}
 use Rattle.trace_text.specs.declared.faults.TraceFault.{TraceFault}
@@ -33,22 +33,22 @@ some_behind [] e is = absurd (cc)
 some_behind (x ∷ events) e is = absurd (cc)
 
 module _ (reading next : TraceReading) (line : List ℕ) (none : next.trace.events ≡ []) where
-  none_split : split_taken reading (words_of line) ≡ Some next → reading.trace.events ≡ []
+  none_split : split_taken reading (log_words_of line) ≡ Some next → reading.trace.events ≡ []
   none_split taken =
-      let (split, said, gives) = then_some (comm_said reading.comm reading.trace.setup.comms (words_of line)) (split_added reading) next taken in
+      let (split, said, gives) = then_some (comm_said reading.comm reading.trace.setup.comms (log_words_of line)) (split_added reading) next taken in
       let (test, same) = only_some (length reading.trace.events == 0) _ next gives in
       ap (λ (r : TraceReading). r.trace.events) same ∙ none
 
-  none_event : event_taken reading (words_of line) ≡ Some next → reading.trace.events ≡ []
+  none_event : event_taken reading (log_words_of line) ≡ Some next → reading.trace.events ≡ []
   none_event taken =
-      let (e, said, gives) = then_some (event_said reading.trace.setup.nue (words_of line)) (λ (e : RankEvent). Some (event_added reading e)) next taken in
+      let (e, said, gives) = then_some (event_said reading.trace.setup.nue (log_words_of line)) (λ (e : RankEvent). Some (event_added reading e)) next taken in
       let same : event_added reading e ≡ next = cc in
       absurd (some_behind reading.trace.events e (ap (λ (r : TraceReading). r.trace.events) same ∙ none))
 
   none_before : line_taken reading line ≡ Some next → reading.trace.events ≡ []
   none_before taken = by (nat_lt most_line_bytes (length line)) (begins_comm line) taken
     where
-      by : (long comm : Bool) → (if long then None else if comm then split_taken reading (words_of line) else event_taken reading (words_of line)) ≡ Some next → reading.trace.events ≡ []
+      by : (long comm : Bool) → (if long then None else if comm then split_taken reading (log_words_of line) else event_taken reading (log_words_of line)) ≡ Some next → reading.trace.events ≡ []
       by true comm is = absurd (cc)
       by false true is = none_split is
       by false false is = none_event is
@@ -61,7 +61,7 @@ line_goes reading next (inl same) before = inl (sym same)
 line_goes reading next (inr none) before = inr (inr (before none, next, refl, none))
 
 said_goes : (old : Option (Result TraceReading TraceFault)) (before : ℕ) (line : List ℕ) → GainsEvent old (Some (next_said old before line)) None → GoesWithout old (Some (next_said old before line))
-said_goes None before line gains = by (head_said line)
+said_goes None before line gains = by (trace_head_said line)
   where
     by : (o : Option TraceHead) → GoesWithout None (Some (ok_or (option_map behind_head o) (record { line = 1; kind = kind.BadHead })))
     by None = inr (inl (record { line = 1; kind = kind.BadHead }, refl))

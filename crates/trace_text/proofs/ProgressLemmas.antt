@@ -5,7 +5,7 @@ use Rattle.std.proofs.lemmas.Bool.{cond-false, cond-true, le-ltb, lt-ltb}
 use Rattle.std.specs.Bool.{MatchBool}
 use Rattle.std.proofs.lemmas.Bool.Decides.{nat_tests}
 use Rattle.rcce_audit.specs.Grammar.{begins_comm, comm_said}
-use Rattle.rcce_audit.specs.Words.{words_of}
+use Rattle.rcce_audit.specs.Words.{log_words_of}
 use Rattle.rcce_audit.proofs.WordLemmas.{only_some, then_some}
 use Rattle.scc_proto.specs.Words.{RankEvent}
 use Rattle.trace_text.specs.Grammar.{TraceReading, last_taken, line_fault, line_taken, split_added, split_taken, trace_of, ◌>->◌}
@@ -31,7 +31,7 @@ said_none (suc n) fault reading is = absurd (omega (arith, is))
 
 -- ---- a line of a communicator
 
-module _ (reading next : TraceReading) (line : List ℕ) (words : List (List ℕ)) (short : length line ≤ most_line_bytes) (same : words ≡ words_of line) (begins : begins_comm line ≡ true) where
+module _ (reading next : TraceReading) (line : List ℕ) (words : List (List ℕ)) (short : length line ≤ most_line_bytes) (same : words ≡ log_words_of line) (begins : begins_comm line ≡ true) where
   split_line : line_taken reading line ≡ split_taken reading words
   split_line = cond-false (nat_lt most_line_bytes (length line)) _ _ (le-ltb most_line_bytes (length line) short) ∙ cond-true (begins_comm line) _ _ begins ∙ ap (split_taken reading) (sym same)
 

@@ -19,12 +19,12 @@ use Rattle.scc_base.specs.declared.events.Event.{Event}
 use Rattle.scc_base.specs.declared.layouts.Layout.{Layout}
 use Rattle.scc_proto.specs.Words.{RankEvent, rank_below}
 use Rattle.rcce_audit.specs.declared.lines.CommSplit.{CommSplit}
-use Rattle.rcce_audit.specs.Grammar.{begins_comm, comm_said, rank_said, world_alone}
-use Rattle.rcce_audit.specs.Words.{◌>>=◌, is_lower, only_if, range_said, words_of}
+use Rattle.rcce_audit.specs.Grammar.{begins_comm, comm_said, log_rank_said, first_rules}
+use Rattle.rcce_audit.specs.Words.{◌>>=◌, is_lower, only_if, exact_range_said, log_words_of}
 use Rattle.texts.specs.Cuts.{lines_of}
 use Rattle.rcce_audit.proofs.ReadingLemmas.{no_rules, world_rules}
 use Rattle.rcce_audit.proofs.WordLemmas.{only_some, range_word, then_some}
-use Rattle.trace_text.specs.Grammar.{HostTable, TraceHead, TraceReading, access_said, all_hosts_said, all_taken, are_head_words, behind_head, event_added, event_by, event_said, event_taken, first_taken, free_event_said, head_of_words, head_said, head_values_said, host_said, hosts_said, last_taken, line_fault, line_taken, lines_taken, load_event_said, no_hosts, parts_taken, split_added, split_taken, store_event_said, take_event_said, trace_of, ◌>->◌}
+use Rattle.trace_text.specs.Grammar.{HostTable, TraceHead, TraceReading, access_said, all_hosts_said, all_taken, are_head_words, behind_head, event_added, event_by, event_said, event_taken, first_taken, free_event_said, head_of_words, trace_head_said, head_values_said, host_said, hosts_said, last_taken, line_fault, line_taken, lines_taken, load_event_said, no_hosts, parts_taken, split_added, split_taken, store_event_said, take_event_said, trace_of, ◌>->◌}
 use Rattle.trace_text.specs.Traces.{TraceView, most_line_bytes, most_trace_bytes, most_trace_lines}
 use Rattle.trace_text.specs.Words.{comma_parts, dot_parts, hex_word_said, is_comment, layout_said, place_said, register_place_said}
 use Rattle.trace_text.specs.declared.faults.TraceFault.{TraceFault}
@@ -68,9 +68,9 @@ place_is [] p said = absurd (cc)
 place_is (core ∷ []) p said = absurd (cc)
 place_is (core ∷ line ∷ []) p said = absurd (cc)
 place_is (core ∷ line ∷ word ∷ []) p said =
-    let (c, is_c, later) = then_some (range_said 0 47 core) (λ c. range_said 0 255 line >>= λ l. range_said 0 3 word >>= λ w. Some (record { core = c; line = l; word = w })) p said in
-    let (l, is_l, last) = then_some (range_said 0 255 line) (λ l. range_said 0 3 word >>= λ w. Some (record { core = c; line = l; word = w })) p later in
-    let (w, is_w, gives) = then_some (range_said 0 3 word) (λ w. Some (record { core = c; line = l; word = w })) p last in
+    let (c, is_c, later) = then_some (exact_range_said 0 47 core) (λ c. exact_range_said 0 255 line >>= λ l. exact_range_said 0 3 word >>= λ w. Some (record { core = c; line = l; word = w })) p said in
+    let (l, is_l, last) = then_some (exact_range_said 0 255 line) (λ l. exact_range_said 0 3 word >>= λ w. Some (record { core = c; line = l; word = w })) p later in
+    let (w, is_w, gives) = then_some (exact_range_said 0 3 word) (λ w. Some (record { core = c; line = l; word = w })) p last in
     let of_core = range_word 0 47 core c is_c in
     let of_line = range_word 0 255 line l is_l in
     let of_word = range_word 0 3 word w is_w in
@@ -82,7 +82,7 @@ core_is : (parts : List (List ℕ)) (c : ℕ) → register_place_said parts ≡ 
 core_is [] c said = absurd (cc)
 core_is (core ∷ []) c said = absurd (cc)
 core_is (core ∷ name ∷ []) c said =
-    let (n, is_n, gives) = then_some (range_said 0 47 core) (λ c. only_if (bytes_eq name (codes "register")) c) c said in
+    let (n, is_n, gives) = then_some (exact_range_said 0 47 core) (λ c. only_if (bytes_eq name (codes "register")) c) c said in
     let (test, value) = only_some (bytes_eq name (codes "register")) n c gives in
     let of_core = range_word 0 47 core n is_n in
     omega (arith, of_core.most, value)
@@ -137,7 +137,7 @@ IsOfRank nue e = (e.rank < nue) × IsEvent e.event
 
 event_by_is : (nue : ℕ) (rank access place value : List ℕ) (e : RankEvent) → 1 ≤ nue → event_by nue rank access place value ≡ Some e → IsOfRank nue e
 event_by_is nue rank access place value e some said =
-    let (r, is_r, later) = then_some (rank_said nue rank) (λ r. access_said access place value >>= λ made. Some (record { rank = r; event = made })) e said in
+    let (r, is_r, later) = then_some (log_rank_said nue rank) (λ r. access_said access place value >>= λ made. Some (record { rank = r; event = made })) e said in
     let (made, is, gives) = then_some (access_said access place value) (λ made. Some (record { rank = r; event = made })) e later in
     let of_rank = range_word 0 (nue - 1) rank r is_r in
     let same : record { rank = r; event = made } ≡ e = cc in
@@ -160,7 +160,7 @@ record AreHosts (table : HostTable) : Type 0 where
 
 host_more : (table next : HostTable) (word : List ℕ) → AreHosts table → host_said table word ≡ Some next → AreHosts next
 host_more table next word are said =
-    let (c, is_c, gives) = then_some (range_said 0 47 word)
+    let (c, is_c, gives) = then_some (exact_range_said 0 47 word)
     (λ c. only_if (nat_lt table.count 48 && is_none (rank_below table.count table.hosts c)) (record { count = table.count + 1; hosts = set table.hosts table.count c })) next said in
     let (test, same) = only_some (nat_lt table.count 48 && is_none (rank_below table.count table.hosts c)) (record { count = table.count + 1; hosts = set table.hosts table.count c }) next gives in
     let parts = and_parts (nat_lt table.count 48) (is_none (rank_below table.count table.hosts c)) test in
@@ -195,7 +195,7 @@ hosts_are nue word hosts said =
 
 head_values : (nue layout hosts : List ℕ) (head : TraceHead) → head_values_said nue layout hosts ≡ Some head → IsTraceHead head
 head_values nue layout hosts head said =
-    let (n, is_n, later) = then_some (range_said 1 48 nue) (λ n. layout_said layout >>= λ l. all_hosts_said n hosts >>= λ h. Some (record { nue = n; layout = l; hosts = h })) head said in
+    let (n, is_n, later) = then_some (exact_range_said 1 48 nue) (λ n. layout_said layout >>= λ l. all_hosts_said n hosts >>= λ h. Some (record { nue = n; layout = l; hosts = h })) head said in
     let (l, is_l, last) = then_some (layout_said layout) (λ l. all_hosts_said n hosts >>= λ h. Some (record { nue = n; layout = l; hosts = h })) head later in
     let (h, is_h, gives) = then_some (all_hosts_said n hosts) (λ h. Some (record { nue = n; layout = l; hosts = h })) head last in
     let of_nue = range_word 1 48 nue n is_n in
@@ -239,7 +239,7 @@ head_reads head is = record {
   made = All-nil (IsOfRank head.nue);
 }
   where
-    none : (c : ℕ) → 0 < c → rule_of world_alone c ≡ Absent
+    none : (c : ℕ) → 0 < c → rule_of first_rules c ≡ Absent
     none zero above = absurd (omega (arith, above))
     none (suc c) above = no_rules c
 
@@ -275,11 +275,11 @@ event_reads r next words reads said =
 
 line_reads : (r next : TraceReading) (line : List ℕ) → IsReadSoFar r → line_taken r line ≡ Some next → IsReadSoFar next
 line_reads r next line reads said =
-    by (begins_comm line) (if_none (nat_lt most_line_bytes (length line)) (if begins_comm line then split_taken r (words_of line) else event_taken r (words_of line)) next said)
+    by (begins_comm line) (if_none (nat_lt most_line_bytes (length line)) (if begins_comm line then split_taken r (log_words_of line) else event_taken r (log_words_of line)) next said)
   where
-    by : (comm : Bool) → (if comm then split_taken r (words_of line) else event_taken r (words_of line)) ≡ Some next → IsReadSoFar next
-    by true is = split_reads r next (words_of line) reads is
-    by false is = event_reads r next (words_of line) reads is
+    by : (comm : Bool) → (if comm then split_taken r (log_words_of line) else event_taken r (log_words_of line)) ≡ Some next → IsReadSoFar next
+    by true is = split_reads r next (log_words_of line) reads is
+    by false is = event_reads r next (log_words_of line) reads is
 
 -- a step that gave a value
 step_ok : {A B : Type 0} (step : Result A TraceFault) (next : A → Result B TraceFault) (y : B) → (step >-> next) ≡ Ok y → (x : A) × (step ≡ Ok x) × (next x ≡ Ok y)
@@ -299,8 +299,8 @@ lines_read number r next (line ∷ lines) reads said =
 
 first_reads : (line : List ℕ) (r : TraceReading) → first_taken line ≡ Ok r → IsReadSoFar r
 first_reads line r said =
-    let (head, is, same) = mapped_some behind_head (head_said line) r (or_some (option_map behind_head (head_said line)) _ r said) in
-    subst IsReadSoFar same (head_reads head (head_is (words_of line) head (if_none (nat_lt most_line_bytes (length line)) (head_of_words (words_of line)) head is)))
+    let (head, is, same) = mapped_some behind_head (trace_head_said line) r (or_some (option_map behind_head (trace_head_said line)) _ r said) in
+    subst IsReadSoFar same (head_reads head (head_is (log_words_of line) head (if_none (nat_lt most_line_bytes (length line)) (head_of_words (log_words_of line)) head is)))
 
 -- a trace whose events are ones that its ranks may make
 pub record IsSaid (trace : TraceView) : Type 0 where

@@ -11,7 +11,7 @@ use Rattle.std.proofs.lemmas.List.Splits.{slice_split-cons_no, slice_split-cons_
 use Rattle.texts.specs.Cuts.{lines_of}
 use Rattle.rcce_audit.specs.Grammar.{begins_comm}
 use Rattle.rcce_audit.proofs.ReadingLemmas.{few_parts, some_part}
-use Rattle.trace_text.specs.Grammar.{TraceHead, TraceReading, all_taken, behind_head, first_taken, head_said, last_taken, line_fault, line_taken, lines_taken, parts_taken, trace_of, ◌>->◌}
+use Rattle.trace_text.specs.Grammar.{TraceHead, TraceReading, all_taken, behind_head, first_taken, trace_head_said, last_taken, line_fault, line_taken, lines_taken, parts_taken, trace_of, ◌>->◌}
 use Rattle.trace_text.specs.Traces.{TraceView, most_line_bytes, most_trace_bytes, most_trace_lines}
 use Rattle.trace_text.specs.Walks.{EndsText, GainsEvent, HasComeTo, last_line, trace_lines_said, next_said, text_reading, whole_lines}
 use Rattle.trace_text.specs.declared.faults.TraceFault.{TraceFault}
@@ -150,8 +150,8 @@ line_cut reading line = kept_line (line_taken reading (take 256 line) ≡ line_t
     (λ long cut. cond-true (nat_lt most_line_bytes (length (take 256 line))) _ _ (lt-ltb most_line_bytes (length (take 256 line)) cut)
     ∙ sym (cond-true (nat_lt most_line_bytes (length line)) _ _ (lt-ltb most_line_bytes (length line) long)))
 
-head_cut : (line : List ℕ) → head_said (take 256 line) ≡ head_said line
-head_cut line = kept_line (head_said (take 256 line) ≡ head_said line) line (λ whole. ap head_said whole)
+head_cut : (line : List ℕ) → trace_head_said (take 256 line) ≡ trace_head_said line
+head_cut line = kept_line (trace_head_said (take 256 line) ≡ trace_head_said line) line (λ whole. ap trace_head_said whole)
     (λ long cut. cond-true (nat_lt most_line_bytes (length (take 256 line))) _ _ (lt-ltb most_line_bytes (length (take 256 line)) cut)
     ∙ sym (cond-true (nat_lt most_line_bytes (length line)) _ _ (lt-ltb most_line_bytes (length line) long)))
 

@@ -7,8 +7,8 @@ use Rattle.scc_base.specs.declared.layouts.Layout.{Layout}
 use Rattle.scc_base.specs.Events.{load_of, store_of, take_of, free_of}
 use Rattle.scc_proto.specs.Words.{RankEvent, rank_below}
 use Rattle.rcce_audit.specs.declared.lines.CommSplit.{CommSplit}
-use Rattle.rcce_audit.specs.Grammar.{rank_said, comm_said, begins_comm, world_alone}
-use Rattle.rcce_audit.specs.Words.{◌>>=◌, only_if, words_of, range_said}
+use Rattle.rcce_audit.specs.Grammar.{log_rank_said, comm_said, begins_comm, first_rules}
+use Rattle.rcce_audit.specs.Words.{◌>>=◌, only_if, log_words_of, exact_range_said}
 use Rattle.texts.specs.Cuts.{lines_of}
 use Rattle.trace_text.specs.declared.faults.TraceKind.{TraceKind}
 use Rattle.trace_text.specs.declared.faults.TraceKind.TheVariants as kind
@@ -45,7 +45,7 @@ access_said access place value =
 -- the event of a rank, by the words of its line
 abbrev pub event_by : ℕ → (rank access place value : List ℕ) → Option RankEvent
 event_by nue rank access place value =
-    rank_said nue rank >>= λ r. access_said access place value >>= λ e. Some (record { rank = r; event = e })
+    log_rank_said nue rank >>= λ r. access_said access place value >>= λ e. Some (record { rank = r; event = e })
 
 -- the event of a line, by its words: rank, access, place and value, and maybe a comment
 abbrev pub event_said : ℕ → List (List ℕ) → Option RankEvent
@@ -63,7 +63,7 @@ no_hosts = replicate 48 0
 
 -- one rank more, on a core of its own
 abbrev pub host_said : HostTable → List ℕ → Option HostTable
-host_said table word = range_said 0 47 word >>= λ c.
+host_said table word = exact_range_said 0 47 word >>= λ c.
     only_if (nat_lt table.count 48 && is_none (rank_below table.count table.hosts c))
     (record { count = table.count + 1; hosts = slice_set table.hosts table.count c })
 
@@ -86,7 +86,7 @@ all_hosts_said nue word =
 -- the head that three words say: 1 to 48 ranks, a layout and a core for each rank
 abbrev pub head_values_said : (nue layout hosts : List ℕ) → Option TraceHead
 head_values_said nue layout hosts =
-    range_said 1 48 nue >>= λ n. layout_said layout >>= λ l. all_hosts_said n hosts
+    exact_range_said 1 48 nue >>= λ n. layout_said layout >>= λ l. all_hosts_said n hosts
     >>= λ h. Some (record { nue = n; layout = l; hosts = h })
 
 -- the words of the first line that are always the same
@@ -111,7 +111,7 @@ abbrev pub behind_head : TraceHead → TraceReading
 behind_head head =
     record {
       trace = record {
-        setup = record { nue = head.nue; layout = head.layout; hosts = head.hosts; comms = world_alone };
+        setup = record { nue = head.nue; layout = head.layout; hosts = head.hosts; comms = first_rules };
         events = [];
       };
       comm = 0;
@@ -146,7 +146,7 @@ event_taken reading words = event_said reading.trace.setup.nue words >>= λ e. S
 abbrev pub line_taken : TraceReading → List ℕ → Option TraceReading
 line_taken reading line =
     if nat_lt most_line_bytes (length line) then None
-    else if begins_comm line then split_taken reading (words_of line) else event_taken reading (words_of line)
+    else if begins_comm line then split_taken reading (log_words_of line) else event_taken reading (log_words_of line)
 
 -- what is wrong with a line that is not
 abbrev pub line_fault : List ℕ → TraceKind
@@ -170,12 +170,12 @@ last_taken number [] reading = Ok reading.trace
 last_taken number (b ∷ line) reading = Err (record { line = number; kind = line_fault (b ∷ line) })
 
 -- what the first line says, if it is of its form
-abbrev pub head_said : List ℕ → Option TraceHead
-head_said line = if nat_lt most_line_bytes (length line) then None else head_of_words (words_of line)
+abbrev pub trace_head_said : List ℕ → Option TraceHead
+trace_head_said line = if nat_lt most_line_bytes (length line) then None else head_of_words (log_words_of line)
 
 -- the reading behind the first line, or BadHead
 abbrev pub first_taken : List ℕ → Result TraceReading TraceFault
-first_taken line = ok_or (option_map behind_head (head_said line)) (record { line = 1; kind = kind.BadHead })
+first_taken line = ok_or (option_map behind_head (trace_head_said line)) (record { line = 1; kind = kind.BadHead })
 
 -- what these lines say, each with its line feed, and what stands behind the last line feed
 abbrev pub all_taken : List (List ℕ) → List ℕ → Result TraceView TraceFault

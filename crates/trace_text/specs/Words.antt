@@ -4,7 +4,7 @@ use Rattle.std.specs.Int.{w64, from_be_bytes}
 use Rattle.std.specs.Result.{result_ok}
 use Rattle.std.specs.Str.{bytes_eq}
 use Rattle.hex.specs.Hex.{decode_sized}
-use Rattle.rcce_audit.specs.Words.{◌>>=◌, only_if, is_lower, range_said}
+use Rattle.rcce_audit.specs.Words.{◌>>=◌, only_if, is_lower, exact_range_said}
 use Rattle.texts.specs.Cuts.{cut_by}
 use Rattle.scc_base.specs.Places.{WordAt}
 use Rattle.scc_base.specs.declared.layouts.Layout.{Layout}
@@ -25,12 +25,13 @@ hex_word_said word = if is_lower word then option_map (from_be_bytes w64) (resul
 -- the place of a word: its core, its line and its number in the line
 abbrev pub place_said : List (List ℕ) → Option WordAt
 place_said (core ∷ line ∷ word ∷ []) =
-    range_said 0 47 core >>= λ c. range_said 0 255 line >>= λ l. range_said 0 3 word >>= λ w. Some (record { core = c; line = l; word = w })
+    exact_range_said 0 47 core >>= λ c. exact_range_said 0 255 line >>= λ l. exact_range_said 0 3 word
+    >>= λ w. Some (record { core = c; line = l; word = w })
 place_said parts = None
 
 -- the core of a register
 abbrev pub register_place_said : List (List ℕ) → Option ℕ
-register_place_said (core ∷ name ∷ []) = range_said 0 47 core >>= λ c. only_if (bytes_eq name (codes "register")) c
+register_place_said (core ∷ name ∷ []) = exact_range_said 0 47 core >>= λ c. only_if (bytes_eq name (codes "register")) c
 register_place_said parts = None
 
 -- what stands behind the value: nothing, or a comment, whose first byte is `#`

@@ -1,7 +1,7 @@
 //! A walk over the bytes of a text: what its lines say, one after another.
 
 ghost use Rattle.std.specs.Prelude.{◌≡◌, ◌≤◌, IfOk, option_map, vec_capacity};
-ghost use Rattle.trace_text.specs.Grammar.{head_said, line_fault};
+ghost use Rattle.trace_text.specs.Grammar.{trace_head_said, line_fault};
 ghost use Rattle.trace_text.specs.Heads.{head_view};
 
 use crate::faults::{TraceFault, TraceKind};
@@ -38,7 +38,7 @@ fn line_fault(line: &[u8]) -> TraceKind
 
 /// What the first line says, if it is of its form.
 fn head_said(alloc: Global, line: &[u8]) -> Result<Option<Head>, AllocError>
-    ensures { IfOk result (λ said. option_map head_view said ≡ head_said line.now) }
+    ensures { IfOk result (λ said. option_map head_view said ≡ trace_head_said line.now) }
 {
     if line.len() > MOST_LINE_BYTES {
         return Ok(None);

@@ -1,6 +1,6 @@
 -- What a desk has written, with one event more, and at the end.
 use Rattle.std.proofs.Common.{◌≡◌, ℕ, ◌<◌, List, [], ◌∷◌, ◌++◌, append-nil, append_assoc, Option, Some, None, Result, Ok, Err, refl, sym, ◌∙◌, ap, subst}
-use Rattle.rcce_io.specs.Sending.{CutShort, SinkView, Waits, with_text}
+use Rattle.rcce_io.specs.Sending.{CutShort, SinkView, RestWaits, with_text}
 use Rattle.rcce_io.proofs.SendingLemmas.{cut_after, cut_waiting, text_after, waits_after}
 use Rattle.scc_base.specs.Events.{IsEvent}
 use Rattle.scc_base.specs.Setups.{SetupView}
@@ -18,11 +18,11 @@ use Rattle.trace_writer.proofs.RunLaws.{legal_more, legal_none, text_more, text_
 -- ---- the first lines
 
 module _ (s : SetupView) (judge : JudgeView) (before now : SinkView) (same : s ≡ judge.setup) where
-  began : (waiting : List ℕ) → judge.run ≡ [] → Waits ([] ++ first_lines s) waiting before now → IsWriting before judge waiting now []
+  began : (waiting : List ℕ) → judge.run ≡ [] → RestWaits ([] ++ first_lines s) waiting before now → IsWriting before judge waiting now []
   began waiting new waits = record {
     judged = new;
     legal = legal_none judge.setup;
-    waits = subst (λ (t : List ℕ). Waits t waiting before now) (ap first_lines same ∙ sym (text_none judge.setup)) waits;
+    waits = subst (λ (t : List ℕ). RestWaits t waiting before now) (ap first_lines same ∙ sym (text_none judge.setup)) waits;
   }
 
   began_short : CutShort ([] ++ first_lines s) before now → WasCutShort judge.setup before now []
@@ -35,7 +35,7 @@ module _ (s : SetupView) (judge : JudgeView) (before now : SinkView) (same : s �
   -- however the sink took them
   pub began_by : (waited waiting : List ℕ) (answer : Option TraceFault) → judge.run ≡ [] → waited ≡ []
       → HasGathered (first_lines s) waited waiting before now answer → HasWritten before judge waiting now answer []
-  began_by waited waiting None new none waits = began waiting new (subst (λ (w : List ℕ). Waits (w ++ first_lines s) waiting before now) none waits)
+  began_by waited waiting None new none waits = began waiting new (subst (λ (w : List ℕ). RestWaits (w ++ first_lines s) waiting before now) none waits)
   began_by waited waiting (Some fault.Write) new none cut = began_short (subst (λ (w : List ℕ). CutShort (w ++ first_lines s) before now) none cut)
   began_by waited waiting (Some (fault.Refused rank why)) new none has = absurd has
 
@@ -53,14 +53,14 @@ module _ (before mid after : SinkView) (old new : JudgeView) (waited waiting : L
 
   -- the line was put behind what waits
   wrote : new.setup ≡ s → e.rank < s.nue → IsEvent e.event → IsStep (chip_of old).memory e.event × IsPermitted s e.rank ((chip_of old).records e.rank) e.event
-      → new.run ≡ old.run ++ e ∷ [] → Waits (waited ++ event_line s e) waiting mid after → IsWriting before new waiting after (run ++ e ∷ [])
+      → new.run ≡ old.run ++ e ∷ [] → RestWaits (waited ++ event_line s e) waiting mid after → IsWriting before new waiting after (run ++ e ∷ [])
   wrote same below event allowed takes waits =
       let text = waits_after before mid after (trace_text s run) (event_line s e) waited waiting writing.waits waits in
-      let whole : Waits (trace_text s (run ++ e ∷ [])) waiting before after = subst (λ (t : List ℕ). Waits t waiting before after) (sym (text_more s run e)) text in
+      let whole : RestWaits (trace_text s (run ++ e ∷ [])) waiting before after = subst (λ (t : List ℕ). RestWaits t waiting before after) (sym (text_more s run e)) text in
       record {
         judged = takes ∙ ap (λ (r : List RankEvent). r ++ e ∷ []) writing.judged;
         legal = subst (λ (x : SetupView). IsLegalRun x (run ++ e ∷ [])) (sym same) (legal below event allowed);
-        waits = subst (λ (x : SetupView). Waits (trace_text x (run ++ e ∷ [])) waiting before after) (sym same) whole;
+        waits = subst (λ (x : SetupView). RestWaits (trace_text x (run ++ e ∷ [])) waiting before after) (sym same) whole;
       }
 
   -- the sink did not take it
@@ -79,7 +79,7 @@ module _ (before mid after : SinkView) (old new : JudgeView) (waited waiting : L
       → IsStep (chip_of old).memory e.event × IsPermitted s e.rank ((chip_of old).records e.rank) e.event → new.run ≡ old.run ++ e ∷ []
       → HasGathered (event_line t e) waited waiting mid after answer → HasWritten before new waiting after answer (run ++ e ∷ [])
   wrote_by t None is same below event allowed takes waits =
-      wrote same below event allowed takes (subst (λ (x : SetupView). Waits (waited ++ event_line x e) waiting mid after) (is ∙ same) waits)
+      wrote same below event allowed takes (subst (λ (x : SetupView). RestWaits (waited ++ event_line x e) waiting mid after) (is ∙ same) waits)
   wrote_by t (Some fault.Write) is same below event allowed takes cut =
       wrote_short same below event allowed (subst (λ (x : SetupView). CutShort (waited ++ event_line x e) mid after) (is ∙ same) cut)
   wrote_by t (Some (fault.Refused rank why)) is same below event allowed takes has = absurd has
@@ -121,11 +121,11 @@ fault_stays before chip waiting now (fault.Refused rank why) run e has = record 
 
 -- ---- the end
 
-whole_sent : (before mid after : SinkView) (text waited : List ℕ) → Waits text waited before mid → after ≡ with_text waited mid → after ≡ with_text text before
+whole_sent : (before mid after : SinkView) (text waited : List ℕ) → RestWaits text waited before mid → after ≡ with_text waited mid → after ≡ with_text text before
 whole_sent before mid after text waited waits sent =
     text_after before mid after waits.gone waited waits.left sent ∙ ap (λ (t : List ℕ). with_text t before) (sym waits.whole)
 
-cut_sent : (before mid after : SinkView) (text waited : List ℕ) → Waits text waited before mid → CutShort waited mid after → CutShort text before after
+cut_sent : (before mid after : SinkView) (text waited : List ℕ) → RestWaits text waited before mid → CutShort waited mid after → CutShort text before after
 cut_sent before mid after text waited waits cut =
     subst (λ (t : List ℕ). CutShort t before after) (sym waits.whole) (cut_after before mid after waits.gone waited waits.left cut)
 

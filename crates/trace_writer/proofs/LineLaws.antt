@@ -4,7 +4,7 @@ use Rattle.std.specs.Prelude.{codes, decimal}
 use Rattle.std.specs.Int.{w64, to_be_bytes}
 use Rattle.std.specs.List.{range_with_len}
 use Rattle.rcce_io.specs.Digits.{hex_text}
-use Rattle.rcce_io.specs.Sending.{CutShort, Sends, SinkView, joined, with_text}
+use Rattle.rcce_io.specs.Sending.{CutShort, Sends, SinkView, joined_texts, with_text}
 use Rattle.rcce_io.specs.declared.writing.WriteFault.{WriteFault}
 use Rattle.rcce_io.proofs.SendingLemmas.{cut_after, cut_then, sends_after}
 use Rattle.scc_base.specs.Setups.{SetupView}
@@ -14,16 +14,16 @@ use Rattle.trace_writer.specs.Lines.{access_name, comm_line_behind, comment_word
 -- ---- the line of an event
 
 abbrev pub line_head : RankEvent → List ℕ
-line_head e = joined (decimal e.rank ∷ codes " " ∷ access_name e.event.access ∷ codes " " ∷ decimal e.event.place.core ∷ [])
+line_head e = joined_texts (decimal e.rank ∷ codes " " ∷ access_name e.event.access ∷ codes " " ∷ decimal e.event.place.core ∷ [])
 
 abbrev pub line_place : RankEvent → List ℕ
-line_place e = joined (place_words e.event.access e.event.place)
+line_place e = joined_texts (place_words e.event.access e.event.place)
 
 abbrev pub line_value : RankEvent → List ℕ
 line_value e = hex_text (to_be_bytes w64 e.event.value)
 
 abbrev pub line_comment : SetupView → RankEvent → List ℕ
-line_comment s e = joined (comment_words s e.event.access e.event.place)
+line_comment s e = joined_texts (comment_words s e.event.access e.event.place)
 
 -- what follows behind the mark `#`, behind the value, behind the blank before it, behind the place, and behind the head
 abbrev pub behind_mark : SetupView → RankEvent → List ℕ
@@ -93,13 +93,13 @@ module _ (s : SetupView) (e : RankEvent) (v0 v1 v2 v3 v4 v5 v6 v7 : SinkView) (h
 -- ---- the first lines
 
 abbrev pub first_head : SetupView → List ℕ
-first_head s = joined (codes "rcce trace 1 nue " ∷ decimal s.nue ∷ codes " layout " ∷ layout_name s.layout ∷ codes " hosts " ∷ [])
+first_head s = joined_texts (codes "rcce trace 1 nue " ∷ decimal s.nue ∷ codes " layout " ∷ layout_name s.layout ∷ codes " hosts " ∷ [])
 
 abbrev pub first_hosts : SetupView → List ℕ
-first_hosts s = joined (map (host_words s) (range_with_len 0 s.nue))
+first_hosts s = joined_texts (map (host_words s) (range_with_len 0 s.nue))
 
 abbrev pub first_comms : SetupView → List ℕ
-first_comms s = joined (map (comm_line_behind s) (range_with_len 0 15))
+first_comms s = joined_texts (map (comm_line_behind s) (range_with_len 0 15))
 
 abbrev pub behind_first_head : SetupView → List ℕ
 behind_first_head s = first_hosts s ++ (codes "\n" ++ first_comms s)

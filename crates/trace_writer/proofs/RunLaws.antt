@@ -1,13 +1,13 @@
 -- Legal runs, and their text, with one event more.
 use Rattle.std.proofs.Common.{◌≡◌, ℕ, ◌<◌, List, [], ◌∷◌, ◌++◌, append-nil, append_assoc, map, refl, sym, ◌∙◌, ap}
 use Rattle.std.proofs.lemmas.List.{map-append}
-use Rattle.rcce_io.specs.Sending.{joined}
+use Rattle.rcce_io.specs.Sending.{joined_texts}
 use Rattle.scc_base.specs.Events.{IsEvent}
 use Rattle.scc_base.specs.Setups.{SetupView}
 use Rattle.scc_proto.specs.Histories.{IsPermittedRun, memory_from, records_from}
 use Rattle.scc_proto.specs.Records.{IsPermitted, record_after}
 use Rattle.scc_proto.specs.Stages.{Record, blank}
-use Rattle.scc_proto.specs.Tables.{put}
+use Rattle.scc_proto.specs.Tables.{table_with}
 use Rattle.scc_proto.specs.Words.{IsRun, IsStep, Memory, RankEvent, memory_after, zeros}
 use Rattle.trace_judge.specs.Judged.{judged_by}
 use Rattle.trace_writer.specs.Desks.{IsLegalRun}
@@ -23,7 +23,7 @@ permitted_more : (s : SetupView) (records : ℕ → Record) (run : List RankEven
     → IsPermitted s e.rank (records_from s records run e.rank) e.event → IsPermittedRun s records (run ++ e ∷ [])
 permitted_more s records [] e none below event may = (below, event, may, tt)
 permitted_more s records (x ∷ run) e (low, made, first, rest) below event may =
-    (low, made, first, permitted_more s (put records x.rank (record_after s x.rank (records x.rank) x.event)) run e rest below event may)
+    (low, made, first, permitted_more s (table_with records x.rank (record_after s x.rank (records x.rank) x.event)) run e rest below event may)
 
 -- a legal run with one event more, which is a step and permitted
 pub legal_more : (s : SetupView) (run : List RankEvent) (e : RankEvent) → IsLegalRun s run → e.rank < s.nue → IsEvent e.event
@@ -38,17 +38,17 @@ legal_none s = record { steps = tt; permitted = tt }
 
 -- ---- texts
 
-joined_both : (a b : List (List ℕ)) → joined (a ++ b) ≡ joined a ++ joined b
+joined_both : (a b : List (List ℕ)) → joined_texts (a ++ b) ≡ joined_texts a ++ joined_texts b
 joined_both [] b = refl
-joined_both (x ∷ a) b = ap (λ (t : List ℕ). x ++ t) (joined_both a b) ∙ sym (append_assoc x (joined a) (joined b))
+joined_both (x ∷ a) b = ap (λ (t : List ℕ). x ++ t) (joined_both a b) ∙ sym (append_assoc x (joined_texts a) (joined_texts b))
 
 -- the text of a trace with one event more
 pub text_more : (s : SetupView) (run : List RankEvent) (e : RankEvent) → trace_text s (run ++ e ∷ []) ≡ trace_text s run ++ event_line s e
 text_more s run e =
     ap (λ (t : List ℕ). first_lines s ++ t)
-    (ap joined (map-append (event_line s) run (e ∷ [])) ∙ joined_both (map (event_line s) run) (event_line s e ∷ [])
-    ∙ ap (λ (t : List ℕ). joined (map (event_line s) run) ++ t) (append-nil (event_line s e)))
-    ∙ sym (append_assoc (first_lines s) (joined (map (event_line s) run)) (event_line s e))
+    (ap joined_texts (map-append (event_line s) run (e ∷ [])) ∙ joined_both (map (event_line s) run) (event_line s e ∷ [])
+    ∙ ap (λ (t : List ℕ). joined_texts (map (event_line s) run) ++ t) (append-nil (event_line s e)))
+    ∙ sym (append_assoc (first_lines s) (joined_texts (map (event_line s) run)) (event_line s e))
 
 pub text_none : (s : SetupView) → trace_text s [] ≡ first_lines s
 text_none s = append-nil (first_lines s)

@@ -1,6 +1,6 @@
 -- What a desk has written of the events that it was told (this project's profile).
 use Rattle.std.specs.Prelude.{◌≡◌, ℕ, List, [], ◌∷◌, ◌++◌, Option, Some, None, Result, Ok, Err}
-use Rattle.rcce_io.specs.Sending.{CutShort, SinkView, Waits, with_text}
+use Rattle.rcce_io.specs.Sending.{CutShort, SinkView, RestWaits, with_text}
 use Rattle.scc_base.specs.Setups.{SetupView}
 use Rattle.scc_proto.specs.Histories.{IsPermittedRun}
 use Rattle.scc_proto.specs.Stages.{blank}
@@ -18,7 +18,7 @@ no_sink = record { taken = None; faults = 0 }
 
 -- a text was put behind what waited, or it and what waited were cut short by the sink
 abbrev pub HasGathered : List ℕ → List ℕ → List ℕ → SinkView → SinkView → Option TraceFault → Type 0
-HasGathered text waited waiting before after None = Waits (waited ++ text) waiting before after
+HasGathered text waited waiting before after None = RestWaits (waited ++ text) waiting before after
 HasGathered text waited waiting before after (Some fault.Write) = CutShort (waited ++ text) before after
 HasGathered text waited waiting before after (Some (fault.Refused rank why)) = ⊥
 
@@ -51,7 +51,7 @@ pub record RefusesBehind (s : SetupView) (rank : ℕ) (why : Refusal) (written r
 pub record IsWriting (before : SinkView) (judge : JudgeView) (waiting : List ℕ) (now : SinkView) (run : List RankEvent) : Type 0 where
   pub judged : judge.run ≡ run
   pub legal : IsLegalRun judge.setup run
-  pub waits : Waits (trace_text judge.setup run) waiting before now
+  pub waits : RestWaits (trace_text judge.setup run) waiting before now
 
 -- the text of a legal front was cut short by the sink
 pub record WasCutShort (s : SetupView) (before now : SinkView) (run : List RankEvent) : Type 0 where
@@ -66,7 +66,7 @@ pub record WasRefused (s : SetupView) (rank : ℕ) (why : Refusal) (before : Sin
   pub written : List RankEvent
   pub front : HasLegalFront s written run
   pub refuses : RefusesBehind s rank why written run
-  pub waits : Waits (trace_text s written) waiting before now
+  pub waits : RestWaits (trace_text s written) waiting before now
 
 -- what has become of the events that a desk was told, by its fault
 abbrev pub HasWritten : SinkView → JudgeView → List ℕ → SinkView → Option TraceFault → List RankEvent → Type 0

@@ -4,7 +4,7 @@ use Rattle.std.specs.Prelude.{ℕ, ◌+◌, ◌==◌, if◌then◌else◌, List,
 use Rattle.std.specs.Int.{w64, to_be_bytes}
 use Rattle.std.specs.List.{range_with_len}
 use Rattle.rcce_io.specs.Digits.{hex_text}
-use Rattle.rcce_io.specs.Sending.{joined}
+use Rattle.rcce_io.specs.Sending.{joined_texts}
 use Rattle.scc_base.specs.Communicators.{rule_of}
 use Rattle.scc_base.specs.Places.{WordAt}
 use Rattle.scc_base.specs.Setups.{SetupView, host_of}
@@ -68,10 +68,10 @@ comment_words s Free place = codes "register" ∷ []
 -- the line of an event: its rank, the access, the place, the value in 16 hex digits, and behind a `#` what the word is for
 abbrev pub event_line : SetupView → RankEvent → List ℕ
 event_line s e =
-    joined (decimal e.rank ∷ codes " " ∷ access_name e.event.access ∷ codes " " ∷ decimal e.event.place.core ∷ [])
-    ++ (joined (place_words e.event.access e.event.place)
+    joined_texts (decimal e.rank ∷ codes " " ∷ access_name e.event.access ∷ codes " " ∷ decimal e.event.place.core ∷ [])
+    ++ (joined_texts (place_words e.event.access e.event.place)
     ++ (codes " " ++ (hex_text (to_be_bytes w64 e.event.value)
-    ++ (codes " # " ++ (joined (comment_words s e.event.access e.event.place) ++ codes "\n")))))
+    ++ (codes " # " ++ (joined_texts (comment_words s e.event.access e.event.place) ++ codes "\n")))))
 
 -- what stands before the core of a rank
 abbrev pub comma_before : ℕ → List ℕ
@@ -79,12 +79,12 @@ comma_before rank = if rank == 0 then codes "" else codes ","
 
 -- the core of a rank, behind a comma but for the first
 abbrev pub host_words : SetupView → ℕ → List ℕ
-host_words s rank = joined (comma_before rank ∷ decimal (host_of s.hosts rank) ∷ [])
+host_words s rank = joined_texts (comma_before rank ∷ decimal (host_of s.hosts rank) ∷ [])
 
 -- the line of a communicator that is a split
 abbrev pub split_line : ℕ → ℕ → List ℕ → ℕ → List ℕ
 split_line comm parent how parts =
-    joined (codes "comm " ∷ decimal comm ∷ codes " " ∷ decimal parent ∷ how ∷ decimal parts ∷ codes "\n" ∷ [])
+    joined_texts (codes "comm " ∷ decimal comm ∷ codes " " ∷ decimal parent ∷ how ∷ decimal parts ∷ codes "\n" ∷ [])
 
 -- the line of a communicator, and no line where it is no split
 abbrev pub comm_line : ℕ → CommRule → List ℕ
@@ -100,10 +100,10 @@ comm_line_behind s comm = comm_line (comm + 1) (rule_of s.comms (comm + 1))
 -- the first line, and those of the communicators
 abbrev pub first_lines : SetupView → List ℕ
 first_lines s =
-    joined (codes "rcce trace 1 nue " ∷ decimal s.nue ∷ codes " layout " ∷ layout_name s.layout ∷ codes " hosts " ∷ [])
-    ++ (joined (map (host_words s) (range_with_len 0 s.nue))
-    ++ (codes "\n" ++ joined (map (comm_line_behind s) (range_with_len 0 15))))
+    joined_texts (codes "rcce trace 1 nue " ∷ decimal s.nue ∷ codes " layout " ∷ layout_name s.layout ∷ codes " hosts " ∷ [])
+    ++ (joined_texts (map (host_words s) (range_with_len 0 s.nue))
+    ++ (codes "\n" ++ joined_texts (map (comm_line_behind s) (range_with_len 0 15))))
 
 -- the text of a trace
 abbrev pub trace_text : SetupView → List RankEvent → List ℕ
-trace_text s run = first_lines s ++ joined (map (event_line s) run)
+trace_text s run = first_lines s ++ joined_texts (map (event_line s) run)

@@ -2,7 +2,7 @@
 
 ghost use Rattle.std.specs.Prelude.{◌≡◌, ◌<◌, [], ◌∷◌, codes, decimal, map};
 ghost use Rattle.std.specs.List.{range_with_len};
-ghost use Rattle.rcce_io.specs.Sending.{Sends, joined};
+ghost use Rattle.rcce_io.specs.Sending.{Sends, joined_texts};
 ghost use Rattle.record_machine.specs.Uses.{role_meant};
 ghost use Rattle.trace_writer.specs.Lines.{access_name, comm_line, comma_before, comm_line_behind, comment_words, event_line, first_lines, header_word_name, host_words, layout_name, place_words, role_words, signal_name, split_line};
 
@@ -83,7 +83,8 @@ fn write_host<S: Sink>(sink: &mut S, setup: &Setup, rank: Rank) -> Result<(), Wr
 }
 
 fn write_hosts<S: Sink>(sink: &mut S, setup: &Setup) -> Result<(), WriteFault>
-    ensures { Sends (joined (map (host_words setup.now) (range_with_len 0 setup.now.nue))) (S.seen sink.old) (S.seen sink.new) result }
+    ensures { Sends (joined_texts (map (host_words setup.now) (range_with_len 0 setup.now.nue))) (S.seen sink.old)
+        (S.seen sink.new) result }
 {
     for number in 0..setup.nue() {
         write_host(sink, setup, Rank::of(number))?;
@@ -126,7 +127,7 @@ fn write_comm<S: Sink>(sink: &mut S, comm: u8, rule: CommRule) -> Result<(), Wri
 }
 
 fn write_comms<S: Sink>(sink: &mut S, setup: &Setup) -> Result<(), WriteFault>
-    ensures { Sends (joined (map (comm_line_behind setup.now) (range_with_len 0 15))) (S.seen sink.old) (S.seen sink.new) result }
+    ensures { Sends (joined_texts (map (comm_line_behind setup.now) (range_with_len 0 15))) (S.seen sink.old) (S.seen sink.new) result }
 {
     for before in 0..15 {
         let comm = before + 1;
@@ -163,7 +164,7 @@ fn write_numbered<'a, S: Sink>(
     then: &'a str,
     other: u8,
 ) -> Result<(), WriteFault>
-    ensures { Sends (joined (first.now ∷ decimal one ∷ then.now ∷ decimal other ∷ [])) (S.seen sink.old) (S.seen sink.new) result }
+    ensures { Sends (joined_texts (first.now ∷ decimal one ∷ then.now ∷ decimal other ∷ [])) (S.seen sink.old) (S.seen sink.new) result }
 {
     write_texts(
         sink,
@@ -178,7 +179,7 @@ fn write_numbered<'a, S: Sink>(
 
 /// Writes whose flag of a signal a word is: it lies at the one rank, and the other raises it.
 fn write_flag<S: Sink>(sink: &mut S, signal: Signal, by: Rank, at: Rank) -> Result<(), WriteFault>
-    ensures { Sends (joined (signal_name signal ∷ codes " of " ∷ decimal by ∷ codes " to " ∷ decimal at ∷ []))
+    ensures { Sends (joined_texts (signal_name signal ∷ codes " of " ∷ decimal by ∷ codes " to " ∷ decimal at ∷ []))
         (S.seen sink.old) (S.seen sink.new) result }
 {
     write_texts(
@@ -195,7 +196,7 @@ fn write_flag<S: Sink>(sink: &mut S, signal: Signal, by: Rank, at: Rank) -> Resu
 
 /// Writes whose word of a signal's flags a word is.
 fn write_flags<S: Sink>(sink: &mut S, signal: Signal, at: Rank) -> Result<(), WriteFault>
-    ensures { Sends (joined (signal_name signal ∷ codes " flags of " ∷ decimal at ∷ [])) (S.seen sink.old) (S.seen sink.new) result }
+    ensures { Sends (joined_texts (signal_name signal ∷ codes " flags of " ∷ decimal at ∷ [])) (S.seen sink.old) (S.seen sink.new) result }
 {
     write_texts(
         sink,
@@ -209,7 +210,7 @@ fn write_flags<S: Sink>(sink: &mut S, signal: Signal, at: Rank) -> Result<(), Wr
 
 /// Writes what a word is for.
 fn write_use<S: Sink>(sink: &mut S, of: Use) -> Result<(), WriteFault>
-    ensures { Sends (joined (role_words (role_meant of))) (S.seen sink.old) (S.seen sink.new) result }
+    ensures { Sends (joined_texts (role_words (role_meant of))) (S.seen sink.old) (S.seen sink.new) result }
 {
     match of {
         Use::Header { owner, word } => write_texts(
@@ -248,7 +249,7 @@ fn write_use<S: Sink>(sink: &mut S, of: Use) -> Result<(), WriteFault>
 impl EventLine<'_> {
     /// Writes where the access is, behind its core.
     fn write_place<S: Sink>(&self, sink: &mut S) -> Result<(), WriteFault>
-        ensures { Sends (joined (place_words self.now.event.now.access self.now.event.now.place)) (S.seen sink.old)
+        ensures { Sends (joined_texts (place_words self.now.event.now.access self.now.event.now.place)) (S.seen sink.old)
             (S.seen sink.new) result }
     {
         match self.event.access {
@@ -267,7 +268,8 @@ impl EventLine<'_> {
 
     /// Writes what the place is for.
     fn write_comment<S: Sink>(&self, sink: &mut S) -> Result<(), WriteFault>
-        ensures { Sends (joined (comment_words self.now.setup.now self.now.event.now.access self.now.event.now.place)) (S.seen sink.old)
+        ensures { Sends (joined_texts
+            (comment_words self.now.setup.now self.now.event.now.access self.now.event.now.place)) (S.seen sink.old)
             (S.seen sink.new) result }
     {
         match self.event.access {

@@ -175,7 +175,7 @@ module _ (seat : Seat) (memory : Memory) (records : ℕ → Record) (agrees : Ag
     none_else : (stage : RecvStage) → is_recv_look stage ≡ false → aim_at s.layout (spot_of stage) ≡ Some aim → ⊥
     none_else stage unlike is = no_recv s.layout memory (host_of s.hosts me) (host_of s.hosts op.from) op.from stage aim unlike is tells
 
-    recv_by : are_peers s me op.from ≡ true → (stage : RecvStage) → recv.IsAtStage seat rec c op bytes stage → aim_at s.layout (spot_of stage) ≡ Some aim → TakeWaits s view me op.from (records me)
+    recv_by : are_peers s me op.from ≡ true → (stage : RecvStage) → recv.IsAtRecvStage seat rec c op bytes stage → aim_at s.layout (spot_of stage) ≡ Some aim → TakeWaits s view me op.from (records me)
     recv_by peers receive.Look at is = record {
       peers = peers_swap s me op.from peers;
       stage = subst (IsLooking op.from) (sym at ∙ like.stage) (looking_by (op.chunk == 0) op.from (recv.progress_at (chunk_of s) op.head op.chunk bytes));

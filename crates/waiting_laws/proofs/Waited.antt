@@ -5,7 +5,7 @@ use Rattle.scc_base.specs.declared.events.Access.{Access}
 use Rattle.scc_base.specs.declared.events.Event.{Event}
 use Rattle.scc_base.specs.declared.events.Spot.{Spot}
 use Rattle.scc_proto.specs.Agreement.{Agrees}
-use Rattle.scc_proto.specs.Like.{Like, unanswered}
+use Rattle.scc_proto.specs.Like.{Like, as_unanswered}
 use Rattle.scc_proto.specs.Ports.{Did, Sight, WereMade, and_then, record_in, record_on}
 use Rattle.scc_proto.specs.Records.{IsPermitted, permits_by, record_from, record_of}
 use Rattle.scc_proto.specs.Resting.{is_resting}
@@ -26,9 +26,9 @@ use Rattle.waiting_laws.proofs.VainSteps.{VainStep, found}
 
 -- ---- events that rest, and records that are alike
 
-post_alike : (o new : Option OnItsWay) → sr.IsSamePost o new → option_map unanswered o ≡ option_map unanswered new
-post_alike None new same = ap (option_map unanswered) (sym same)
-post_alike (Some post) new (answered, is, kept) = ap (option_map unanswered) (sym is)
+post_alike : (o new : Option OnItsWay) → sr.IsSamePost o new → option_map as_unanswered o ≡ option_map as_unanswered new
+post_alike None new same = ap (option_map as_unanswered) (sym same)
+post_alike (Some post) new (answered, is, kept) = ap (option_map as_unanswered) (sym is)
 
 pub rest_alike : (rec new : Record) → sr.IsAtRest rec new → Like rec new
 rest_alike rec new rest = record {

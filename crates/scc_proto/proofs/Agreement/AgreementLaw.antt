@@ -3,7 +3,7 @@ use Rattle.std.proofs.Common.{◌≡◌, ◌≢◌, ℕ, ◌<◌, List, [], ◌�
 use Rattle.scc_base.specs.Events.{IsEvent}
 use Rattle.scc_base.specs.Setups.{SetupView, IsSetup, setup_key}
 use Rattle.scc_base.specs.declared.events.Event.{Event}
-use Rattle.scc_proto.specs.Tables.{put}
+use Rattle.scc_proto.specs.Tables.{table_with}
 use Rattle.scc_proto.specs.Stages.{Record, blank}
 use Rattle.scc_proto.specs.Words.{Memory, zeros, IsStep, memory_after, SameWords, RankEvent, IsRun}
 use Rattle.scc_proto.specs.Records.{IsPermitted, record_after, record_of, chunk_of}
@@ -34,11 +34,11 @@ agreement_kept s setup memory records me e agrees below is step may =
 -- the passed calls grow by nothing, or by the calls of one step at their ends
 pub passed_grow : (s : SetupView) → IsSetup s → (memory : Memory) (records : ℕ → Record) (me : ℕ) (e : Event) → Agrees s memory records → me < s.nue → IsEvent e → IsStep memory e → IsPermitted s me (records me) e
     → Grows s.nue (setup_key s) (passed_calls s records) (slot_of s records)
-    (passed_calls s (put records me (record_after s me (records me) e))) (slot_of s (put records me (record_after s me (records me) e)))
+    (passed_calls s (table_with records me (record_after s me (records me) e))) (slot_of s (table_with records me (record_after s me (records me) e)))
 passed_grow s setup memory records me e agrees below is step may =
     let made = event_made s memory records me e setup below is step may agrees.registers in
-    let next = put records me (after (chunk_of s) made.0 (records me)) in
-    let new = put records me (record_after s me (records me) e) in
+    let next = table_with records me (after (chunk_of s) made.0 (records me)) in
+    let new = table_with records me (record_after s me (records me) e) in
     subst (λ (x : ℕ → Record). Grows s.nue (setup_key s) (passed_calls s records) (slot_of s records) (passed_calls s x) (slot_of s x))
     (λ i. sym (as_holding records me (record_after s me (records me) e) (after (chunk_of s) made.0 (records me)) made.1 made.2.becomes) i)
     (grows_holding s (λ k. (new k).held) next (passed_calls s records) (slot_of s records)
@@ -58,12 +58,12 @@ pub record OneMore (me : ℕ) (e : Event) (lists more : ℕ → List Event) : Ty
   pub others : (r : ℕ) → r ≢ me → more r ≡ lists r
 
 records_more : (s : SetupView) (me : ℕ) (e : Event) (lists more : ℕ → List Event) → OneMore me e lists more
-    → put (λ r. record_of s r (lists r)) me (record_after s me (record_of s me (lists me)) e) ≡ (λ r. record_of s r (more r))
+    → table_with (λ r. record_of s r (lists r)) me (record_after s me (record_of s me (lists me)) e) ≡ (λ r. record_of s r (more r))
 records_more s me e lists more grows = λ i r. at_rank r i
   where
-    at_rank : (r : ℕ) → put (λ q. record_of s q (lists q)) me (record_after s me (record_of s me (lists me)) e) r ≡ record_of s r (more r)
-    at_rank r = same_or_other (put (λ q. record_of s q (lists q)) me (record_after s me (record_of s me (lists me)) e) r ≡ record_of s r (more r)) r me
-        (λ t is. ap (put (λ q. record_of s q (lists q)) me (record_after s me (record_of s me (lists me)) e)) is
+    at_rank : (r : ℕ) → table_with (λ q. record_of s q (lists q)) me (record_after s me (record_of s me (lists me)) e) r ≡ record_of s r (more r)
+    at_rank r = same_or_other (table_with (λ q. record_of s q (lists q)) me (record_after s me (record_of s me (lists me)) e) r ≡ record_of s r (more r)) r me
+        (λ t is. ap (table_with (λ q. record_of s q (lists q)) me (record_after s me (record_of s me (lists me)) e)) is
         ∙ put_here (λ q. record_of s q (lists q)) me (record_after s me (record_of s me (lists me)) e)
         ∙ sym (record_of-push s me (lists me) e) ∙ ap (λ (l : List Event). record_of s me l) (sym grows.own) ∙ ap (λ q. record_of s q (more q)) (sym is))
         (λ t ne. put_there (λ q. record_of s q (lists q)) me (record_after s me (record_of s me (lists me)) e) r ne ∙ ap (λ (l : List Event). record_of s r l) (sym (grows.others r ne)))

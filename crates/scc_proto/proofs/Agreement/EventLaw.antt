@@ -4,12 +4,12 @@ use Rattle.scc_base.specs.Calls.{DataCall}
 use Rattle.scc_base.specs.Setups.{SetupView, IsSetup, setup_key}
 use Rattle.scc_base.specs.declared.events.Event.{Event}
 use Rattle.scc_base.specs.declared.signals.Signal.TheVariants.{Sent, Ready}
-use Rattle.scc_proto.specs.Tables.{put}
+use Rattle.scc_proto.specs.Tables.{table_with}
 use Rattle.scc_proto.specs.Stages.{Stage, Idle, Drafting, Sending, Between, Taking, Barrier, OnItsWay, FlagWords, Record}
 use Rattle.scc_proto.specs.Moves.{Move, after}
 use Rattle.scc_proto.specs.Words.{Memory, memory_after, SameWords}
 use Rattle.scc_proto.specs.Records.{chunk_of, record_after}
-use Rattle.scc_proto.specs.Views.{View, view_of, shown}
+use Rattle.scc_proto.specs.Views.{View, view_of, view_after_move}
 use Rattle.scc_proto.specs.Singles.{IsConsistent}
 use Rattle.scc_proto.specs.Pairs.{pair_of, BufferStands}
 use Rattle.scc_proto.specs.Legality.{Outgoing, IsLegal, Grows}
@@ -99,23 +99,23 @@ module _ (s : SetupView) (held : ℕ → ℕ → Option FlagWords) (records : �
 -- ---- all senders
 
 pub senders_kept : (s : SetupView) (me : ℕ) (view : View) (records : ℕ → Record) (move : Move) → IsViewStep s me view (records me) move → SendersAgree s view records
-    → SendersAgree s (shown me move view) (put records me (after (chunk_of s) move (records me)))
+    → SendersAgree s (view_after_move me move view) (table_with records me (after (chunk_of s) move (records me)))
 senders_kept s me view records move step senders r below =
-    let next = put records me (after (chunk_of s) move (records me)) in
-    same_or_other (BufferStands (next r) ((shown me move view).header r) ((shown me move view).chunk r)) r me
-    (λ t e. subst (λ x. BufferStands (next x) ((shown me move view).header x) ((shown me move view).chunk x)) (sym e)
-    (subst (λ (x : Record). BufferStands x ((shown me move view).header me) ((shown me move view).chunk me)) (sym (put_here records me (after (chunk_of s) move (records me))))
+    let next = table_with records me (after (chunk_of s) move (records me)) in
+    same_or_other (BufferStands (next r) ((view_after_move me move view).header r) ((view_after_move me move view).chunk r)) r me
+    (λ t e. subst (λ x. BufferStands (next x) ((view_after_move me move view).header x) ((view_after_move me move view).chunk x)) (sym e)
+    (subst (λ (x : Record). BufferStands x ((view_after_move me move view).header me) ((view_after_move me move view).chunk me)) (sym (put_here records me (after (chunk_of s) move (records me))))
     (sender_kept s me view (records me) move step (senders me step.rank))))
-    (λ t ne. subst (λ (x : Record). BufferStands x ((shown me move view).header r) ((shown me move view).chunk r)) (sym (put_there records me (after (chunk_of s) move (records me)) r ne))
-    (subst (λ (h : ℕ → ℕ). BufferStands (records r) h ((shown me move view).chunk r)) (sym (header_left me r view move ne))
+    (λ t ne. subst (λ (x : Record). BufferStands x ((view_after_move me move view).header r) ((view_after_move me move view).chunk r)) (sym (put_there records me (after (chunk_of s) move (records me)) r ne))
+    (subst (λ (h : ℕ → ℕ). BufferStands (records r) h ((view_after_move me move view).chunk r)) (sym (header_left me r view move ne))
     (subst (λ (c : ℕ → ℕ). BufferStands (records r) (view.header r) c) (sym (chunk_left me r view move ne)) (senders r below))))
 
 -- ---- all records
 
 pub records_kept : (s : SetupView) (me : ℕ) (view : View) (records : ℕ → Record) (move : Move) → IsViewStep s me view (records me) move → RecordsAgree s records
-    → RecordsAgree s (put records me (after (chunk_of s) move (records me)))
+    → RecordsAgree s (table_with records me (after (chunk_of s) move (records me)))
 records_kept s me view records move step singles =
-    let next = put records me (after (chunk_of s) move (records me)) in (
+    let next = table_with records me (after (chunk_of s) move (records me)) in (
       (λ r below. same_or_other (IsConsistent s r (next r)) r me
           (λ t e. subst (λ x. IsConsistent s x (next x)) (sym e) (subst (λ (x : Record). IsConsistent s me x) (sym (put_here records me (after (chunk_of s) move (records me)))) (single_kept s me view (records me) move step (singles.0 me step.rank))))
           (λ t ne. subst (λ (x : Record). IsConsistent s r x) (sym (put_there records me (after (chunk_of s) move (records me)) r ne)) (singles.0 r below))),
@@ -126,33 +126,33 @@ records_kept s me view records move step singles =
 
 -- the records after it are those after the move, with other registers held
 module _ (records : ℕ → Record) (me : ℕ) (new moved : Record) (held : ℕ → Option FlagWords) (is : new ≡ record moved { held = held }) where
-  at_rank : (k : ℕ) → put records me new k ≡ record (put records me moved k) { held = (put records me new k).held }
-  at_rank k = same_or_other (put records me new k ≡ record (put records me moved k) { held = (put records me new k).held }) k me
+  at_rank : (k : ℕ) → table_with records me new k ≡ record (table_with records me moved k) { held = (table_with records me new k).held }
+  at_rank k = same_or_other (table_with records me new k ≡ record (table_with records me moved k) { held = (table_with records me new k).held }) k me
       (λ t e.
-      let here : put records me new k ≡ new = ap (put records me new) e ∙ put_here records me new in
-      let there : put records me moved k ≡ moved = ap (put records me moved) e ∙ put_here records me moved in
-      let h : held ≡ (put records me new k).held = sym (ap (λ (x : Record). x.held) (here ∙ is)) in
+      let here : table_with records me new k ≡ new = ap (table_with records me new) e ∙ put_here records me new in
+      let there : table_with records me moved k ≡ moved = ap (table_with records me moved) e ∙ put_here records me moved in
+      let h : held ≡ (table_with records me new k).held = sym (ap (λ (x : Record). x.held) (here ∙ is)) in
       here ∙ is ∙ (λ i. record (sym there i) { held = h i }))
       (λ t ne.
-      let here : put records me new k ≡ records k = put_there records me new k ne in
-      let there : put records me moved k ≡ records k = put_there records me moved k ne in
+      let here : table_with records me new k ≡ records k = put_there records me new k ne in
+      let there : table_with records me moved k ≡ records k = put_there records me moved k ne in
       here ∙ (λ i. record (sym there i) { held = ap (λ (x : Record). x.held) (sym here) i }))
 
-  pub as_holding : put records me new ≡ holding (λ k. (put records me new k).held) (put records me moved)
+  pub as_holding : table_with records me new ≡ holding (λ k. (table_with records me new k).held) (table_with records me moved)
   as_holding = λ i k. at_rank k i
 
 pub agreement_after : (s : SetupView) (memory : Memory) (records : ℕ → Record) (me : ℕ) (e : Event) (move : Move) (held : ℕ → Option FlagWords) → IsSetup s → Agrees s memory records
-    → IsViewStep s me (view_of s memory) (records me) move → SameView s (shown me move (view_of s memory)) (view_of s (memory_after memory e))
+    → IsViewStep s me (view_of s memory) (records me) move → SameView s (view_after_move me move (view_of s memory)) (view_of s (memory_after memory e))
     → record_after s me (records me) e ≡ record (after (chunk_of s) move (records me)) { held = held }
-    → RegistersAgree s (memory_after memory e) (put records me (record_after s me (records me) e)) → WordsAgree s (memory_after memory e) (put records me (record_after s me (records me) e))
-    → Grows s.nue (setup_key s) (passed_calls s records) (slot_of s records) (passed_calls s (put records me (after (chunk_of s) move (records me)))) (slot_of s (put records me (after (chunk_of s) move (records me))))
-    → Agrees s (memory_after memory e) (put records me (record_after s me (records me) e))
+    → RegistersAgree s (memory_after memory e) (table_with records me (record_after s me (records me) e)) → WordsAgree s (memory_after memory e) (table_with records me (record_after s me (records me) e))
+    → Grows s.nue (setup_key s) (passed_calls s records) (slot_of s records) (passed_calls s (table_with records me (after (chunk_of s) move (records me)))) (slot_of s (table_with records me (after (chunk_of s) move (records me))))
+    → Agrees s (memory_after memory e) (table_with records me (record_after s me (records me) e))
 agreement_after s memory records me e move held setup agrees step shows after_it registers words grows =
-    let next = put records me (after (chunk_of s) move (records me)) in
-    let new = put records me (record_after s me (records me) e) in
-    let h : ℕ → ℕ → Option FlagWords = λ k. (put records me (record_after s me (records me) e) k).held in
+    let next = table_with records me (after (chunk_of s) move (records me)) in
+    let new = table_with records me (record_after s me (records me) e) in
+    let h : ℕ → ℕ → Option FlagWords = λ k. (table_with records me (record_after s me (records me) e) k).held in
     let is : new ≡ holding h next = as_holding records me (record_after s me (records me) e) (after (chunk_of s) move (records me)) held after_it in
-    let view = shown me move (view_of s memory) in
+    let view = view_after_move me move (view_of s memory) in
     let other = view_of s (memory_after memory e) in
     let singles = records_kept s me (view_of s memory) records move step agrees.singles in
     let pairs : PairsAgree s other (holding h next) = pairs_holding s h next other (pairs_same s view other shows next (pairs_kept s me (view_of s memory) records move step agrees.singles agrees.senders agrees.pairs)) in

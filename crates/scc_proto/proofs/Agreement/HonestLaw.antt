@@ -7,7 +7,7 @@ use Rattle.scc_base.specs.declared.events.Access.{Access}
 use Rattle.scc_base.specs.declared.events.Access.TheVariants.{Load, Store, Take, Free}
 use Rattle.scc_base.specs.declared.events.Event.{Event}
 use Rattle.scc_base.specs.Events.{IsEvent, IsAccess}
-use Rattle.scc_proto.specs.Messages.{Notes, noted, StandsIn}
+use Rattle.scc_proto.specs.Messages.{Notes, noted_word, StandsIn}
 use Rattle.scc_proto.specs.Stages.{Stage, Idle, Drafting, Sending, Between, Taking, Barrier, Record}
 use Rattle.scc_proto.specs.Moves.{Move, LookSignal, LookGather, LookRelease, NoMove}
 use Rattle.scc_proto.specs.Words.{Memory, word_at, IsStep, IsStepBy, Role, HeaderWord, ChunkWord, SignalFlag, SignalFlags, GatherFlag, ReleaseFlag, HeapWord, IdleWord, role_of, are_peers}
@@ -30,7 +30,7 @@ module _ (s : SetupView) (memory : Memory) (records : ℕ → Record) (agrees : 
   here : (owner line word : ℕ) → IsOwn s place owner line word → word_at memory place ≡ memory.word (host_of s.hosts owner) line word
   here owner line word own = λ i. memory.word (own.on i) (own.at_line i) (own.at_word i)
 
-  header_word_is : (owner k : ℕ) (n : Option Notes) → (records me).notes owner ≡ n → option_and_then (λ (header : Notes). noted header k) n ≡ Some v → memory.word (host_of s.hosts owner) 0 k ≡ v
+  header_word_is : (owner k : ℕ) (n : Option Notes) → (records me).notes owner ≡ n → option_and_then (λ (header : Notes). noted_word header k) n ≡ Some v → memory.word (host_of s.hosts owner) 0 k ≡ v
   header_word_is owner k None is noted_is = absurd (cc (noted_is))
   header_word_is owner k (Some header) is noted_is =
       let r = raised s memory records agrees me below owner header is in
@@ -52,9 +52,9 @@ module _ (s : SetupView) (memory : Memory) (records : ℕ → Record) (agrees : 
           let peers = subst (λ x. are_peers s me x ≡ true) same stage.peers in
           let side : taking_side owner (records me).stage ≡ Receiving m c = ap (λ (x : Stage). taking_side owner x) is ∙ ap (λ b. if b then Receiving m c else Awaiting None) t in
           let p = when_taking (chunk_of s) (pair_of owner me (view_of s memory) (records owner) (records me)) m c side (agrees.pairs owner me (peers_swap s me owner peers)) in
-          let word : noted c k ≡ Some v = sym (ap (λ b. if b then noted c k else None) t) ∙ noted_is in
+          let word : noted_word c k ≡ Some v = sym (ap (λ b. if b then noted_word c k else None) t) ∙ noted_is in
           sym (ap (λ b. if b then memory.word (host_of s.hosts owner) (first_chunk s.layout + k / 4) (k % 4) else 0) (lt_yes k (4 * chunk_lines s.layout) lt)) ∙ p.2.loaded k v word
-      by false t = absurd (cc (noted_is, ap (λ b. if b then noted c k else None) t))
+      by false t = absurd (cc (noted_is, ap (λ b. if b then noted_word c k else None) t))
 
   word_is : (role : Role) → Stands s place role → noted_by (load_by s me 0 role) (records me) ≡ Some v → word_at memory place ≡ v
   word_is (HeaderWord owner k) stands is = here owner 0 k stands ∙ header_word_is owner k ((records me).notes owner) refl is

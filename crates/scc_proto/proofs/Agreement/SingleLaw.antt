@@ -4,7 +4,7 @@ use Rattle.scc_base.specs.Calls.{Bar}
 use Rattle.scc_base.specs.Setups.{SetupView, setup_key}
 use Rattle.scc_base.proofs.GroupFacts.{place_below, size_same, root_with}
 use Rattle.scc_base.specs.declared.signals.Signal.TheVariants.{Sent, Ready}
-use Rattle.scc_proto.specs.Tables.{put}
+use Rattle.scc_proto.specs.Tables.{table_with}
 use Rattle.scc_proto.specs.Messages.{Notes, note_word, barriers_of}
 use Rattle.scc_proto.specs.Stages.{Stage, OnItsWay, Record, blank}
 use Rattle.scc_proto.specs.Moves.{Move, DraftHeader, DraftChunk, RaiseSignal, LookSignal, ReadHeader, ReadChunk, LowerSignal, FlipGather, LookGather, WriteRelease, LookRelease, StoreHeap, NoMove, Misplaced, after, flip_gather, post_answered, finished_if}
@@ -55,8 +55,8 @@ module _ (s : SetupView) (me : ℕ) where
       record {
         stage = old.stage;
         post = old.post;
-        notes = λ j none. same_or_other (put rec.notes from (option_map (note_word k v) (rec.notes from)) j ≡ None) j from
-            (λ t e. ap (λ x. put rec.notes from (option_map (note_word k v) (rec.notes from)) x) e ∙ put_here rec.notes from (option_map (note_word k v) (rec.notes from)) ∙ ap (λ (o : Option Notes). option_map (note_word k v) o) (ap rec.notes (sym e) ∙ old.notes j none))
+        notes = λ j none. same_or_other (table_with rec.notes from (option_map (note_word k v) (rec.notes from)) j ≡ None) j from
+            (λ t e. ap (λ x. table_with rec.notes from (option_map (note_word k v) (rec.notes from)) x) e ∙ put_here rec.notes from (option_map (note_word k v) (rec.notes from)) ∙ ap (λ (o : Option Notes). option_map (note_word k v) o) (ap rec.notes (sym e) ∙ old.notes j none))
             (λ t ne. put_there rec.notes from (option_map (note_word k v) (rec.notes from)) j ne ∙ old.notes j none);
         flips = old.flips;
         calls = old.calls;
@@ -69,7 +69,7 @@ module _ (s : SetupView) (me : ℕ) where
       record {
         stage = r.stage;
         post = post_kept rec.stage _ rec.post r.free old.post;
-        notes = λ j none. same_or_other (put rec.notes from None j ≡ None) j from (λ t e. ap (λ x. put rec.notes from None x) e ∙ put_here rec.notes from None) (λ t ne. put_there rec.notes from None j ne ∙ old.notes j none);
+        notes = λ j none. same_or_other (table_with rec.notes from None j ≡ None) j from (λ t e. ap (λ x. table_with rec.notes from None x) e ∙ put_here rec.notes from None) (λ t ne. put_there rec.notes from None j ne ∙ old.notes j none);
         flips = λ c. old.flips c ∙ sym (r.count c);
         calls = r.bytes old.calls;
       }
@@ -88,14 +88,14 @@ module _ (s : SetupView) (me : ℕ) where
         stage = r.0;
         post = post_kept rec.stage _ rec.post (λ t. r.3) old.post;
         notes = old.notes;
-        flips = λ c. same_or_other (put rec.flips comm (suc (rec.flips comm)) c ≡ barriers_of c (finished_if (last == 0) (Bar comm) rec.calls) + open_barriers c (flip_gather comm last rec.stage)) c comm
+        flips = λ c. same_or_other (table_with rec.flips comm (suc (rec.flips comm)) c ≡ barriers_of c (finished_if (last == 0) (Bar comm) rec.calls) + open_barriers c (flip_gather comm last rec.stage)) c comm
             (λ t e. put_at rec.flips comm c e ∙ flipped c (rec.flips c) _ _ e (old.flips c) (r.1 c))
             (λ t ne. put_there rec.flips comm (suc (rec.flips comm)) c ne ∙ others c (rec.flips c) _ _ ne (old.flips c) (r.1 c));
         calls = r.2 old.calls;
       }
     where
-      put_at : (flips : ℕ → ℕ) (i c : ℕ) → c ≡ i → put flips i (suc (flips i)) c ≡ suc (flips c)
-      put_at flips i c e = ap (λ x. put flips x (suc (flips x)) c) (sym e) ∙ put_here flips c (suc (flips c))
+      put_at : (flips : ℕ → ℕ) (i c : ℕ) → c ≡ i → table_with flips i (suc (flips i)) c ≡ suc (flips c)
+      put_at flips i c e = ap (λ x. table_with flips x (suc (flips x)) c) (sym e) ∙ put_here flips c (suc (flips c))
 
       flipped : (c n old_count new_count : ℕ) → c ≡ comm → n ≡ old_count → new_count ≡ old_count + (if comm == c then 1 else 0) → suc n ≡ new_count
       flipped c n a b e is more = let t : (comm == c) ≡ true = ap (λ x. comm == x) e ∙ eqb_same comm in let m : b ≡ a + 1 = more ∙ ap (λ q. a + (if q then 1 else 0)) t in omega (arith, is, m)

@@ -8,17 +8,17 @@ use Rattle.scc_base.specs.declared.signals.Signal.TheVariants.{Sent, Ready}
 use Rattle.scc_base.specs.Setups.{SetupView, host_of}
 use Rattle.scc_base.specs.declared.layouts.Layout.{Layout}
 use Rattle.scc_base.specs.declared.layouts.Layout.TheVariants.{LineFlags, BitFlags}
-use Rattle.scc_proto.specs.Messages.{Notes, StandsIn, Progress, begun}
+use Rattle.scc_proto.specs.Messages.{Notes, StandsIn, Progress, fresh_message}
 use Rattle.scc_proto.specs.Stages.{Filling, Raised, Answered, Stage, Idle, Drafting, Sending, Between, Taking, Barrier, OnItsWay, FlagWords, Record}
 use Rattle.scc_proto.specs.Permission.{is_answered_by}
 use Rattle.scc_proto.specs.Words.{Memory, are_peers}
 use Rattle.scc_proto.specs.Records.{chunk_of, flags_in}
 use Rattle.scc_proto.specs.Views.{view_of, word_of_flag}
 use Rattle.scc_proto.specs.Singles.{IsConsistent, IsStage, IsPosted}
-use Rattle.scc_proto.specs.Pairs.{Resting, Offering, Awaiting, Receiving, resumed, side_of_post, sending_side, taking_side, NotesStand, pair_of}
+use Rattle.scc_proto.specs.Pairs.{Resting, Offering, Awaiting, Receiving, message_so_far, side_of_post, sending_side, taking_side, NotesStand, pair_of}
 use Rattle.scc_proto.specs.Registers.{IsNotedWord, NotedFlags}
 use Rattle.scc_proto.specs.Agreement.{Agrees}
-use Rattle.scc_proto.specs.Soundness.{AreOfHead, is_drafting, is_taking, is_answered, IsSound}
+use Rattle.scc_proto.specs.Soundness.{AreOfHead, is_drafting, is_taking_from, is_answered, IsSound}
 use Rattle.scc_proto.proofs.Tests.{same_or_other, same_by_eqb, both_first, both_second, peers_are, peers_swap}
 use Rattle.scc_proto.proofs.Pairs.PhaseFacts.{at_rest, when_answered, when_taking, when_seen, Raise, sending_here, sending_there, post_here}
 use Rattle.scc_proto.proofs.Pairs.OfferFacts.{offers}
@@ -69,7 +69,7 @@ record TakesFrom (s : SetupView) (me j : ℕ) (st : Stage) : Type 0 where
   side : taking_side j st ≡ Receiving message words
   peers : are_peers s me j ≡ true
 
-takes_from : (s : SetupView) (me j : ℕ) (st : Stage) → IsStage s me st → is_taking j st ≡ true → TakesFrom s me j st
+takes_from : (s : SetupView) (me j : ℕ) (st : Stage) → IsStage s me st → is_taking_from j st ≡ true → TakesFrom s me j st
 takes_from s me j Idle stage t = absurd (cc)
 takes_from s me j (Drafting h c) stage t = absurd (cc)
 takes_from s me j (Sending to part m c) stage t = absurd (cc)
@@ -96,9 +96,9 @@ answered_post s me j st (Some post) side posted t =
     let here : (post.to == j) ≡ true = both_first (post.to == j) post.is_answered t in
     record {
       is_post = true;
-      message = begun post.head;
+      message = fresh_message post.head;
       chunk = post.chunk;
-      side = side ∙ post_here j post here ∙ ap (λ b. Offering b true (begun post.head) post.chunk) (both_second (post.to == j) post.is_answered t);
+      side = side ∙ post_here j post here ∙ ap (λ b. Offering b true (fresh_message post.head) post.chunk) (both_second (post.to == j) post.is_answered t);
       peers = subst (λ x. are_peers s me x ≡ true) (same_by_eqb post.to j here) posted.peers;
     }
 
@@ -130,8 +130,8 @@ module _ (s : SetupView) (memory : Memory) (records : ℕ → Record) (agrees : 
       let other = (peers_are s me j peers).other in
       let r = raised j header is in
       let stands : StandsIn header ((view_of s memory).header j) = subst (λ (o : Option Notes). NotesStand o ((view_of s memory).header j)) is r.is.notes in
-      let o = offers s j me false r.is_post (resumed r.through r.head) r.chunk ((view_of s memory).header j) ((view_of s memory).chunk j) (records j) (agrees.singles.0 j other) (agrees.senders j other) r.is.sending in
-      record { head = (resumed r.through r.head).head; is_post = r.is_post; valid = o.valid; post = o.post; words = λ k v lt noted_is. sym (stands k v noted_is) ∙ o.line k lt }
+      let o = offers s j me false r.is_post (message_so_far r.through r.head) r.chunk ((view_of s memory).header j) ((view_of s memory).chunk j) (records j) (agrees.singles.0 j other) (agrees.senders j other) r.is.sending in
+      record { head = (message_so_far r.through r.head).head; is_post = r.is_post; valid = o.valid; post = o.post; words = λ k v lt noted_is. sym (stands k v noted_is) ∙ o.line k lt }
 
   pub sound_law : IsSound s me (records me)
   sound_law = record {

@@ -4,13 +4,13 @@ use Rattle.std.proofs.lemmas.Bool.Decides.{nat_tests}
 use Rattle.std.proofs.lemmas.List.Elements.{All-append, All-nil, All-cons}
 use Rattle.scc_base.specs.Calls.{DataCall, Bar}
 use Rattle.scc_base.specs.Setups.{SetupView, place_of}
-use Rattle.scc_proto.specs.Messages.{Notes, noted, note_word, has_all, Progress, begun, chunk_bytes, is_last, is_whole, is_padded, with_chunk, byte_at, bytes_from, head_of, is_head, is_post_head, message_of, send_to, recv_from, post_to, barriers_of}
+use Rattle.scc_proto.specs.Messages.{Notes, noted_word, note_word, has_all, Progress, fresh_message, chunk_bytes, is_last, is_whole, is_padded, with_chunk, byte_at, bytes_from, head_of, is_head, is_post_head, message_of, send_to, recv_from, post_to, barriers_of}
 use Rattle.scc_proto.specs.Stages.{Filling, Raised, Answered, Stage, Idle, Drafting, Sending, Between, Taking, Barrier, OnItsWay}
 use Rattle.scc_proto.specs.Moves.{draft_header, draft_chunk, raise_sent, read_chunk, lower_sent, raise_ready, look_ready, lower_ready, flip_gather, look_gather, write_release, look_release, post_raised, calls_raised, calls_received, calls_sent, calls_released, calls_let_go, finished_if, is_posted}
 use Rattle.scc_proto.specs.Permission.{drafts_header, drafts_chunk, may_raise, may_take, has_taken, may_release, is_idle, is_whole_header, is_post_word, is_drafted}
 use Rattle.scc_proto.specs.Words.{are_peers, is_present}
 use Rattle.scc_proto.specs.Records.{chunk_of, last_of}
-use Rattle.scc_proto.specs.Singles.{AreBytes, IsWholeMessage, IsMade, IsUnderWay, IsStage, is_free, IsPosted, open_barriers}
+use Rattle.scc_proto.specs.Singles.{AreBytes, IsWholeMessage, IsWholeCall, IsUnderWay, IsStage, is_free, IsPosted, open_barriers}
 use Rattle.scc_proto.proofs.Tests.{same_by_eqb, eqb_same, both_first, both_second}
 use Rattle.scc_proto.proofs.Messages.MessageLists.{barriers_of-append}
 use Rattle.scc_proto.proofs.Words.NoteFacts.{length-bytes_from}
@@ -39,8 +39,8 @@ each-with_chunk : (size : ℕ) (message : Progress) (chunk : Notes) → AreBytes
 each-with_chunk size message chunk each = All-append (λ b. b < 256) message.bytes (bytes_from chunk 0 (chunk_bytes size message)) each (each_from chunk 0 (chunk_bytes size message))
 
 module _ (s : SetupView) (me : ℕ) where
-  all_push : (calls : List DataCall) (call : DataCall) → All (IsMade s me) calls → IsMade s me call → All (IsMade s me) (calls ++ call ∷ [])
-  all_push calls call all made = All-append (IsMade s me) calls (call ∷ []) all (All-cons (IsMade s me) call [] made (All-nil (IsMade s me)))
+  all_push : (calls : List DataCall) (call : DataCall) → All (IsWholeCall s me) calls → IsWholeCall s me call → All (IsWholeCall s me) (calls ++ call ∷ [])
+  all_push calls call all made = All-append (IsWholeCall s me) calls (call ∷ []) all (All-cons (IsWholeCall s me) call [] made (All-nil (IsWholeCall s me)))
 
   whole_bytes : (other : ℕ) (message : Progress) (chunk : Notes) → IsUnderWay s me other message → is_last (chunk_of s) message ≡ true → length (with_chunk (chunk_of s) message chunk).bytes ≡ message.head.len
   whole_bytes other message chunk under last = length-with_chunk (chunk_of s) message chunk ∙ last_bytes message.head.len (chunk_of s) (length message.bytes) message.chunks under.bytes under.left (grind (arith, nat_tests))
@@ -61,14 +61,14 @@ module _ (s : SetupView) (me : ℕ) where
         each = each-with_chunk (chunk_of s) message chunk under.each;
       }
 
-  begins : (other : ℕ) (header : Notes) → are_peers s me other ≡ true → is_head (head_of header) ≡ true → IsUnderWay s me other (begun (head_of header))
+  begins : (other : ℕ) (header : Notes) → are_peers s me other ≡ true → is_head (head_of header) ≡ true → IsUnderWay s me other (fresh_message (head_of header))
   begins other header peers head = record { peers = peers; head = head; bytes = sym (mul-zero (chunk_of s)); left = inl refl; each = All-nil (λ b. b < 256) }
 
   -- ---- what a move owes of the stage and the calls
   pub record Goes (st : Stage) (calls : List DataCall) (new : Stage) (late : List DataCall) : Type 0 where
     pub stage : IsStage s me new
     pub count : (comm : ℕ) → barriers_of comm late + open_barriers comm new ≡ barriers_of comm calls + open_barriers comm st
-    pub bytes : All (IsMade s me) calls → All (IsMade s me) late
+    pub bytes : All (IsWholeCall s me) calls → All (IsWholeCall s me) late
     pub free : is_free st ≡ true → is_free new ≡ true
 
   stays : (st : Stage) (calls : List DataCall) → IsStage s me st → Goes st calls st calls
@@ -158,7 +158,7 @@ module _ (s : SetupView) (me : ℕ) where
   pub record Lowers (st : Stage) (calls : List DataCall) (new : Stage) (late : List DataCall) : Type 0 where
     pub stage : IsStage s me new
     pub count : (comm : ℕ) → barriers_of comm late + open_barriers comm new ≡ barriers_of comm calls + open_barriers comm st
-    pub bytes : All (IsMade s me) calls → All (IsMade s me) late
+    pub bytes : All (IsWholeCall s me) calls → All (IsWholeCall s me) late
 
   pub ready_lowered : (st : Stage) (calls : List DataCall) → IsStage s me st → Lowers st calls (lower_ready (chunk_of s) st) (calls_sent (chunk_of s) st calls)
   ready_lowered Idle calls stage = record { stage = stage; count = λ comm. refl; bytes = λ all. all }
@@ -181,11 +181,11 @@ module _ (s : SetupView) (me : ℕ) where
 
   pub gather_flipped : (comm value last : ℕ) (st : Stage) (calls : List DataCall) → is_idle st ≡ true → is_present s comm ≡ true → last ≡ last_of s comm me
       → IsStage s me (flip_gather comm last st) × ((c : ℕ) → barriers_of c (finished_if (last == 0) (Bar comm) calls) + open_barriers c (flip_gather comm last st) ≡ (barriers_of c calls + open_barriers c st) + (if comm == c then 1 else 0))
-      × (All (IsMade s me) calls → All (IsMade s me) (finished_if (last == 0) (Bar comm) calls)) × (is_free (flip_gather comm last st) ≡ true)
+      × (All (IsWholeCall s me) calls → All (IsWholeCall s me) (finished_if (last == 0) (Bar comm) calls)) × (is_free (flip_gather comm last st) ≡ true)
   gather_flipped comm value last Idle calls idle present is = by (last == 0) refl
     where
       by : (b : Bool) → (last == 0) ≡ b → IsStage s me (if b then Idle else Barrier comm 0 0) × ((c : ℕ) → barriers_of c (finished_if b (Bar comm) calls) + open_barriers c (if b then Idle else Barrier comm 0 0) ≡ (barriers_of c calls + 0) + (if comm == c then 1 else 0))
-          × (All (IsMade s me) calls → All (IsMade s me) (finished_if b (Bar comm) calls)) × (is_free (if b then Idle else Barrier comm 0 0) ≡ true)
+          × (All (IsWholeCall s me) calls → All (IsWholeCall s me) (finished_if b (Bar comm) calls)) × (is_free (if b then Idle else Barrier comm 0 0) ≡ true)
       by true zero_last = (tt, λ c. omega (arith, one_barrier calls comm c), λ all. all_push calls (Bar comm) all present, refl)
       by false some =
           let more : 0 < last = grind (arith, nat_tests) in
@@ -260,28 +260,28 @@ module _ (s : SetupView) (me : ℕ) where
   pub record Raises (st : Stage) (calls : List DataCall) (new : Stage) (late : List DataCall) (post : Option OnItsWay) : Type 0 where
     pub stage : IsStage s me new
     pub count : (comm : ℕ) → barriers_of comm late + open_barriers comm new ≡ barriers_of comm calls + open_barriers comm st
-    pub bytes : All (IsMade s me) calls → All (IsMade s me) late
+    pub bytes : All (IsWholeCall s me) calls → All (IsWholeCall s me) late
     pub posted : IsPosted s me new post
 
-  first_raised : (posted : Bool) (to : ℕ) (header chunk : Notes) (calls : List DataCall) → is_posted header ≡ posted → is_whole_header header ≡ true → is_drafted (chunk_of s) (begun (head_of header)) chunk ≡ true → are_peers s me to ≡ true
-      → Raises (Drafting header chunk) calls (if posted then Idle else Sending to Raised (begun (head_of header)) chunk)
-      (finished_if posted (post_to to (message_of (with_chunk (chunk_of s) (begun (head_of header)) chunk))) calls)
+  first_raised : (posted : Bool) (to : ℕ) (header chunk : Notes) (calls : List DataCall) → is_posted header ≡ posted → is_whole_header header ≡ true → is_drafted (chunk_of s) (fresh_message (head_of header)) chunk ≡ true → are_peers s me to ≡ true
+      → Raises (Drafting header chunk) calls (if posted then Idle else Sending to Raised (fresh_message (head_of header)) chunk)
+      (finished_if posted (post_to to (message_of (with_chunk (chunk_of s) (fresh_message (head_of header)) chunk))) calls)
       (if posted then Some (record { to = to; head = head_of header; chunk = chunk; is_answered = false }) else None)
   first_raised true to header chunk calls is whole drafted peers =
       let rest : (is_head (head_of header) && is_post_word header) ≡ true = both_second (has_all header 4) (is_head (head_of header) && is_post_word header) whole in
-      let word : (if true then is_post_head (head_of header) else unwrap_or (noted header 3) 0 == 0) ≡ true =
-      subst (λ b. (if b then is_post_head (head_of header) else unwrap_or (noted header 3) 0 == 0) ≡ true) is (both_second (is_head (head_of header)) (is_post_word header) rest) in
+      let word : (if true then is_post_head (head_of header) else unwrap_or (noted_word header 3) 0 == 0) ≡ true =
+      subst (λ b. (if b then is_post_head (head_of header) else unwrap_or (noted_word header 3) 0 == 0) ≡ true) is (both_second (is_head (head_of header)) (is_post_word header) rest) in
       let under = begins to header peers (both_first (is_head (head_of header)) (is_post_word header) rest) in
       record {
         stage = tt;
-        count = λ comm. ap (λ n. n + 0) (no_barrier true calls (post_to to (message_of (with_chunk (chunk_of s) (begun (head_of header)) chunk))) (λ k. refl) comm);
-        bytes = λ all. all_push calls _ all (record { peers = peers; valid = word; long = whole_bytes to (begun (head_of header)) chunk under (post_is_last s (head_of header) word); each = each-with_chunk (chunk_of s) (begun (head_of header)) chunk under.each });
-        posted = record { peers = peers; head = word; whole = both_first (is_whole (chunk_of s) (begun (head_of header)) chunk) (is_padded (chunk_of s) (begun (head_of header)) chunk) drafted; free = refl };
+        count = λ comm. ap (λ n. n + 0) (no_barrier true calls (post_to to (message_of (with_chunk (chunk_of s) (fresh_message (head_of header)) chunk))) (λ k. refl) comm);
+        bytes = λ all. all_push calls _ all (record { peers = peers; valid = word; long = whole_bytes to (fresh_message (head_of header)) chunk under (post_is_last s (head_of header) word); each = each-with_chunk (chunk_of s) (fresh_message (head_of header)) chunk under.each });
+        posted = record { peers = peers; head = word; whole = both_first (is_whole (chunk_of s) (fresh_message (head_of header)) chunk) (is_padded (chunk_of s) (fresh_message (head_of header)) chunk) drafted; free = refl };
       }
   first_raised false to header chunk calls is whole drafted peers =
       let rest : (is_head (head_of header) && is_post_word header) ≡ true = both_second (has_all header 4) (is_head (head_of header) && is_post_word header) whole in
       record {
-        stage = (begins to header peers (both_first (is_head (head_of header)) (is_post_word header) rest), both_first (is_whole (chunk_of s) (begun (head_of header)) chunk) (is_padded (chunk_of s) (begun (head_of header)) chunk) drafted);
+        stage = (begins to header peers (both_first (is_head (head_of header)) (is_post_word header) rest), both_first (is_whole (chunk_of s) (fresh_message (head_of header)) chunk) (is_padded (chunk_of s) (fresh_message (head_of header)) chunk) drafted);
         count = λ comm. refl;
         bytes = λ all. all;
         posted = tt;
@@ -292,7 +292,7 @@ module _ (s : SetupView) (me : ℕ) where
   sent_raised to st (Some post) calls may peers stage = absurd (cc)
   sent_raised to Idle None calls may peers stage = absurd (cc)
   sent_raised to (Drafting header chunk) None calls may peers stage = first_raised (is_posted header) to header chunk calls refl
-      (both_first (is_whole_header header) (is_drafted (chunk_of s) (begun (head_of header)) chunk) may) (both_second (is_whole_header header) (is_drafted (chunk_of s) (begun (head_of header)) chunk) may) peers
+      (both_first (is_whole_header header) (is_drafted (chunk_of s) (fresh_message (head_of header)) chunk) may) (both_second (is_whole_header header) (is_drafted (chunk_of s) (fresh_message (head_of header)) chunk) may) peers
   sent_raised to (Sending j Filling m c) None calls may peers stage =
       record {
         stage = (

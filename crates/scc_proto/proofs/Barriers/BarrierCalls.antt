@@ -6,14 +6,14 @@ use Rattle.scc_base.specs.Setups.{SetupView, IsSetup, setup_key, place_of, root_
 use Rattle.scc_base.proofs.Confluence.{equal_or_not}
 use Rattle.scc_base.proofs.ChangeLaws.{true_or_false}
 use Rattle.scc_base.proofs.GroupFacts.{place_once, root_with, root_once}
-use Rattle.scc_proto.specs.Tables.{put}
+use Rattle.scc_proto.specs.Tables.{table_with}
 use Rattle.scc_proto.specs.Stages.{Barrier, Record}
 use Rattle.scc_proto.specs.Moves.{Move, FlipGather, LookGather, WriteRelease, LookRelease, look_gather, after}
 use Rattle.scc_proto.specs.Records.{chunk_of, last_of}
-use Rattle.scc_proto.specs.Views.{View, shown}
+use Rattle.scc_proto.specs.Views.{View, view_after_move}
 use Rattle.scc_proto.specs.Groups.{is_open}
 use Rattle.scc_proto.specs.Singles.{IsConsistent}
-use Rattle.scc_proto.specs.Passed.{gathered, passed_open, passed_calls, slot_of}
+use Rattle.scc_proto.specs.Passed.{gathered_barriers, passed_open, passed_calls, slot_of}
 use Rattle.scc_proto.specs.Agreement.{RecordsAgree, GroupsAgree}
 use Rattle.scc_proto.specs.Legality.{in_group, Grows, ByNothing}
 use Rattle.scc_proto.proofs.Messages.Growth.{grows_by_barrier}
@@ -29,14 +29,14 @@ use Rattle.scc_proto.proofs.Barriers.EntryCalls.{flip_grows}
 module _ (s : SetupView) (me : ℕ) (view : View) (records : ℕ → Record) (low : me < s.nue) (consistent : RecordsAgree s records) (groups : GroupsAgree s view records) where
   -- the passed calls and the slots after a move of this rank
   abbrev GrowsBy : Move → Type 0
-  GrowsBy move = Grows s.nue (setup_key s) (passed_calls s records) (slot_of s records) (passed_calls s (put records me (after (chunk_of s) move (records me)))) (slot_of s (put records me (after (chunk_of s) move (records me))))
+  GrowsBy move = Grows s.nue (setup_key s) (passed_calls s records) (slot_of s records) (passed_calls s (table_with records me (after (chunk_of s) move (records me)))) (slot_of s (table_with records me (after (chunk_of s) move (records me))))
 
   -- the record of this rank after a move, and all records
   abbrev new_of : Move → Record
   new_of move = after (chunk_of s) move (records me)
 
   abbrev next_of : Move → ℕ → Record
-  next_of move = put records me (new_of move)
+  next_of move = table_with records me (new_of move)
 
   -- the root sees a member: the last one of them lets the barrier be passed by all
   look_gather_grows : IsSetup s → (c from place value : ℕ) → IsViewStep s me view (records me) (LookGather c from place value) → GrowsBy (LookGather c from place value)
@@ -57,7 +57,7 @@ module _ (s : SetupView) (me : ℕ) (view : View) (records : ℕ → Record) (lo
       unmoved_by : look_gather c place value ((records me).flips c % 2) (records me).stage ≡ (records me).stage → GrowsBy (LookGather c from place value)
       unmoved_by stage = unmoved s me records (new_of (LookGather c from place value)) (λ i. record (records me) { stage = stage i })
 
-      other_gathered : (n comm : ℕ) → comm ≢ c → gathered comm n (new_of (LookGather c from place value)) ≡ gathered comm n (records me)
+      other_gathered : (n comm : ℕ) → comm ≢ c → gathered_barriers comm n (new_of (LookGather c from place value)) ≡ gathered_barriers comm n (records me)
       other_gathered n comm apart =
           gathered-bar comm n (new_of (LookGather c from place value))
           ∙ ap (gathered_in n ((records me).flips comm)) (look_gather-other c comm place value ((records me).flips c % 2) (records me).stage apart)
@@ -90,10 +90,10 @@ module _ (s : SetupView) (me : ℕ) (view : View) (records : ℕ → Record) (lo
               (λ (all : x.seen ≡ last_of s c me). absurd (omega (arith, all, within)))
               (barrier_told s me c (records me).stage x is own_record.stage).all_seen
 
-          old_gathered : gathered c (last_of s c me) (records me) ≡ (records me).flips c - 1
+          old_gathered : gathered_barriers c (last_of s c me) (records me) ≡ (records me).flips c - 1
           old_gathered = gathered-bar c (last_of s c me) (records me) ∙ ap (gathered_in (last_of s c me) ((records me).flips c)) is ∙ gathered_more (last_of s c me) ((records me).flips c) x (omega (arith, within))
 
-          new_by : gathered c (last_of s c me) (new_of (LookGather c from place value)) ≡ gathered_in (last_of s c me) ((records me).flips c) (Some (record { seen = suc x.seen; released = x.released }))
+          new_by : gathered_barriers c (last_of s c me) (new_of (LookGather c from place value)) ≡ gathered_in (last_of s c me) ((records me).flips c) (Some (record { seen = suc x.seen; released = x.released }))
           new_by = gathered-bar c (last_of s c me) (new_of (LookGather c from place value)) ∙ ap (gathered_in (last_of s c me) ((records me).flips c)) new_bar
 
           old_open : is_open c (records me).stage ≡ true
@@ -105,29 +105,29 @@ module _ (s : SetupView) (me : ℕ) (view : View) (records : ℕ → Record) (lo
           me_old : passed_calls s records me ≡ (records me).calls ++ (if nat_le ((records me).flips c) ((records me).flips c - 1) then Bar c ∷ [] else [])
           me_old =
               ap (λ (l : List DataCall). (records me).calls ++ l) (open_bar s c me (records me).stage records old_open
-              ∙ ap (λ (n : ℕ). if nat_le ((records me).flips c) n then Bar c ∷ [] else []) (ap (λ (r : ℕ). gathered c (last_of s c me) (records r)) mine ∙ old_gathered))
+              ∙ ap (λ (n : ℕ). if nat_le ((records me).flips c) n then Bar c ∷ [] else []) (ap (λ (r : ℕ). gathered_barriers c (last_of s c me) (records r)) mine ∙ old_gathered))
 
-          me_new : passed_calls s (next_of (LookGather c from place value)) me ≡ (records me).calls ++ (if nat_le ((records me).flips c) (gathered c (last_of s c me) (new_of (LookGather c from place value))) then Bar c ∷ [] else [])
+          me_new : passed_calls s (next_of (LookGather c from place value)) me ≡ (records me).calls ++ (if nat_le ((records me).flips c) (gathered_barriers c (last_of s c me) (new_of (LookGather c from place value))) then Bar c ∷ [] else [])
           me_new =
               passed_here s me records (new_of (LookGather c from place value))
               ∙ ap (λ (l : List DataCall). (records me).calls ++ l) (open_bar s c me (look_gather c place value ((records me).flips c % 2) (records me).stage) (next_of (LookGather c from place value)) new_open
               ∙ ap (λ (b : Bool). if b then Bar c ∷ [] else []) (gathered_here s me records (new_of (LookGather c from place value)) c
-              ∙ ap (λ (rec : Record). nat_le ((records me).flips c) (gathered c (last_of s c me) rec)) (put_here records me (root_of s c me) (new_of (LookGather c from place value)) mine)))
+              ∙ ap (λ (rec : Record). nat_le ((records me).flips c) (gathered_barriers c (last_of s c me) rec)) (put_here records me (root_of s c me) (new_of (LookGather c from place value)) mine)))
 
           -- not all members are seen yet
           waits : suc x.seen ≢ last_of s c me → GrowsBy (LookGather c from place value)
           waits more = ByNothing calls slots
             where
-              new_gathered : gathered c (last_of s c me) (new_of (LookGather c from place value)) ≡ (records me).flips c - 1
+              new_gathered : gathered_barriers c (last_of s c me) (new_of (LookGather c from place value)) ≡ (records me).flips c - 1
               new_gathered = new_by ∙ gathered_more (last_of s c me) ((records me).flips c) (record { seen = suc x.seen; released = x.released }) (omega (arith, within, more))
 
-              gathers : (k comm : ℕ) → root_of s comm k ≡ me → gathered comm (last_of s comm k) (new_of (LookGather c from place value)) ≡ gathered comm (last_of s comm k) (records me)
+              gathers : (k comm : ℕ) → root_of s comm k ≡ me → gathered_barriers comm (last_of s comm k) (new_of (LookGather c from place value)) ≡ gathered_barriers comm (last_of s comm k) (records me)
               gathers k comm led =
                   ⊎_elim
                   (λ (same : comm ≡ c).
                   let same_last : last_of s c k ≡ last_of s c me = mine_last s me c k (subst (λ (y : ℕ). root_of s y k ≡ me) same led) in
-                  subst (λ (y : ℕ). gathered y (last_of s y k) (new_of (LookGather c from place value)) ≡ gathered y (last_of s y k) (records me)) (sym same)
-                  (subst (λ (n : ℕ). gathered c n (new_of (LookGather c from place value)) ≡ gathered c n (records me)) (sym same_last) (new_gathered ∙ sym old_gathered)))
+                  subst (λ (y : ℕ). gathered_barriers y (last_of s y k) (new_of (LookGather c from place value)) ≡ gathered_barriers y (last_of s y k) (records me)) (sym same)
+                  (subst (λ (n : ℕ). gathered_barriers c n (new_of (LookGather c from place value)) ≡ gathered_barriers c n (records me)) (sym same_last) (new_gathered ∙ sym old_gathered)))
                   (λ (apart : comm ≢ c). other_gathered (last_of s comm k) comm apart)
                   (equal_or_not comm c)
 
@@ -145,7 +145,7 @@ module _ (s : SetupView) (me : ℕ) (view : View) (records : ℕ → Record) (lo
               grows_by_barrier s.nue (setup_key s) (passed_calls s records) (passed_calls s (next_of (LookGather c from place value))) (slot_of s records) (slot_of s (next_of (LookGather c from place value))) c me
               (record { below = low; zeroth = member_from.first }) gain stay slots
             where
-              new_gathered : gathered c (last_of s c me) (new_of (LookGather c from place value)) ≡ (records me).flips c
+              new_gathered : gathered_barriers c (last_of s c me) (new_of (LookGather c from place value)) ≡ (records me).flips c
               new_gathered = new_by ∙ gathered_full (last_of s c me) ((records me).flips c) (record { seen = suc x.seen; released = x.released }) all
 
               not_before : nat_le ((records me).flips c) ((records me).flips c - 1) ≡ false
@@ -161,7 +161,7 @@ module _ (s : SetupView) (me : ℕ) (view : View) (records : ℕ → Record) (lo
               me_after = me_new ∙ ap (λ (n : ℕ). (records me).calls ++ (if nat_le ((records me).flips c) n then Bar c ∷ [] else [])) new_gathered
                   ∙ ap (λ (b : Bool). (records me).calls ++ (if b then Bar c ∷ [] else [])) (same_nat ((records me).flips c))
 
-              next_groups : GroupsAgree s (shown me (LookGather c from place value) view) (next_of (LookGather c from place value))
+              next_groups : GroupsAgree s (view_after_move me (LookGather c from place value) view) (next_of (LookGather c from place value))
               next_groups = groups_kept s me view records (LookGather c from place value) setup step consistent groups
 
               member_gains : (k : ℕ) → k ≢ me → k < s.nue → setup_key s c k ≡ setup_key s c me → passed_calls s (next_of (LookGather c from place value)) k ≡ passed_calls s records k ++ Bar c ∷ []
@@ -186,7 +186,7 @@ module _ (s : SetupView) (me : ℕ) (view : View) (records : ℕ → Record) (lo
 
                   has_entered : (records me).flips c ≤ (records k).flips c
                   has_entered =
-                      let new_level = (at_rank s (shown me (LookGather c from place value) view) c k (next_of (LookGather c from place value)) (next_groups c k member_from.present below)).member member in
+                      let new_level = (at_rank s (view_after_move me (LookGather c from place value) view) c k (next_of (LookGather c from place value)) (next_groups c k member_from.present below)).member member in
                       let root_flips : (next_of (LookGather c from place value) (root_of s c k)).flips c ≡ (records me).flips c = ap (λ (rec : Record). rec.flips c) (put_here records me (root_of s c k) (new_of (LookGather c from place value)) root_k) in
                       let root_bar : bar_at c (next_of (LookGather c from place value) (root_of s c k)).stage ≡ Some (record { seen = suc x.seen; released = x.released }) = ap (λ (rec : Record). bar_at c rec.stage) (put_here records me (root_of s c k) (new_of (LookGather c from place value)) root_k) ∙ new_bar in
                       let own_flips : (next_of (LookGather c from place value) k).flips c ≡ (records k).flips c = ap (λ (rec : Record). rec.flips c) (put_there records me k (new_of (LookGather c from place value)) other) in
@@ -207,7 +207,7 @@ module _ (s : SetupView) (me : ℕ) (view : View) (records : ℕ → Record) (lo
                   before_it =
                       ap (λ (l : List DataCall). (records k).calls ++ l) (open_bar s c k (records k).stage records k_open
                       ∙ ap (λ (b : Bool). if b then Bar c ∷ [] else [])
-                      (ap₂ nat_le k_flips (ap (λ (r : ℕ). gathered c (last_of s c k) (records r)) root_k ∙ ap (λ (n : ℕ). gathered c n (records me)) same_last ∙ old_gathered) ∙ not_before))
+                      (ap₂ nat_le k_flips (ap (λ (r : ℕ). gathered_barriers c (last_of s c k) (records r)) root_k ∙ ap (λ (n : ℕ). gathered_barriers c n (records me)) same_last ∙ old_gathered) ∙ not_before))
                       ∙ append-nil (records k).calls
 
                   after_it : passed_calls s (next_of (LookGather c from place value)) k ≡ (records k).calls ++ Bar c ∷ []
@@ -216,7 +216,7 @@ module _ (s : SetupView) (me : ℕ) (view : View) (records : ℕ → Record) (lo
                       ∙ ap (λ (l : List DataCall). (records k).calls ++ l) (open_bar s c k (records k).stage (next_of (LookGather c from place value)) k_open
                       ∙ ap (λ (b : Bool). if b then Bar c ∷ [] else [])
                       (ap₂ nat_le (ap (λ (rec : Record). rec.flips c) (put_there records me k (new_of (LookGather c from place value)) other) ∙ k_flips)
-                      (ap (gathered c (last_of s c k)) (put_here records me (root_of s c k) (new_of (LookGather c from place value)) root_k) ∙ ap (λ (n : ℕ). gathered c n (new_of (LookGather c from place value))) same_last ∙ new_gathered)
+                      (ap (gathered_barriers c (last_of s c k)) (put_here records me (root_of s c k) (new_of (LookGather c from place value)) root_k) ∙ ap (λ (n : ℕ). gathered_barriers c n (new_of (LookGather c from place value))) same_last ∙ new_gathered)
                       ∙ same_nat ((records me).flips c)))
 
               gain : (k : ℕ) → in_group s.nue (setup_key s) c me k ≡ true → passed_calls s (next_of (LookGather c from place value)) k ≡ passed_calls s records k ++ Bar c ∷ []
@@ -256,7 +256,7 @@ module _ (s : SetupView) (me : ℕ) (view : View) (records : ℕ → Record) (lo
           (true_or_false ((place == suc x.seen) && (value == (records me).flips c % 2)))
 
 pub barrier_calls : (s : SetupView) (me : ℕ) (view : View) (records : ℕ → Record) (move : Move) → IsSetup s → IsViewStep s me view (records me) move → RecordsAgree s records → GroupsAgree s view records → is_barrier_move move ≡ true
-    → Grows s.nue (setup_key s) (passed_calls s records) (slot_of s records) (passed_calls s (put records me (after (chunk_of s) move (records me)))) (slot_of s (put records me (after (chunk_of s) move (records me))))
+    → Grows s.nue (setup_key s) (passed_calls s records) (slot_of s records) (passed_calls s (table_with records me (after (chunk_of s) move (records me)))) (slot_of s (table_with records me (after (chunk_of s) move (records me))))
 barrier_calls s me view records (FlipGather c value last) setup step consistent groups is = flip_grows s me view records step.rank consistent groups c value last step
 barrier_calls s me view records (LookGather c from place value) setup step consistent groups is = look_gather_grows s me view records step.rank consistent groups setup c from place value step
 barrier_calls s me view records (WriteRelease c to place value last) setup step consistent groups is = write_release_grows s me view records step.rank consistent groups c to place value last step

@@ -4,7 +4,7 @@ use Rattle.std.proofs.lemmas.Bool.Decides.{nat_tests}
 use Rattle.scc_proto.specs.Stages.{Stage, Idle, Drafting, Sending, Between, Taking, Barrier, Record}
 use Rattle.scc_proto.specs.Views.{View}
 use Rattle.scc_proto.specs.Groups.{is_open, has_seen, holds_back, releases, InStep}
-use Rattle.scc_proto.specs.Passed.{is_gathering, gathered}
+use Rattle.scc_proto.specs.Passed.{is_gathering, gathered_barriers}
 
 -- how many members a rank has seen and released in a barrier
 pub record Counts : Type 0 where
@@ -89,7 +89,7 @@ is_gathering-bar comm last (Taking from message chunk) = refl
 pub releases-bar : (comm place : ℕ) (rec : Record) → releases comm place rec ≡ releases_in place (rec.flips comm) (bar_at comm rec.stage)
 releases-bar comm place rec = ap (λ (b : Bool). if b then rec.flips comm - 1 else rec.flips comm) (holds_back-bar comm place rec.stage)
 
-pub gathered-bar : (comm last : ℕ) (rec : Record) → gathered comm last rec ≡ gathered_in last (rec.flips comm) (bar_at comm rec.stage)
+pub gathered-bar : (comm last : ℕ) (rec : Record) → gathered_barriers comm last rec ≡ gathered_in last (rec.flips comm) (bar_at comm rec.stage)
 gathered-bar comm last rec = ap (λ (b : Bool). if b then rec.flips comm - 1 else rec.flips comm) (is_gathering-bar comm last rec.stage)
 
 -- a member against its root: the member's release flag and place, the root's flips and open barrier, and the

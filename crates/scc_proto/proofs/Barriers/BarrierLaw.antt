@@ -5,7 +5,7 @@ use Rattle.scc_base.specs.Setups.{SetupView, setup_key}
 use Rattle.scc_proto.specs.Messages.{barriers_of, send_to}
 use Rattle.scc_proto.specs.Stages.{Stage, Idle, Drafting, Sending, Between, Taking, Barrier, Record}
 use Rattle.scc_proto.specs.Singles.{IsConsistent, open_barriers}
-use Rattle.scc_proto.specs.Passed.{passed_open, passed_calls, slot_of, is_received, is_gathered}
+use Rattle.scc_proto.specs.Passed.{passed_open, passed_calls, slot_of, is_received_ahead, is_gathered}
 use Rattle.scc_proto.specs.Agreement.{CallsAgree}
 use Rattle.scc_proto.proofs.Legality.LegalMessages.{legal_barriers}
 
@@ -34,7 +34,7 @@ one_barrier comm c false is same = omega arith
 pub passed_within_open : (s : SetupView) (comm me : ℕ) (stage : Stage) (records : ℕ → Record) → barriers_of comm (passed_open s me stage records) ≤ open_barriers comm stage
 passed_within_open s comm me Idle records = omega arith
 passed_within_open s comm me (Drafting header chunk) records = omega arith
-passed_within_open s comm me (Sending to part message chunk) records = no_barrier comm to _ (is_received me to records)
+passed_within_open s comm me (Sending to part message chunk) records = no_barrier comm to _ (is_received_ahead me to records)
 passed_within_open s comm me (Between from message) records = omega arith
 passed_within_open s comm me (Taking from message chunk) records = omega arith
 passed_within_open s comm me (Barrier c seen released) records = one_barrier comm c (is_gathered s c me records) (c == comm) refl

@@ -2,7 +2,7 @@
 use Rattle.std.proofs.Common.{◌≡◌, ◌≢◌, ℕ, suc, ◌==◌, Bool, true, false, true≢false, ◌&&◌, if◌then◌else◌, [], Option, Some, None, unwrap_or, refl, sym, ◌∙◌, ap, arith}
 use Rattle.std.proofs.lemmas.Bool.Decides.{nat_tests}
 use Rattle.scc_base.specs.declared.signals.Signal.TheVariants.{Sent, Ready}
-use Rattle.scc_proto.specs.Messages.{Notes, note_word, head_of, begun, is_last, with_chunk}
+use Rattle.scc_proto.specs.Messages.{Notes, note_word, head_of, fresh_message, is_last, with_chunk}
 use Rattle.scc_proto.specs.Stages.{Filling, Raised, Answered, Stage, Idle, Drafting, Sending, Between, Taking, Barrier, Record}
 use Rattle.scc_proto.specs.Moves.{Move, DraftHeader, DraftChunk, RaiseSignal, LookSignal, ReadHeader, ReadChunk, LowerSignal, FlipGather, LookGather, WriteRelease, LookRelease, StoreHeap, NoMove, Misplaced, is_posted, draft_header, draft_chunk, raise_sent, read_chunk, lower_sent, raise_ready, look_ready, lower_ready, flip_gather, look_gather, write_release, look_release, stage_after}
 use Rattle.scc_proto.specs.Permission.{is_idle, may_release}
@@ -33,7 +33,7 @@ draft_chunk-bar comm k v (Barrier c seen released) = refl
 
 raise_sent-bar : (comm to : ℕ) (st : Stage) → bar_at comm (raise_sent to st) ≡ bar_at comm st
 raise_sent-bar comm to Idle = refl
-raise_sent-bar comm to (Drafting header chunk) = either_bar comm None (is_posted header) Idle (Sending to Raised (begun (head_of header)) chunk) refl refl
+raise_sent-bar comm to (Drafting header chunk) = either_bar comm None (is_posted header) Idle (Sending to Raised (fresh_message (head_of header)) chunk) refl refl
 raise_sent-bar comm to (Sending j Filling message chunk) = refl
 raise_sent-bar comm to (Sending j Raised message chunk) = refl
 raise_sent-bar comm to (Sending j Answered message chunk) = refl

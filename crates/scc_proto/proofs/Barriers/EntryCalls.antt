@@ -5,14 +5,14 @@ use Rattle.scc_base.specs.Calls.{DataCall, Bar}
 use Rattle.scc_base.specs.Setups.{SetupView, setup_key, place_of, root_of}
 use Rattle.scc_base.proofs.Confluence.{equal_or_not}
 use Rattle.scc_base.proofs.GroupFacts.{place_once, root_with}
-use Rattle.scc_proto.specs.Tables.{put}
+use Rattle.scc_proto.specs.Tables.{table_with}
 use Rattle.scc_proto.specs.Messages.{sent_messages, received_messages}
 use Rattle.scc_proto.specs.Stages.{Stage, Idle, Barrier, Record}
 use Rattle.scc_proto.specs.Moves.{Move, FlipGather, finished_if, flip_gather, after}
 use Rattle.scc_proto.specs.Permission.{is_idle}
 use Rattle.scc_proto.specs.Records.{chunk_of, last_of}
 use Rattle.scc_proto.specs.Views.{View}
-use Rattle.scc_proto.specs.Passed.{gathered, is_gathered, passed_open, passed_calls, slot_of}
+use Rattle.scc_proto.specs.Passed.{gathered_barriers, is_gathered, passed_open, passed_calls, slot_of}
 use Rattle.scc_proto.specs.Agreement.{RecordsAgree, GroupsAgree}
 use Rattle.scc_proto.specs.Legality.{in_group, Grows, ByNothing}
 use Rattle.scc_proto.proofs.Messages.Growth.{grows_by_barrier}
@@ -25,14 +25,14 @@ use Rattle.scc_proto.proofs.Barriers.GatherFacts.{gathered_more, gathered_entere
 module _ (s : SetupView) (me : ℕ) (view : View) (records : ℕ → Record) (low : me < s.nue) (consistent : RecordsAgree s records) (groups : GroupsAgree s view records) where
   -- the passed calls and the slots after a move of this rank
   abbrev GrowsBy : Move → Type 0
-  GrowsBy move = Grows s.nue (setup_key s) (passed_calls s records) (slot_of s records) (passed_calls s (put records me (after (chunk_of s) move (records me)))) (slot_of s (put records me (after (chunk_of s) move (records me))))
+  GrowsBy move = Grows s.nue (setup_key s) (passed_calls s records) (slot_of s records) (passed_calls s (table_with records me (after (chunk_of s) move (records me)))) (slot_of s (table_with records me (after (chunk_of s) move (records me))))
 
   -- the record of this rank after a move, and all records
   abbrev new_of : Move → Record
   new_of move = after (chunk_of s) move (records me)
 
   abbrev next_of : Move → ℕ → Record
-  next_of move = put records me (new_of move)
+  next_of move = table_with records me (new_of move)
 
   -- a rank enters a barrier: a group of one is through
   pub flip_grows : (c value last : ℕ) → IsViewStep s me view (records me) (FlipGather c value last) → GrowsBy (FlipGather c value last)
@@ -56,10 +56,10 @@ module _ (s : SetupView) (me : ℕ) (view : View) (records : ℕ → Record) (lo
       old_passed : passed_calls s records me ≡ (records me).calls
       old_passed = ap (λ (st : Stage). (records me).calls ++ passed_open s me st records) idle ∙ append-nil (records me).calls
 
-      old_gathered : (n comm : ℕ) → gathered comm n (records me) ≡ (records me).flips comm
+      old_gathered : (n comm : ℕ) → gathered_barriers comm n (records me) ≡ (records me).flips comm
       old_gathered n comm = gathered-bar comm n (records me) ∙ ap (λ (st : Stage). gathered_in n ((records me).flips comm) (bar_at comm st)) idle
 
-      other_gathered : (n comm : ℕ) → comm ≢ c → gathered comm n (new_of (FlipGather c value last)) ≡ gathered comm n (records me)
+      other_gathered : (n comm : ℕ) → comm ≢ c → gathered_barriers comm n (new_of (FlipGather c value last)) ≡ gathered_barriers comm n (records me)
       other_gathered n comm apart =
           gathered-bar comm n (new_of (FlipGather c value last))
           ∙ ap₂ (λ (f : ℕ) (b : Option Counts). gathered_in n f b) (put_there (records me).flips c comm (suc ((records me).flips c)) apart)
@@ -118,7 +118,7 @@ module _ (s : SetupView) (me : ℕ) (view : View) (records : ℕ → Record) (lo
           more : last ≢ 0
           more = grind (arith, nat_tests)
 
-          new_gathered : (n : ℕ) → n ≢ 0 → gathered c n (new_of (FlipGather c value last)) ≡ (records me).flips c
+          new_gathered : (n : ℕ) → n ≢ 0 → gathered_barriers c n (new_of (FlipGather c value last)) ≡ (records me).flips c
           new_gathered n above =
               gathered-bar c n (new_of (FlipGather c value last))
               ∙ ap₂ (λ (f : ℕ) (b : Option Counts). gathered_in n f b) (put_here (records me).flips c c (suc ((records me).flips c)) refl)
@@ -126,14 +126,14 @@ module _ (s : SetupView) (me : ℕ) (view : View) (records : ℕ → Record) (lo
               ∙ gathered_more n (suc ((records me).flips c)) (record { seen = 0; released = 0 }) (omega (arith, above))
               ∙ omega arith
 
-          next_gathered : gathered c (last_of s c me) (next_of (FlipGather c value last) (root_of s c me)) ≤ (records me).flips c
+          next_gathered : gathered_barriers c (last_of s c me) (next_of (FlipGather c value last) (root_of s c me)) ≤ (records me).flips c
           next_gathered =
               ⊎_elim
               (λ (mine : root_of s c me ≡ me).
-              let here = ap (gathered c (last_of s c me)) (put_here records me (root_of s c me) (new_of (FlipGather c value last)) mine) in
+              let here = ap (gathered_barriers c (last_of s c me)) (put_here records me (root_of s c me) (new_of (FlipGather c value last)) mine) in
               let now = new_gathered (last_of s c me) (λ zero. more (last_is ∙ zero)) in omega (arith, here, now))
               (λ (away : root_of s c me ≢ me).
-              let there = ap (gathered c (last_of s c me)) (put_there records me (root_of s c me) (new_of (FlipGather c value last)) away) in
+              let there = ap (gathered_barriers c (last_of s c me)) (put_there records me (root_of s c me) (new_of (FlipGather c value last)) away) in
               let bars = gathered-bar c (last_of s c me) (records (root_of s c me)) in
               let level = at_member s view records groups c me step.own.0 low (λ zeroth. away (own_root s me c zeroth)) in
               let entered = gathered_entered (place_of s c me) (last_of s c me) (view.release c me) ((records (root_of s c me)).flips c) ((records me).flips c) (bar_at c (records (root_of s c me)).stage) (bar_at c (records me).stage) (place_within s c me low) level in
@@ -143,8 +143,8 @@ module _ (s : SetupView) (me : ℕ) (view : View) (records : ℕ → Record) (lo
           not_through : is_gathered s c me (next_of (FlipGather c value last)) ≡ false
           not_through =
               gathered_here s me records (new_of (FlipGather c value last)) c
-              ∙ ap (λ (f : ℕ). nat_le f (gathered c (last_of s c me) (next_of (FlipGather c value last) (root_of s c me)))) (put_here (records me).flips c c (suc ((records me).flips c)) refl)
-              ∙ above ((records me).flips c) (gathered c (last_of s c me) (next_of (FlipGather c value last) (root_of s c me))) next_gathered
+              ∙ ap (λ (f : ℕ). nat_le f (gathered_barriers c (last_of s c me) (next_of (FlipGather c value last) (root_of s c me)))) (put_here (records me).flips c c (suc ((records me).flips c)) refl)
+              ∙ above ((records me).flips c) (gathered_barriers c (last_of s c me) (next_of (FlipGather c value last) (root_of s c me))) next_gathered
             where
               above : (a b : ℕ) → b ≤ a → nat_le (suc a) b ≡ false
               above a b le = grind (arith, nat_tests)
@@ -159,12 +159,12 @@ module _ (s : SetupView) (me : ℕ) (view : View) (records : ℕ → Record) (lo
               ∙ ap (λ (b : Bool). (records me).calls ++ (if b then Bar c ∷ [] else [])) not_through
               ∙ append-nil (records me).calls
 
-          gathers : (k comm : ℕ) → root_of s comm k ≡ me → gathered comm (last_of s comm k) (new_of (FlipGather c value last)) ≡ gathered comm (last_of s comm k) (records me)
+          gathers : (k comm : ℕ) → root_of s comm k ≡ me → gathered_barriers comm (last_of s comm k) (new_of (FlipGather c value last)) ≡ gathered_barriers comm (last_of s comm k) (records me)
           gathers k comm mine =
               ⊎_elim
               (λ (same : comm ≡ c).
               let same_last : last_of s c k ≡ last_of s c me = mine_last s me c k (subst (λ (x : ℕ). root_of s x k ≡ me) same mine) in
-              subst (λ (x : ℕ). gathered x (last_of s x k) (new_of (FlipGather c value last)) ≡ gathered x (last_of s x k) (records me)) (sym same)
+              subst (λ (x : ℕ). gathered_barriers x (last_of s x k) (new_of (FlipGather c value last)) ≡ gathered_barriers x (last_of s x k) (records me)) (sym same)
               (new_gathered (last_of s c k) (λ zero. more (last_is ∙ sym same_last ∙ zero)) ∙ sym (old_gathered (last_of s c k) c)))
               (λ (apart : comm ≢ c). other_gathered (last_of s comm k) comm apart)
               (equal_or_not comm c)

@@ -5,13 +5,13 @@ use Rattle.scc_base.specs.Calls.{DataCall, Bar, Message}
 use Rattle.scc_base.specs.Setups.{SetupView, setup_key, root_of, place_of}
 use Rattle.scc_base.proofs.Confluence.{equal_or_not}
 use Rattle.scc_base.proofs.ChangeLaws.{true_or_false}
-use Rattle.scc_proto.specs.Tables.{put}
-use Rattle.scc_proto.specs.Messages.{begun, with_chunk, sent_messages, received_messages, send_to, message_of}
+use Rattle.scc_proto.specs.Tables.{table_with}
+use Rattle.scc_proto.specs.Messages.{fresh_message, with_chunk, sent_messages, received_messages, send_to, message_of}
 use Rattle.scc_proto.specs.Stages.{Stage, Idle, Drafting, Sending, Between, Taking, Barrier, OnItsWay, Record}
 use Rattle.scc_proto.specs.Moves.{finished_if, calls_released, calls_let_go, look_gather, look_release}
 use Rattle.scc_proto.specs.Records.{chunk_of, last_of}
 use Rattle.scc_proto.specs.Groups.{is_open}
-use Rattle.scc_proto.specs.Passed.{in_hand, gathered, is_gathered, passed_open, passed_calls, slot_by, slot_of}
+use Rattle.scc_proto.specs.Passed.{in_hand, gathered_barriers, is_gathered, passed_open, passed_calls, slot_by, slot_of}
 use Rattle.scc_proto.specs.Legality.{Grows, ByNothing, in_group}
 use Rattle.scc_proto.proofs.Messages.MessageLaw.{sent_messages-append, received_messages-append}
 use Rattle.scc_proto.proofs.Barriers.BarrierFacts.{Counts, bar_at, gathered_in, releases_in, released_bar, Level}
@@ -47,7 +47,7 @@ pub slot_same : (s : SetupView) (k : ℕ) (post : Option OnItsWay) (old new : �
     → slot_by (chunk_of s) k post new ≡ slot_by (chunk_of s) k post old
 slot_same s k None old new received sent = refl
 slot_same s k (Some post) old new received sent =
-    ap₂ (λ (a b : List Message). if length a == length b then None else Some (record { to = post.to; head = post.head; bytes = (with_chunk (chunk_of s) (begun post.head) post.chunk).bytes })) (received k post.to) (sent post.to k)
+    ap₂ (λ (a b : List Message). if length a == length b then None else Some (record { to = post.to; head = post.head; bytes = (with_chunk (chunk_of s) (fresh_message post.head) post.chunk).bytes })) (received k post.to) (sent post.to k)
 
 -- a rank with an open barrier is a rank of the run
 pub open_low : (s : SetupView) (records : ℕ → Record) → RecordsAgree s records → (comm k : ℕ) → is_open comm (records k).stage ≡ true → k < s.nue
@@ -151,14 +151,14 @@ released_gathered place last root_flips (Some x) member all =
     most false = omega arith
 
 module _ (s : SetupView) (me : ℕ) (records : ℕ → Record) (new : Record) where
-  pub received_next : ((i : ℕ) → received_messages i new.calls ≡ received_messages i (records me).calls) → (i j : ℕ) → received_messages i (put records me new j).calls ≡ received_messages i (records j).calls
+  pub received_next : ((i : ℕ) → received_messages i new.calls ≡ received_messages i (records me).calls) → (i j : ℕ) → received_messages i (table_with records me new j).calls ≡ received_messages i (records j).calls
   received_next same i j =
       ⊎_elim
       (λ (is : j ≡ me). ap (λ (rec : Record). received_messages i rec.calls) (put_here records me j new is) ∙ same i ∙ ap (λ (k : ℕ). received_messages i (records k).calls) (sym is))
       (λ (other : j ≢ me). ap (λ (rec : Record). received_messages i rec.calls) (put_there records me j new other))
       (equal_or_not j me)
 
-  pub sent_next : ((i : ℕ) → sent_messages i new.calls ≡ sent_messages i (records me).calls) → (i j : ℕ) → sent_messages i (put records me new j).calls ≡ sent_messages i (records j).calls
+  pub sent_next : ((i : ℕ) → sent_messages i new.calls ≡ sent_messages i (records me).calls) → (i j : ℕ) → sent_messages i (table_with records me new j).calls ≡ sent_messages i (records j).calls
   sent_next same i j =
       ⊎_elim
       (λ (is : j ≡ me). ap (λ (rec : Record). sent_messages i rec.calls) (put_here records me j new is) ∙ same i ∙ ap (λ (k : ℕ). sent_messages i (records k).calls) (sym is))
@@ -167,34 +167,34 @@ module _ (s : SetupView) (me : ℕ) (records : ℕ → Record) (new : Record) wh
 
   -- what another rank has passed stays, where what this one has gathered stays for its members
   pub passed_else : ((i : ℕ) → received_messages i new.calls ≡ received_messages i (records me).calls) → ((i : ℕ) → sent_messages i new.calls ≡ sent_messages i (records me).calls)
-      → (k : ℕ) → k ≢ me → ((comm : ℕ) → root_of s comm k ≡ me → is_open comm (records k).stage ≡ true → gathered comm (last_of s comm k) new ≡ gathered comm (last_of s comm k) (records me))
-      → passed_calls s (put records me new) k ≡ passed_calls s records k
+      → (k : ℕ) → k ≢ me → ((comm : ℕ) → root_of s comm k ≡ me → is_open comm (records k).stage ≡ true → gathered_barriers comm (last_of s comm k) new ≡ gathered_barriers comm (last_of s comm k) (records me))
+      → passed_calls s (table_with records me new) k ≡ passed_calls s records k
   passed_else received sent k other gathers =
-      ap (λ (rec : Record). rec.calls ++ passed_open s k rec.stage (put records me new)) (put_there records me k new other)
-      ∙ ap (λ (l : List DataCall). (records k).calls ++ l) (open_same s k (records k).stage records (put records me new) (received_next received) (sent_next sent) same)
+      ap (λ (rec : Record). rec.calls ++ passed_open s k rec.stage (table_with records me new)) (put_there records me k new other)
+      ∙ ap (λ (l : List DataCall). (records k).calls ++ l) (open_same s k (records k).stage records (table_with records me new) (received_next received) (sent_next sent) same)
     where
-      same : (comm : ℕ) → is_open comm (records k).stage ≡ true → is_gathered s comm k (put records me new) ≡ is_gathered s comm k records
+      same : (comm : ℕ) → is_open comm (records k).stage ≡ true → is_gathered s comm k (table_with records me new) ≡ is_gathered s comm k records
       same comm is =
           ap₂ nat_le (ap (λ (rec : Record). rec.flips comm) (put_there records me k new other))
           (⊎_elim
-          (λ (mine : root_of s comm k ≡ me). ap (gathered comm (last_of s comm k)) (put_here records me (root_of s comm k) new mine) ∙ gathers comm mine is ∙ ap (λ (r : ℕ). gathered comm (last_of s comm k) (records r)) (sym mine))
-          (λ (away : root_of s comm k ≢ me). ap (gathered comm (last_of s comm k)) (put_there records me (root_of s comm k) new away))
+          (λ (mine : root_of s comm k ≡ me). ap (gathered_barriers comm (last_of s comm k)) (put_here records me (root_of s comm k) new mine) ∙ gathers comm mine is ∙ ap (λ (r : ℕ). gathered_barriers comm (last_of s comm k) (records r)) (sym mine))
+          (λ (away : root_of s comm k ≢ me). ap (gathered_barriers comm (last_of s comm k)) (put_there records me (root_of s comm k) new away))
           (equal_or_not (root_of s comm k) me))
 
-  pub passed_here : passed_calls s (put records me new) me ≡ new.calls ++ passed_open s me new.stage (put records me new)
-  passed_here = ap (λ (rec : Record). rec.calls ++ passed_open s me rec.stage (put records me new)) (put_here records me me new refl)
+  pub passed_here : passed_calls s (table_with records me new) me ≡ new.calls ++ passed_open s me new.stage (table_with records me new)
+  passed_here = ap (λ (rec : Record). rec.calls ++ passed_open s me rec.stage (table_with records me new)) (put_here records me me new refl)
 
   -- where a rank's own flips are what its root has gathered, its open barrier is passed
-  pub gathered_here : (comm : ℕ) → is_gathered s comm me (put records me new) ≡ nat_le (new.flips comm) (gathered comm (last_of s comm me) (put records me new (root_of s comm me)))
-  gathered_here comm = ap (λ (rec : Record). nat_le (rec.flips comm) (gathered comm (last_of s comm me) (put records me new (root_of s comm me)))) (put_here records me me new refl)
+  pub gathered_here : (comm : ℕ) → is_gathered s comm me (table_with records me new) ≡ nat_le (new.flips comm) (gathered_barriers comm (last_of s comm me) (table_with records me new (root_of s comm me)))
+  gathered_here comm = ap (λ (rec : Record). nat_le (rec.flips comm) (gathered_barriers comm (last_of s comm me) (table_with records me new (root_of s comm me)))) (put_here records me me new refl)
 
   pub slots_stay : ((i : ℕ) → received_messages i new.calls ≡ received_messages i (records me).calls) → ((i : ℕ) → sent_messages i new.calls ≡ sent_messages i (records me).calls) → new.post ≡ (records me).post
-      → (k : ℕ) → slot_of s (put records me new) k ≡ slot_of s records k
+      → (k : ℕ) → slot_of s (table_with records me new) k ≡ slot_of s records k
   slots_stay received sent post k =
-      ap (λ (p : Option OnItsWay). slot_by (chunk_of s) k p (put records me new)) same
-      ∙ slot_same s k (records k).post records (put records me new) (received_next received) (sent_next sent)
+      ap (λ (p : Option OnItsWay). slot_by (chunk_of s) k p (table_with records me new)) same
+      ∙ slot_same s k (records k).post records (table_with records me new) (received_next received) (sent_next sent)
     where
-      same : (put records me new k).post ≡ (records k).post
+      same : (table_with records me new k).post ≡ (records k).post
       same =
           ⊎_elim
           (λ (is : k ≡ me). ap (λ (rec : Record). rec.post) (put_here records me k new is) ∙ post ∙ ap (λ (j : ℕ). (records j).post) (sym is))
@@ -202,9 +202,9 @@ module _ (s : SetupView) (me : ℕ) (records : ℕ → Record) (new : Record) wh
           (equal_or_not k me)
 
   -- a record that stays as it is
-  pub unmoved : new ≡ records me → Grows s.nue (setup_key s) (passed_calls s records) (slot_of s records) (passed_calls s (put records me new)) (slot_of s (put records me new))
+  pub unmoved : new ≡ records me → Grows s.nue (setup_key s) (passed_calls s records) (slot_of s records) (passed_calls s (table_with records me new)) (slot_of s (table_with records me new))
   unmoved same =
-      let all : put records me new ≡ records = put_same records me new same in
+      let all : table_with records me new ≡ records = put_same records me new same in
       ByNothing (λ k. ap (λ (r : ℕ → Record). passed_calls s r k) all) (λ k. ap (λ (r : ℕ → Record). slot_of s r k) all)
 
 -- a barrier among finished calls is no message

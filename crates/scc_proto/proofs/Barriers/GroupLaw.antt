@@ -5,13 +5,13 @@ use Rattle.scc_base.specs.Setups.{SetupView, IsSetup, setup_key, place_of, root_
 use Rattle.scc_base.proofs.Confluence.{equal_or_not}
 use Rattle.scc_base.proofs.GroupFacts.{place_once, root_with, same_root}
 use Rattle.scc_base.specs.declared.signals.Signal.TheVariants.{Sent, Ready}
-use Rattle.scc_proto.specs.Tables.{put, put_two}
+use Rattle.scc_proto.specs.Tables.{table_with, put_two}
 use Rattle.scc_proto.specs.Stages.{Stage, Idle, Record}
 use Rattle.scc_proto.specs.Moves.{Move, DraftHeader, DraftChunk, RaiseSignal, LookSignal, ReadHeader, ReadChunk, LowerSignal, FlipGather, LookGather, WriteRelease, LookRelease, StoreHeap, NoMove, Misplaced, flip_gather, write_release, stage_after, after}
 use Rattle.scc_proto.specs.Permission.{is_idle}
 use Rattle.scc_proto.specs.Words.{is_present}
 use Rattle.scc_proto.specs.Records.{chunk_of, last_of}
-use Rattle.scc_proto.specs.Views.{View, shown}
+use Rattle.scc_proto.specs.Views.{View, view_after_move}
 use Rattle.scc_proto.specs.Singles.{IsBarrier, IsConsistent}
 use Rattle.scc_proto.specs.Agreement.{RecordsAgree, GroupsAgree}
 use Rattle.scc_proto.proofs.Layouts.MoveFacts.{IsMember, IsViewStep}
@@ -22,15 +22,15 @@ use Rattle.scc_proto.proofs.Barriers.GroupRanks.{put_here, put_there, flips_at, 
 module _ (s : SetupView) (me : ℕ) (view : View) (records : ℕ → Record) (low : me < s.nue) (consistent : RecordsAgree s records) (groups : GroupsAgree s view records) where
   -- what is to be shown of each rank and communicator
   abbrev Kept : Move → ℕ → ℕ → Type 0
-  Kept move comm r = AtRank s comm r ((shown me move view).gather comm) ((shown me move view).release comm)
-      (put (flips_at comm records) me ((after (chunk_of s) move (records me)).flips comm)) (put (bars_at comm records) me (bar_at comm (stage_after (chunk_of s) move (records me))))
+  Kept move comm r = AtRank s comm r ((view_after_move me move view).gather comm) ((view_after_move me move view).release comm)
+      (table_with (flips_at comm records) me ((after (chunk_of s) move (records me)).flips comm)) (table_with (bars_at comm records) me (bar_at comm (stage_after (chunk_of s) move (records me))))
 
   abbrev Stood : ℕ → ℕ → Type 0
   Stood comm r = AtRank s comm r (view.gather comm) (view.release comm) (flips_at comm records) (bars_at comm records)
 
-  unchanged : (comm r : ℕ) (gather release : ℕ → ℕ) (f : ℕ) (b : Option Counts) → f ≡ (records me).flips comm → b ≡ bar_at comm (records me).stage → AtRank s comm r gather release (flips_at comm records) (bars_at comm records) → AtRank s comm r gather release (put (flips_at comm records) me f) (put (bars_at comm records) me b)
+  unchanged : (comm r : ℕ) (gather release : ℕ → ℕ) (f : ℕ) (b : Option Counts) → f ≡ (records me).flips comm → b ≡ bar_at comm (records me).stage → AtRank s comm r gather release (flips_at comm records) (bars_at comm records) → AtRank s comm r gather release (table_with (flips_at comm records) me f) (table_with (bars_at comm records) me b)
   unchanged comm r gather release f b flips bar at =
-      subst (λ (x : ℕ → ℕ). AtRank s comm r gather release x (put (bars_at comm records) me b)) (sym (put_same (flips_at comm records) me f flips))
+      subst (λ (x : ℕ → ℕ). AtRank s comm r gather release x (table_with (bars_at comm records) me b)) (sym (put_same (flips_at comm records) me f flips))
       (subst (λ (x : ℕ → Option Counts). AtRank s comm r gather release (flips_at comm records) x) (sym (put_same (bars_at comm records) me b bar)) at)
 
   -- a flip of the own gather flag
@@ -40,11 +40,11 @@ module _ (s : SetupView) (me : ℕ) (view : View) (records : ℕ → Record) (lo
       (λ (is : comm ≡ c). subst (λ (x : ℕ). Kept (FlipGather c value last) x r) (sym is) (here (subst (λ (x : ℕ). Stood x r) is at)))
       (λ (apart : comm ≢ c).
       let same_gather : put_two view.gather c me value comm ≡ view.gather comm = put_two_other view.gather c me comm value apart in
-      let same_flips : put (records me).flips c (suc ((records me).flips c)) comm ≡ (records me).flips comm = put_there (records me).flips c comm (suc ((records me).flips c)) apart in
+      let same_flips : table_with (records me).flips c (suc ((records me).flips c)) comm ≡ (records me).flips comm = put_there (records me).flips c comm (suc ((records me).flips c)) apart in
       let none : bar_at comm (records me).stage ≡ None = ap (bar_at comm) idle in
       let same_bar : bar_at comm (flip_gather c last (records me).stage) ≡ bar_at comm (records me).stage =
       ap (λ (st : Stage). bar_at comm (flip_gather c last st)) idle ∙ flip_gather-other c comm last apart ∙ sym none in
-      subst (λ (g : ℕ → ℕ). AtRank s comm r g (view.release comm) (put (flips_at comm records) me (put (records me).flips c (suc ((records me).flips c)) comm)) (put (bars_at comm records) me (bar_at comm (flip_gather c last (records me).stage))))
+      subst (λ (g : ℕ → ℕ). AtRank s comm r g (view.release comm) (table_with (flips_at comm records) me (table_with (records me).flips c (suc ((records me).flips c)) comm)) (table_with (bars_at comm records) me (bar_at comm (flip_gather c last (records me).stage))))
       (sym same_gather) (unchanged comm r (view.gather comm) (view.release comm) _ _ same_flips same_bar at))
       (equal_or_not comm c)
     where
@@ -65,8 +65,8 @@ module _ (s : SetupView) (me : ℕ) (view : View) (records : ℕ → Record) (lo
 
       here : Stood c r → Kept (FlipGather c value last) c r
       here at =
-          subst (λ (f : ℕ). AtRank s c r (put_two view.gather c me value c) (view.release c) (put (flips_at c records) me f) (put (bars_at c records) me (bar_at c (flip_gather c last (records me).stage)))) (sym (put_here (records me).flips c c (suc ((records me).flips c)) refl))
-          (subst (λ (b : Option Counts). AtRank s c r (put_two view.gather c me value c) (view.release c) (put (flips_at c records) me (suc ((records me).flips c))) (put (bars_at c records) me b))
+          subst (λ (f : ℕ). AtRank s c r (put_two view.gather c me value c) (view.release c) (table_with (flips_at c records) me f) (table_with (bars_at c records) me (bar_at c (flip_gather c last (records me).stage)))) (sym (put_here (records me).flips c c (suc ((records me).flips c)) refl))
+          (subst (λ (b : Option Counts). AtRank s c r (put_two view.gather c me value c) (view.release c) (table_with (flips_at c records) me (suc ((records me).flips c))) (table_with (bars_at c records) me b))
           (sym (ap (λ (st : Stage). bar_at c (flip_gather c last st)) idle ∙ flip_gather-bar c last))
           (rank_by s c r me (view.gather c) (put_two view.gather c me value c) (view.release c) (view.release c) (flips_at c records) (bars_at c records) (suc ((records me).flips c)) (if last == 0 then None else Some (record { seen = 0; released = 0 })) at
           (λ is. put_two_here view.gather c me me value refl ∙ parity)
@@ -139,7 +139,7 @@ module _ (s : SetupView) (me : ℕ) (view : View) (records : ℕ → Record) (lo
 
       here : Stood c r → Kept (LookGather c from place value) c r
       here at =
-          subst (λ (b : Option Counts). AtRank s c r (view.gather c) (view.release c) (put (flips_at c records) me ((records me).flips c)) (put (bars_at c records) me b))
+          subst (λ (b : Option Counts). AtRank s c r (view.gather c) (view.release c) (table_with (flips_at c records) me ((records me).flips c)) (table_with (bars_at c records) me b))
           (sym (look_gather-bar c place value ((records me).flips c % 2) (records me).stage))
           (rank_by s c r me (view.gather c) (view.gather c) (view.release c) (view.release c) (flips_at c records) (bars_at c records) ((records me).flips c) (saw_bar place value ((records me).flips c % 2) (bar_at c (records me).stage)) at
           (λ is. subst (λ (x : ℕ). view.gather c x ≡ (records x).flips c % 2) is at.gather_flag)
@@ -157,7 +157,7 @@ module _ (s : SetupView) (me : ℕ) (view : View) (records : ℕ → Record) (lo
       (λ (is : comm ≡ c). subst (λ (x : ℕ). Kept (WriteRelease c to place value last) x r) (sym is) (here (subst (λ (x : ℕ). Stood x r) is at)))
       (λ (apart : comm ≢ c).
       let same_release : put_two view.release c to value comm ≡ view.release comm = put_two_other view.release c to comm value apart in
-      subst (λ (l : ℕ → ℕ). AtRank s comm r (view.gather comm) l (put (flips_at comm records) me ((records me).flips comm)) (put (bars_at comm records) me (bar_at comm (write_release last (records me).stage))))
+      subst (λ (l : ℕ → ℕ). AtRank s comm r (view.gather comm) l (table_with (flips_at comm records) me ((records me).flips comm)) (table_with (bars_at comm records) me (bar_at comm (write_release last (records me).stage))))
       (sym same_release) (unchanged comm r (view.gather comm) (view.release comm) _ _ refl (told.others comm apart) at))
       (equal_or_not comm c)
     where
@@ -181,7 +181,7 @@ module _ (s : SetupView) (me : ℕ) (view : View) (records : ℕ → Record) (lo
 
       here : Stood c r → Kept (WriteRelease c to place value last) c r
       here at =
-          subst (λ (b : Option Counts). AtRank s c r (view.gather c) (put_two view.release c to value c) (put (flips_at c records) me ((records me).flips c)) (put (bars_at c records) me b))
+          subst (λ (b : Option Counts). AtRank s c r (view.gather c) (put_two view.release c to value c) (table_with (flips_at c records) me ((records me).flips c)) (table_with (bars_at c records) me b))
           (sym told.after)
           (rank_by s c r me (view.gather c) (view.gather c) (view.release c) (put_two view.release c to value c) (flips_at c records) (bars_at c records) ((records me).flips c) (released_bar last told.counts) at
           (λ is. subst (λ (y : ℕ). view.gather c y ≡ (records y).flips c % 2) is at.gather_flag)
@@ -231,7 +231,7 @@ module _ (s : SetupView) (me : ℕ) (view : View) (records : ℕ → Record) (lo
     where
       here : Stood c r → Kept (LookRelease c value) c r
       here at =
-          subst (λ (b : Option Counts). AtRank s c r (view.gather c) (view.release c) (put (flips_at c records) me ((records me).flips c)) (put (bars_at c records) me b))
+          subst (λ (b : Option Counts). AtRank s c r (view.gather c) (view.release c) (table_with (flips_at c records) me ((records me).flips c)) (table_with (bars_at c records) me b))
           (sym (look_release-bar c value ((records me).flips c % 2) (records me).stage))
           (rank_by s c r me (view.gather c) (view.gather c) (view.release c) (view.release c) (flips_at c records) (bars_at c records) ((records me).flips c) (left_bar value ((records me).flips c % 2) (bar_at c (records me).stage)) at
           (λ is. subst (λ (x : ℕ). view.gather c x ≡ (records x).flips c % 2) is at.gather_flag)
@@ -260,11 +260,11 @@ module _ (s : SetupView) (me : ℕ) (view : View) (records : ℕ → Record) (lo
   kept NoMove step comm r low_r at = unchanged comm r _ _ _ _ refl refl at
   kept Misplaced step comm r low_r at = unchanged comm r _ _ _ _ refl refl at
 
-pub groups_kept : (s : SetupView) (me : ℕ) (view : View) (records : ℕ → Record) (move : Move) → IsSetup s → IsViewStep s me view (records me) move → RecordsAgree s records → GroupsAgree s view records → GroupsAgree s (shown me move view) (put records me (after (chunk_of s) move (records me)))
+pub groups_kept : (s : SetupView) (me : ℕ) (view : View) (records : ℕ → Record) (move : Move) → IsSetup s → IsViewStep s me view (records me) move → RecordsAgree s records → GroupsAgree s view records → GroupsAgree s (view_after_move me move view) (table_with records me (after (chunk_of s) move (records me)))
 groups_kept s me view records move setup step consistent groups comm r present low =
-    agrees_at s (shown me move view) comm r (put records me (after (chunk_of s) move (records me)))
-    (subst (λ (x : ℕ → ℕ). AtRank s comm r ((shown me move view).gather comm) ((shown me move view).release comm) x (bars_at comm (put records me (after (chunk_of s) move (records me)))))
+    agrees_at s (view_after_move me move view) comm r (table_with records me (after (chunk_of s) move (records me)))
+    (subst (λ (x : ℕ → ℕ). AtRank s comm r ((view_after_move me move view).gather comm) ((view_after_move me move view).release comm) x (bars_at comm (table_with records me (after (chunk_of s) move (records me)))))
     (sym (flips_put comm me records (after (chunk_of s) move (records me))))
-    (subst (λ (x : ℕ → Option Counts). AtRank s comm r ((shown me move view).gather comm) ((shown me move view).release comm) (put (flips_at comm records) me ((after (chunk_of s) move (records me)).flips comm)) x)
+    (subst (λ (x : ℕ → Option Counts). AtRank s comm r ((view_after_move me move view).gather comm) ((view_after_move me move view).release comm) (table_with (flips_at comm records) me ((after (chunk_of s) move (records me)).flips comm)) x)
     (sym (bars_put comm me records (after (chunk_of s) move (records me))))
     (kept s me view records step.rank consistent groups move step comm r low (at_rank s view comm r records (groups comm r present low)))))

@@ -4,7 +4,7 @@ use Rattle.std.proofs.lemmas.Bool.Decides.{nat_tests}
 use Rattle.scc_base.specs.Setups.{SetupView, setup_key, place_of, root_of}
 use Rattle.scc_base.proofs.Confluence.{equal_or_not}
 use Rattle.scc_base.proofs.GroupFacts.{place_below, size_same, root_place}
-use Rattle.scc_proto.specs.Tables.{put, put_two}
+use Rattle.scc_proto.specs.Tables.{table_with, put_two}
 use Rattle.scc_proto.specs.Stages.{Stage, Idle, Drafting, Sending, Between, Taking, Barrier, Record}
 use Rattle.scc_proto.specs.Records.{last_of}
 use Rattle.scc_proto.specs.Views.{View}
@@ -13,10 +13,10 @@ use Rattle.scc_proto.specs.Agreement.{GroupAgrees}
 use Rattle.scc_proto.proofs.Barriers.BarrierFacts.{Counts, bar_at, Level, level_of, step_of, level_root_sees, level_leaves}
 use Rattle.scc_proto.proofs.Barriers.BarrierMoves.{saw_bar, left_bar}
 
-pub put_here : {A : Type 0} (table : ℕ → A) (i k : ℕ) (x : A) → k ≡ i → put table i x k ≡ x
+pub put_here : {A : Type 0} (table : ℕ → A) (i k : ℕ) (x : A) → k ≡ i → table_with table i x k ≡ x
 put_here table i k x is = let here : (k == i) ≡ true = grind (arith, nat_tests) in ap (λ (b : Bool). if b then x else table k) here
 
-pub put_there : {A : Type 0} (table : ℕ → A) (i k : ℕ) (x : A) → k ≢ i → put table i x k ≡ table k
+pub put_there : {A : Type 0} (table : ℕ → A) (i k : ℕ) (x : A) → k ≢ i → table_with table i x k ≡ table k
 put_there table i k x other = let there : (k == i) ≡ false = grind (arith, nat_tests) in ap (λ (b : Bool). if b then x else table k) there
 
 -- the flips of all ranks, and their open barriers
@@ -46,24 +46,24 @@ agrees_at s view comm r records at = record {
   member = λ is. step_of view comm (place_of s comm r) r (records (root_of s comm r)) (records r) (at.member is);
 }
 
-pub flips_put : (comm me : ℕ) (records : ℕ → Record) (new : Record) → flips_at comm (put records me new) ≡ put (flips_at comm records) me (new.flips comm)
+pub flips_put : (comm me : ℕ) (records : ℕ → Record) (new : Record) → flips_at comm (table_with records me new) ≡ table_with (flips_at comm records) me (new.flips comm)
 flips_put comm me records new = λ i k. each (k == me) (records k) i
   where
     each : (b : Bool) (old : Record) → (if b then new else old).flips comm ≡ (if b then new.flips comm else old.flips comm)
     each true old = refl
     each false old = refl
 
-pub bars_put : (comm me : ℕ) (records : ℕ → Record) (new : Record) → bars_at comm (put records me new) ≡ put (bars_at comm records) me (bar_at comm new.stage)
+pub bars_put : (comm me : ℕ) (records : ℕ → Record) (new : Record) → bars_at comm (table_with records me new) ≡ table_with (bars_at comm records) me (bar_at comm new.stage)
 bars_put comm me records new = λ i k. each (k == me) (records k) i
   where
     each : (b : Bool) (old : Record) → bar_at comm (if b then new else old).stage ≡ (if b then bar_at comm new.stage else bar_at comm old.stage)
     each true old = refl
     each false old = refl
 
-pub put_same : {A : Type 0} (table : ℕ → A) (i : ℕ) (x : A) → x ≡ table i → put table i x ≡ table
+pub put_same : {A : Type 0} (table : ℕ → A) (i : ℕ) (x : A) → x ≡ table i → table_with table i x ≡ table
 put_same {A} table i x same = λ j k. each k j
   where
-    each : (k : ℕ) → put table i x k ≡ table k
+    each : (k : ℕ) → table_with table i x k ≡ table k
     each k = ⊎_elim
         (λ (is : k ≡ i). put_here table i k x is ∙ same ∙ sym (ap table is))
         (λ (other : k ≢ i). put_there table i k x other)
@@ -94,12 +94,12 @@ pub rank_by : (s : SetupView) (comm r me : ℕ) (gather gather_new release relea
     → (r ≢ me → root_of s comm r ≡ me → place_of s comm r ≢ 0 → Level (place_of s comm r) (release r) (flips me) (bars me) (flips r) (bars r)
     → Level (place_of s comm r) (release_new r) f b (flips r) (bars r))
     → (r ≢ me → root_of s comm r ≢ me → release_new r ≡ release r)
-    → AtRank s comm r gather_new release_new (put flips me f) (put bars me b)
+    → AtRank s comm r gather_new release_new (table_with flips me f) (table_with bars me b)
 rank_by s comm r me gather gather_new release release_new flips bars f b at gathers other_gathers roots own led far =
     ⊎_elim
     (λ (is : r ≡ me).
     let old : AtRank s comm me gather release flips bars = subst (λ (x : ℕ). AtRank s comm x gather release flips bars) is at in
-    subst (λ (x : ℕ). AtRank s comm x gather_new release_new (put flips me f) (put bars me b)) (sym is)
+    subst (λ (x : ℕ). AtRank s comm x gather_new release_new (table_with flips me f) (table_with bars me b)) (sym is)
     (record {
       gather_flag = gathers is ∙ ap (λ (n : ℕ). n % 2) (sym (put_here flips me me f refl));
       root = λ zeroth. ap release_new (sym is) ∙ roots (ap (place_of s comm) is ∙ zeroth) ∙ ap release is ∙ old.root zeroth;

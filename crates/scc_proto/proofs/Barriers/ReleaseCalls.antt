@@ -6,7 +6,7 @@ use Rattle.scc_base.specs.Setups.{SetupView, setup_key, place_of, root_of}
 use Rattle.scc_base.proofs.Confluence.{equal_or_not}
 use Rattle.scc_base.proofs.ChangeLaws.{true_or_false}
 use Rattle.scc_base.proofs.GroupFacts.{root_with, root_within}
-use Rattle.scc_proto.specs.Tables.{put}
+use Rattle.scc_proto.specs.Tables.{table_with}
 use Rattle.scc_proto.specs.Messages.{sent_messages, received_messages}
 use Rattle.scc_proto.specs.Stages.{Stage, Idle, Barrier, Record}
 use Rattle.scc_proto.specs.Moves.{Move, WriteRelease, LookRelease, finished_if, calls_released, calls_let_go, write_release, look_release, after}
@@ -14,7 +14,7 @@ use Rattle.scc_proto.specs.Records.{chunk_of, last_of}
 use Rattle.scc_proto.specs.Views.{View}
 use Rattle.scc_proto.specs.Groups.{is_open}
 use Rattle.scc_proto.specs.Singles.{IsBarrier}
-use Rattle.scc_proto.specs.Passed.{gathered, is_gathered, passed_open, passed_calls, slot_of}
+use Rattle.scc_proto.specs.Passed.{gathered_barriers, is_gathered, passed_open, passed_calls, slot_of}
 use Rattle.scc_proto.specs.Agreement.{RecordsAgree, GroupsAgree}
 use Rattle.scc_proto.specs.Legality.{Grows, ByNothing}
 use Rattle.scc_proto.proofs.Layouts.MoveFacts.{IsViewStep}
@@ -26,7 +26,7 @@ use Rattle.scc_proto.proofs.Barriers.GatherFacts.{open_bar, gathered_full, gathe
 module _ (s : SetupView) (me : ℕ) (view : View) (records : ℕ → Record) (low : me < s.nue) (consistent : RecordsAgree s records) (groups : GroupsAgree s view records) where
   -- the passed calls and the slots after a move of this rank
   abbrev GrowsBy : Move → Type 0
-  GrowsBy move = Grows s.nue (setup_key s) (passed_calls s records) (slot_of s records) (passed_calls s (put records me (after (chunk_of s) move (records me)))) (slot_of s (put records me (after (chunk_of s) move (records me))))
+  GrowsBy move = Grows s.nue (setup_key s) (passed_calls s records) (slot_of s records) (passed_calls s (table_with records me (after (chunk_of s) move (records me)))) (slot_of s (table_with records me (after (chunk_of s) move (records me))))
 
   -- the root releases a member: its barrier was gathered before and is so after
   pub write_release_grows : (c to place value last : ℕ) → IsViewStep s me view (records me) (WriteRelease c to place value last) → GrowsBy (WriteRelease c to place value last)
@@ -44,23 +44,23 @@ module _ (s : SetupView) (me : ℕ) (view : View) (records : ℕ → Record) (lo
       told : Releases c place value last ((records me).flips c % 2) (records me).stage (write_release last (records me).stage)
       told = may_release_told c place value last ((records me).flips c % 2) (records me).stage step.permitted
 
-      old_gathered : gathered c (last_of s c me) (records me) ≡ (records me).flips c
+      old_gathered : gathered_barriers c (last_of s c me) (records me) ≡ (records me).flips c
       old_gathered = gathered-bar c (last_of s c me) (records me) ∙ ap (gathered_in (last_of s c me) ((records me).flips c)) told.bar ∙ gathered_full (last_of s c me) ((records me).flips c) told.counts (told.all ∙ last_is)
 
-      new_gathered : gathered c (last_of s c me) (after (chunk_of s) (WriteRelease c to place value last) (records me)) ≡ (records me).flips c
+      new_gathered : gathered_barriers c (last_of s c me) (after (chunk_of s) (WriteRelease c to place value last) (records me)) ≡ (records me).flips c
       new_gathered =
           gathered-bar c (last_of s c me) (after (chunk_of s) (WriteRelease c to place value last) (records me))
           ∙ ap (gathered_in (last_of s c me) ((records me).flips c)) told.after
           ∙ ap (λ (n : ℕ). gathered_in n ((records me).flips c) (released_bar last told.counts)) (sym last_is)
           ∙ gathered_released last ((records me).flips c) told.counts told.all
 
-      gathers : (k comm : ℕ) → root_of s comm k ≡ me → gathered comm (last_of s comm k) (after (chunk_of s) (WriteRelease c to place value last) (records me)) ≡ gathered comm (last_of s comm k) (records me)
+      gathers : (k comm : ℕ) → root_of s comm k ≡ me → gathered_barriers comm (last_of s comm k) (after (chunk_of s) (WriteRelease c to place value last) (records me)) ≡ gathered_barriers comm (last_of s comm k) (records me)
       gathers k comm mine =
           ⊎_elim
           (λ (is : comm ≡ c).
           let same_last : last_of s c k ≡ last_of s c me = mine_last s me c k (subst (λ (x : ℕ). root_of s x k ≡ me) is mine) in
-          subst (λ (x : ℕ). gathered x (last_of s x k) (after (chunk_of s) (WriteRelease c to place value last) (records me)) ≡ gathered x (last_of s x k) (records me)) (sym is)
-          (subst (λ (n : ℕ). gathered c n (after (chunk_of s) (WriteRelease c to place value last) (records me)) ≡ gathered c n (records me)) (sym same_last) (new_gathered ∙ sym old_gathered)))
+          subst (λ (x : ℕ). gathered_barriers x (last_of s x k) (after (chunk_of s) (WriteRelease c to place value last) (records me)) ≡ gathered_barriers x (last_of s x k) (records me)) (sym is)
+          (subst (λ (n : ℕ). gathered_barriers c n (after (chunk_of s) (WriteRelease c to place value last) (records me)) ≡ gathered_barriers c n (records me)) (sym same_last) (new_gathered ∙ sym old_gathered)))
           (λ (apart : comm ≢ c).
           gathered-bar comm (last_of s comm k) (after (chunk_of s) (WriteRelease c to place value last) (records me))
           ∙ ap (gathered_in (last_of s comm k) ((records me).flips comm)) (told.others comm apart)
@@ -73,38 +73,38 @@ module _ (s : SetupView) (me : ℕ) (view : View) (records : ℕ → Record) (lo
       old_passed : passed_calls s records me ≡ (records me).calls ++ Bar c ∷ []
       old_passed =
           ap (λ (l : List DataCall). (records me).calls ++ l) (open_bar s c me (records me).stage records open_now
-          ∙ ap (λ (b : Bool). if b then Bar c ∷ [] else []) (ap (nat_le ((records me).flips c)) (ap (λ (r : ℕ). gathered c (last_of s c me) (records r)) (own_root s me c first) ∙ old_gathered) ∙ same_nat ((records me).flips c)))
+          ∙ ap (λ (b : Bool). if b then Bar c ∷ [] else []) (ap (nat_le ((records me).flips c)) (ap (λ (r : ℕ). gathered_barriers c (last_of s c me) (records r)) (own_root s me c first) ∙ old_gathered) ∙ same_nat ((records me).flips c)))
 
       stage_is : (records me).stage ≡ Barrier c told.counts.seen told.counts.released
       stage_is = barrier_is c (records me).stage told.counts told.bar
 
-      new_passed : passed_calls s (put records me (after (chunk_of s) (WriteRelease c to place value last) (records me))) me ≡ (records me).calls ++ Bar c ∷ []
+      new_passed : passed_calls s (table_with records me (after (chunk_of s) (WriteRelease c to place value last) (records me))) me ≡ (records me).calls ++ Bar c ∷ []
       new_passed = passed_here s me records (after (chunk_of s) (WriteRelease c to place value last) (records me)) ∙ by_last (suc told.counts.released == last) refl
         where
-          all_gathered : is_gathered s c me (put records me (after (chunk_of s) (WriteRelease c to place value last) (records me))) ≡ true
+          all_gathered : is_gathered s c me (table_with records me (after (chunk_of s) (WriteRelease c to place value last) (records me))) ≡ true
           all_gathered =
               gathered_here s me records (after (chunk_of s) (WriteRelease c to place value last) (records me)) c
-              ∙ ap (nat_le ((records me).flips c)) (ap (gathered c (last_of s c me)) (put_here records me (root_of s c me) (after (chunk_of s) (WriteRelease c to place value last) (records me)) (own_root s me c first)) ∙ new_gathered)
+              ∙ ap (nat_le ((records me).flips c)) (ap (gathered_barriers c (last_of s c me)) (put_here records me (root_of s c me) (after (chunk_of s) (WriteRelease c to place value last) (records me)) (own_root s me c first)) ∙ new_gathered)
               ∙ same_nat ((records me).flips c)
 
           by_last : (b : Bool) → (suc told.counts.released == last) ≡ b
-              → calls_released last (records me).stage (records me).calls ++ passed_open s me (write_release last (records me).stage) (put records me (after (chunk_of s) (WriteRelease c to place value last) (records me))) ≡ (records me).calls ++ Bar c ∷ []
+              → calls_released last (records me).stage (records me).calls ++ passed_open s me (write_release last (records me).stage) (table_with records me (after (chunk_of s) (WriteRelease c to place value last) (records me))) ≡ (records me).calls ++ Bar c ∷ []
           by_last true is =
-              ap₂ (λ (l : List DataCall) (st : Stage). l ++ passed_open s me st (put records me (after (chunk_of s) (WriteRelease c to place value last) (records me))))
+              ap₂ (λ (l : List DataCall) (st : Stage). l ++ passed_open s me st (table_with records me (after (chunk_of s) (WriteRelease c to place value last) (records me))))
               (ap (λ (st : Stage). calls_released last st (records me).calls) stage_is ∙ ap (λ (b : Bool). finished_if b (Bar c) (records me).calls) is)
               (ap (write_release last) stage_is ∙ ap (λ (b : Bool). if b then Idle else Barrier c told.counts.seen (suc told.counts.released)) is)
               ∙ append-nil ((records me).calls ++ Bar c ∷ [])
           by_last false is =
               ap₂ (λ (l more : List DataCall). l ++ more)
               (ap (λ (st : Stage). calls_released last st (records me).calls) stage_is ∙ ap (λ (b : Bool). finished_if b (Bar c) (records me).calls) is)
-              (open_bar s c me (write_release last (records me).stage) (put records me (after (chunk_of s) (WriteRelease c to place value last) (records me)))
+              (open_bar s c me (write_release last (records me).stage) (table_with records me (after (chunk_of s) (WriteRelease c to place value last) (records me)))
               (is_open-bar c (write_release last (records me).stage) ∙ ap (is_some {T = Counts}) (told.after ∙ ap (λ (b : Bool). if b then None else Some (record { seen = told.counts.seen; released = suc told.counts.released })) is))
               ∙ ap (λ (b : Bool). if b then Bar c ∷ [] else []) all_gathered)
 
-      calls : (k : ℕ) → passed_calls s (put records me (after (chunk_of s) (WriteRelease c to place value last) (records me))) k ≡ passed_calls s records k
+      calls : (k : ℕ) → passed_calls s (table_with records me (after (chunk_of s) (WriteRelease c to place value last) (records me))) k ≡ passed_calls s records k
       calls k =
           ⊎_elim
-          (λ (is : k ≡ me). subst (λ (x : ℕ). passed_calls s (put records me (after (chunk_of s) (WriteRelease c to place value last) (records me))) x ≡ passed_calls s records x) (sym is) (new_passed ∙ sym old_passed))
+          (λ (is : k ≡ me). subst (λ (x : ℕ). passed_calls s (table_with records me (after (chunk_of s) (WriteRelease c to place value last) (records me))) x ≡ passed_calls s records x) (sym is) (new_passed ∙ sym old_passed))
           (λ (other : k ≢ me). passed_else s me records (after (chunk_of s) (WriteRelease c to place value last) (records me)) messages.0 messages.1 k other (λ comm mine is. gathers k comm mine))
           (equal_or_not k me)
 
@@ -113,7 +113,7 @@ module _ (s : SetupView) (me : ℕ) (view : View) (records : ℕ → Record) (lo
   new_of move = after (chunk_of s) move (records me)
 
   abbrev next_of : Move → ℕ → Record
-  next_of move = put records me (new_of move)
+  next_of move = table_with records me (new_of move)
 
   -- a root of the run has released nobody, or seen all
   root_all : (c r : ℕ) → r < s.nue → (x : Counts) → bar_at c (records (root_of s c r)).stage ≡ Some x → (x.released ≡ 0) ⊎ (x.seen ≡ last_of s c r)
@@ -165,9 +165,9 @@ module _ (s : SetupView) (me : ℕ) (view : View) (records : ℕ → Record) (lo
               let same_value : value ≡ (records me).flips c % 2 = grind (arith, nat_tests) in
               let caught_up : (records me).flips c ≡ releases_in (place_of s c me) ((records (root_of s c me)).flips c) (bar_at c (records (root_of s c me)).stage) = caught (releases_in (place_of s c me) ((records (root_of s c me)).flips c) (bar_at c (records (root_of s c me)).stage)) ((records me).flips c) entered not_ahead (sym same_value ∙ sym shows ∙ flag) in
               let within = released_gathered (place_of s c me) (last_of s c me) ((records (root_of s c me)).flips c) (bar_at c (records (root_of s c me)).stage) step.own.1 (λ y here. root_all c me low y here) in
-              let gathered_by : gathered c (last_of s c me) (records (root_of s c me)) ≡ gathered_in (last_of s c me) ((records (root_of s c me)).flips c) (bar_at c (records (root_of s c me)).stage) = gathered-bar c (last_of s c me) (records (root_of s c me)) in
-              let through : (records me).flips c ≤ gathered c (last_of s c me) (records (root_of s c me)) = omega (arith, caught_up, within, gathered_by) in
-              le_test ((records me).flips c) (gathered c (last_of s c me) (records (root_of s c me))) through
+              let gathered_by : gathered_barriers c (last_of s c me) (records (root_of s c me)) ≡ gathered_in (last_of s c me) ((records (root_of s c me)).flips c) (bar_at c (records (root_of s c me)).stage) = gathered-bar c (last_of s c me) (records (root_of s c me)) in
+              let through : (records me).flips c ≤ gathered_barriers c (last_of s c me) (records (root_of s c me)) = omega (arith, caught_up, within, gathered_by) in
+              le_test ((records me).flips c) (gathered_barriers c (last_of s c me) (records (root_of s c me))) through
             where
               caught : (low_end flips : ℕ) → low_end ≤ flips → flips ≤ suc low_end → flips % 2 ≡ low_end % 2 → flips ≡ low_end
               caught low_end flips entered not_ahead same = omega (arith, entered, not_ahead, same)
@@ -180,7 +180,7 @@ module _ (s : SetupView) (me : ℕ) (view : View) (records : ℕ → Record) (lo
               ap (λ (l : List DataCall). (records me).calls ++ l) (open_bar s c me (records me).stage records (is_open-bar c (records me).stage ∙ ap (is_some {T = Counts}) is)
               ∙ ap (λ (b : Bool). if b then Bar c ∷ [] else []) is_through)
 
-          gathers : (k comm : ℕ) → root_of s comm k ≡ me → gathered comm (last_of s comm k) (new_of (LookRelease c value)) ≡ gathered comm (last_of s comm k) (records me)
+          gathers : (k comm : ℕ) → root_of s comm k ≡ me → gathered_barriers comm (last_of s comm k) (new_of (LookRelease c value)) ≡ gathered_barriers comm (last_of s comm k) (records me)
           gathers k comm mine =
               ⊎_elim
               (λ (same : comm ≡ c). absurd (step.own.1 (subst (λ (x : ℕ). place_of s x me ≡ 0) same (ap (place_of s comm) (sym mine) ∙ root_zeroth s comm k))))

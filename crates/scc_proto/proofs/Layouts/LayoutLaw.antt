@@ -12,14 +12,14 @@ use Rattle.scc_base.specs.declared.layouts.Layout.TheVariants.{LineFlags, BitFla
 use Rattle.scc_base.specs.declared.events.Access.{Access}
 use Rattle.scc_base.specs.declared.events.Access.TheVariants.{Load, Store, Take, Free}
 use Rattle.scc_base.specs.declared.events.Event.{Event}
-use Rattle.scc_proto.specs.Tables.{put, put_two, put_signal}
+use Rattle.scc_proto.specs.Tables.{table_with, put_two, put_signal}
 use Rattle.scc_proto.specs.Stages.{FlagWords, Record}
 use Rattle.scc_proto.specs.Moves.{Move, DraftHeader, DraftChunk, RaiseSignal, LowerSignal, FlipGather, WriteRelease, NoMove, Misplaced, after}
 use Rattle.scc_proto.specs.Permission.{permits}
 use Rattle.scc_proto.specs.Words.{Memory, word_at, IsStep, IsStepBy, memory_after, Role, HeaderWord, ChunkWord, SignalFlag, SignalFlags, GatherFlag, ReleaseFlag, HeapWord, IdleWord, role_of, are_peers}
-use Rattle.scc_proto.specs.Records.{Act, Moving, NotingSignal, Holding, act_of, load_act, store_act, load_by, store_by, last_of, leads, raises_bit, lowered_below, move_at, change_at, flags_in, flags_noted, note_flags, forget_flags, chunk_of, after_act, permits_act, permits_by, IsPermitted, record_after}
+use Rattle.scc_proto.specs.Records.{EventAct, Moving, NotingSignal, Holding, act_of, load_act, store_act, load_by, store_by, last_of, leads, raises_bit, lowered_below, move_at, change_at, flags_in, flags_noted, note_flags, forget_flags, chunk_of, after_act, permits_act, permits_by, IsPermitted, record_after}
 use Rattle.scc_proto.specs.Registers.{IsNotedWord, NotedFlags}
-use Rattle.scc_proto.specs.Views.{View, word_of_flag, view_of, shown}
+use Rattle.scc_proto.specs.Views.{View, word_of_flag, view_of, view_after_move}
 use Rattle.scc_proto.specs.Agreement.{RegistersAgree}
 use Rattle.scc_proto.proofs.Layouts.MoveFacts.{IsMoveOf, Tells, IsViewStep, SameView}
 use Rattle.scc_proto.proofs.Tests.{same_or_other, put_two_here, put_two_first, put_two_second, put_signal_alike, both_first, both_second, peers_from, peers_swap}
@@ -31,7 +31,7 @@ use Rattle.scc_proto.proofs.Layouts.LayoutLoads.{same_view, view_is, view_then, 
 -- an event is this move of a rank on the view, and leaves these registers held
 pub record IsMadeBy (s : SetupView) (memory : Memory) (rec : Record) (me : ℕ) (e : Event) (move : Move) (held : ℕ → Option FlagWords) : Type 0 where
   pub step : IsViewStep s me (view_of s memory) rec move
-  pub shows : SameView s (shown me move (view_of s memory)) (view_of s (memory_after memory e))
+  pub shows : SameView s (view_after_move me move (view_of s memory)) (view_of s (memory_after memory e))
   pub becomes : record_after s me rec e ≡ record (after (chunk_of s) move rec) { held = held }
 
 -- ---- one bit of a word of flags is put
@@ -57,7 +57,7 @@ noted_is BitFlags signal (Some flags) words old noted is = subst (λ (o : Option
 record StoresAs (s : SetupView) (me : ℕ) (view : View) (role : Role) (value : ℕ) (move : Move) : Type 0 where
   pub own : IsMoveOf s me move
   pub told : Tells me move view
-  pub shows : SameView s (shown me move view) (view_stored role value view)
+  pub shows : SameView s (view_after_move me move view) (view_stored role value view)
 
 -- what is permitted is a move of this kind
 abbrev IfPermitted : SetupView → Record → (Move → Type 0) → Move → Type 0
@@ -152,7 +152,7 @@ module _ (s : SetupView) (valid : IsSetup s) (memory : Memory) (rec : Record) (m
   made access = record { access = access; place = place; value = value }
 
   -- a load that is this act
-  record ActsAs (act : Act) : Type 0 where
+  record ActsAs (act : EventAct) : Type 0 where
     pub move : Move
     pub held : ℕ → Option FlagWords
     pub loads : LoadsAs s me (view_of s memory) rec move
@@ -161,13 +161,13 @@ module _ (s : SetupView) (valid : IsSetup s) (memory : Memory) (rec : Record) (m
   moves : (move : Move) → LoadsAs s me (view_of s memory) rec move → ActsAs (Moving move)
   moves move loads = record { move = move; held = rec.held; loads = loads; becomes = refl }
 
-  notes_or : (noting : Act) (held : ℕ → Option FlagWords) (move : Move) (b : Bool) → after_act (chunk_of s) noting rec ≡ record rec { held = held } → LoadsAs s me (view_of s memory) rec NoMove → LoadsAs s me (view_of s memory) rec move
+  notes_or : (noting : EventAct) (held : ℕ → Option FlagWords) (move : Move) (b : Bool) → after_act (chunk_of s) noting rec ≡ record rec { held = held } → LoadsAs s me (view_of s memory) rec NoMove → LoadsAs s me (view_of s memory) rec move
       → ActsAs (if b then noting else Moving move)
   notes_or noting held move true is none loads = record { move = NoMove; held = held; loads = none; becomes = is }
   notes_or noting held move false is none loads = moves move loads
 
   load_acts : word_at memory place ≡ value → (role : Role) → Stands s place role → ActsAs (load_act s me rec place value role)
-  load_acts tells (SignalFlags signal at) st = notes_or (NotingSignal signal place.core value) (put rec.held place.core (option_map (note_flags signal value) (rec.held place.core))) _ (is_some (rec.held place.core)) refl
+  load_acts tells (SignalFlags signal at) st = notes_or (NotingSignal signal place.core value) (table_with rec.held place.core (option_map (note_flags signal value) (rec.held place.core))) _ (is_some (rec.held place.core)) refl
       (no_move s memory rec me below place value tells) (loads_as s memory rec me below place value tells (SignalFlags signal at) st)
   load_acts tells role st = moves (load_by s me value role) (loads_as s memory rec me below place value tells role st)
 
@@ -185,7 +185,7 @@ module _ (s : SetupView) (valid : IsSetup s) (memory : Memory) (rec : Record) (m
 
   -- a store of this act
   store_becomes : (role : Role) → (held : ℕ → Option FlagWords) × (after_act (chunk_of s) (store_act s me rec place value role) rec ≡ record (after (chunk_of s) (store_by s me rec place value role) rec) { held = held })
-  store_becomes (SignalFlags signal at) = (put rec.held place.core (option_map (forget_flags signal) (rec.held place.core)), refl)
+  store_becomes (SignalFlags signal at) = (table_with rec.held place.core (option_map (forget_flags signal) (rec.held place.core)), refl)
   store_becomes role = (rec.held, refl)
 
   store_permits : (role : Role) → permits_act (chunk_of s) (store_act s me rec place value role) rec ≡ true → permits (chunk_of s) (store_by s me rec place value role) rec ≡ true
@@ -214,7 +214,7 @@ module _ (s : SetupView) (valid : IsSetup s) (memory : Memory) (rec : Record) (m
   unfolding act_of
   take_made may = (
     NoMove,
-    (if value == 1 then put rec.held place.core (Some (record { sent = None; ready = None })) else rec.held),
+    (if value == 1 then table_with rec.held place.core (Some (record { sent = None; ready = None })) else rec.held),
     record {
       step = no_step;
       shows = same_view s (view_of s memory);
@@ -222,7 +222,7 @@ module _ (s : SetupView) (valid : IsSetup s) (memory : Memory) (rec : Record) (m
     },
   )
     where
-      by : (b : Bool) → after_act (chunk_of s) (if b then Holding place.core else Moving NoMove) rec ≡ record rec { held = if b then put rec.held place.core (Some (record { sent = None; ready = None })) else rec.held }
+      by : (b : Bool) → after_act (chunk_of s) (if b then Holding place.core else Moving NoMove) rec ≡ record rec { held = if b then table_with rec.held place.core (Some (record { sent = None; ready = None })) else rec.held }
       by true = refl
       by false = refl
 
@@ -230,7 +230,7 @@ module _ (s : SetupView) (valid : IsSetup s) (memory : Memory) (rec : Record) (m
   unfolding act_of
   free_made may = (
     NoMove,
-    put rec.held place.core None,
+    table_with rec.held place.core None,
     record {
       step = no_step;
       shows = same_view s (view_of s memory);

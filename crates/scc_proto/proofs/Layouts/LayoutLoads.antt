@@ -14,7 +14,7 @@ use Rattle.scc_proto.specs.Moves.{Move, LookSignal, LookGather, LookRelease, NoM
 use Rattle.scc_proto.specs.Permission.{permits}
 use Rattle.scc_proto.specs.Words.{Memory, word_at, Role, HeaderWord, ChunkWord, SignalFlag, SignalFlags, GatherFlag, ReleaseFlag, HeapWord, IdleWord, are_peers, is_present}
 use Rattle.scc_proto.specs.Records.{load_by, look_at, look_at_bits, leads, chunk_of}
-use Rattle.scc_proto.specs.Views.{View, word_of_flag, view_of, shown}
+use Rattle.scc_proto.specs.Views.{View, word_of_flag, view_of, view_after_move}
 use Rattle.scc_proto.proofs.Layouts.MoveFacts.{IsMember, IsMoveOf, Tells, SameView}
 use Rattle.scc_proto.proofs.Tests.{same_by_eqb, eqb_same, both_first, both_second, not_true, true_not_false, peers_swap}
 use Rattle.scc_proto.proofs.Layouts.Roles.{if_yes, lt_yes, eq_is, IsOwn, own_is, Stands}
@@ -58,7 +58,7 @@ pub record LoadsAs (s : SetupView) (me : ℕ) (view : View) (rec : Record) (move
   pub own : IsMoveOf s me move
   pub told : Tells me move view
   pub permitted : permits (chunk_of s) move rec ≡ true
-  pub shows : shown me move view ≡ view
+  pub shows : view_after_move me move view ≡ view
 
 module _ (s : SetupView) (memory : Memory) (rec : Record) (me : ℕ) (below : me < s.nue) (place : WordAt) (value : ℕ) (tells : word_at memory place ≡ value) where
   pub no_move : LoadsAs s me (view_of s memory) rec NoMove

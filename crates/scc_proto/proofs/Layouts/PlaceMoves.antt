@@ -10,12 +10,12 @@ use Rattle.scc_base.specs.Events.{load_of, store_of, take_of, free_of}
 use Rattle.scc_base.specs.declared.layouts.Layout.{Layout}
 use Rattle.scc_base.specs.declared.layouts.Layout.TheVariants.{LineFlags, BitFlags}
 use Rattle.scc_base.specs.declared.events.Event.{Event}
-use Rattle.scc_proto.specs.Tables.{put}
+use Rattle.scc_proto.specs.Tables.{table_with}
 use Rattle.scc_proto.specs.Stages.{Record}
 use Rattle.scc_proto.specs.Moves.{Move, DraftHeader, DraftChunk, RaiseSignal, LookSignal, ReadHeader, ReadChunk, LowerSignal, FlipGather, LookGather, WriteRelease, LookRelease, StoreHeap, NoMove, Misplaced, after}
 use Rattle.scc_proto.specs.Permission.{permits}
 use Rattle.scc_proto.specs.Words.{Role, HeaderWord, ChunkWord, SignalFlag, SignalFlags, GatherFlag, ReleaseFlag, HeapWord, IdleWord, role_of, are_peers, is_present}
-use Rattle.scc_proto.specs.Records.{Act, Moving, NotingSignal, act_of, load_act, store_act, store_by, look_at, look_at_bits, last_of, leads, move_at, change_at, raises_bit, chunk_of, flags_noted, note_flags, forget_flags, change_held, after_act, permits_act}
+use Rattle.scc_proto.specs.Records.{EventAct, Moving, NotingSignal, act_of, load_act, store_act, store_by, look_at, look_at_bits, last_of, leads, move_at, change_at, raises_bit, chunk_of, flags_noted, note_flags, forget_flags, change_held, after_act, permits_act}
 use Rattle.scc_proto.specs.Ports.{Seat, record_next, MayMake}
 use Rattle.scc_proto.proofs.Tests.{eqb_same, eqb_other, peers_are, peers_swap}
 use Rattle.scc_proto.proofs.Words.FlagBits.{raises_from, lowers_from, lowered_below-from}
@@ -54,15 +54,15 @@ pub store_moves : (seat : Seat) (rec : Record) (place : WordAt) (value : ℕ) (r
     → store_act seat.setup seat.rank rec place value role ≡ Moving move → permits (chunk_of seat.setup) move rec ≡ true
     → Makes seat rec (store_of place value) (after (chunk_of seat.setup) move rec)
 store_moves seat rec place value role move is act may =
-    subst (λ (a : Act). Makes seat rec (store_of place value) (after_act (chunk_of seat.setup) a rec)) act
-    (store_makes seat rec place value role is (ap (λ (a : Act). permits_act (chunk_of seat.setup) a rec) act ∙ may))
+    subst (λ (a : EventAct). Makes seat rec (store_of place value) (after_act (chunk_of seat.setup) a rec)) act
+    (store_makes seat rec place value role is (ap (λ (a : EventAct). permits_act (chunk_of seat.setup) a rec) act ∙ may))
 
 -- a load that is this move by the use of its place
 pub load_moves : (seat : Seat) (rec : Record) (place : WordAt) (value : ℕ) (role : Role) (move : Move) → role_of seat.setup place ≡ role
     → load_act seat.setup seat.rank rec place value role ≡ Moving move
     → Makes seat rec (load_of place value) (after (chunk_of seat.setup) move rec)
 load_moves seat rec place value role move is act =
-    subst (λ (a : Act). Makes seat rec (load_of place value) (after_act (chunk_of seat.setup) a rec)) act (load_makes seat rec place value role is)
+    subst (λ (a : EventAct). Makes seat rec (load_of place value) (after_act (chunk_of seat.setup) a rec)) act (load_makes seat rec place value role is)
 
 -- a load of an idle word, or of a heap word, tells nothing
 pub idle_loaded : (seat : Seat) (rec : Record) (place : WordAt) (value : ℕ) → role_of seat.setup place ≡ IdleWord → Makes seat rec (load_of place value) rec
@@ -129,7 +129,7 @@ module _ (seat : Seat) (rec : Record) (valid : IsSetup seat.setup) where
   -- ---- registers
 
   pub register_taken : (core : ℕ) → rec.held core ≡ None
-      → Makes seat rec (take_of core true) (record rec { held = put rec.held core (Some (record { sent = None; ready = None })) })
+      → Makes seat rec (take_of core true) (record rec { held = table_with rec.held core (Some (record { sent = None; ready = None })) })
   unfolding record_next act_of
   register_taken core free =
       let may : is_none (rec.held core) ≡ true = ap is_none free in
@@ -141,7 +141,7 @@ module _ (seat : Seat) (rec : Record) (valid : IsSetup seat.setup) where
       let may : is_none (rec.held core) ≡ true = ap is_none free in
       record { may = may; becomes = if_yes (is_none (rec.held core)) _ rec may }
 
-  pub register_freed : (core : ℕ) → is_some (rec.held core) ≡ true → Makes seat rec (free_of core) (record rec { held = put rec.held core None })
+  pub register_freed : (core : ℕ) → is_some (rec.held core) ≡ true → Makes seat rec (free_of core) (record rec { held = table_with rec.held core None })
   unfolding record_next act_of
   register_freed core held = record { may = held; becomes = if_yes (is_some (rec.held core)) _ rec held }
 
@@ -185,7 +185,7 @@ module _ (seat : Seat) (rec : Record) (valid : IsSetup seat.setup) (bits : seat.
   pub signal_bits_noted : (signal : Signal) (r value : ℕ) → r < seat.setup.nue → is_some (rec.held (host_of seat.setup.hosts r)) ≡ true
       → Makes seat rec (load_of (own_word seat.setup r 1 (signal_word signal)) value) (change_held (note_flags signal value) (host_of seat.setup.hosts r) rec)
   signal_bits_noted signal r value lt held = let act = if_yes (is_some (rec.held (host_of seat.setup.hosts r))) (NotingSignal signal (host_of seat.setup.hosts r) value) _ held in
-      subst (λ (a : Act). Makes seat rec (load_of (own_word seat.setup r 1 (signal_word signal)) value) (after_act (chunk_of seat.setup) a rec)) act
+      subst (λ (a : EventAct). Makes seat rec (load_of (own_word seat.setup r 1 (signal_word signal)) value) (after_act (chunk_of seat.setup) a rec)) act
       (load_makes seat rec (own_word seat.setup r 1 (signal_word signal)) value (SignalFlags signal r) (role_signal_bits seat.setup valid bits signal r lt))
 
   -- a store of a flag word that is this move

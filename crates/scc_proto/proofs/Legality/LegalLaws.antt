@@ -3,7 +3,7 @@ use Rattle.std.proofs.Common.{◌≡◌, ℕ, zero, suc, Bool, if◌then◌else�
 use Rattle.scc_base.specs.Calls.{DataCall}
 use Rattle.scc_base.specs.Runs.{Runs, IsStill, EndsAt}
 use Rattle.scc_base.proofs.Confluence.{lowest_first, in_some_order, one_end, other_end}
-use Rattle.scc_proto.specs.Legality.{Outgoing, Standing, CallStep, owner_of, call_at, slot_after, Makes, OwnStep, IsUsedUp, no_slots, IsLegal, UsesUp, calls_of, slots_after, CanFollow, Grows, ByNothing, ByStep}
+use Rattle.scc_proto.specs.Legality.{Outgoing, Standing, CallStep, owner_of, call_at, slot_after, Makes, OwnStep, IsUsedUp, no_slots, IsLegal, UsesUp, calls_of_step, slots_after, CanFollow, Grows, ByNothing, ByStep}
 use Rattle.scc_proto.proofs.Legality.StepLaws.{only_one, either_order, first_call}
 use Rattle.scc_proto.proofs.Legality.StepDecided.{decide}
 
@@ -52,10 +52,10 @@ module _ (nue : ℕ) (keys : ℕ → ℕ → ℕ) where
   uses_joined old middle new calls more (n, run) rest = run_followed more middle new rest n (record { calls = calls; slots = old }) run
 
   -- one step uses up its calls
-  pub uses_step : (step : CallStep) (slots : ℕ → Option Outgoing) → CanFollow nue keys step slots → UsesUp nue keys slots (calls_of nue keys step) (slots_after step slots)
+  pub uses_step : (step : CallStep) (slots : ℕ → Option Outgoing) → CanFollow nue keys step slots → UsesUp nue keys slots (calls_of_step nue keys step) (slots_after step slots)
   uses_step step slots can = (1, (owner_of step, record { calls = λ k. []; slots = slots_after step slots }, (step, refl, makes), end))
     where
-      makes : Makes nue keys step (record { calls = calls_of nue keys step; slots = slots }) (record { calls = λ k. []; slots = slots_after step slots })
+      makes : Makes nue keys step (record { calls = calls_of_step nue keys step; slots = slots }) (record { calls = λ k. []; slots = slots_after step slots })
       makes = record {
         proper = can.proper;
         calls = record {
@@ -80,8 +80,8 @@ module _ (nue : ℕ) (keys : ℕ → ℕ → ℕ) where
   pub uses_grown : (old_slots new_slots : ℕ → Option Outgoing) (old new : ℕ → List DataCall) → UsesUp nue keys no_slots old old_slots → Grows nue keys old old_slots new new_slots → UsesUp nue keys no_slots new new_slots
   uses_grown old_slots new_slots old new uses (ByNothing same same_slots) = uses_same no_slots old_slots new_slots old new same same_slots uses
   uses_grown old_slots new_slots old new uses (ByStep step can grown slots) =
-      uses_same no_slots (slots_after step old_slots) new_slots (λ k. old k ++ calls_of nue keys step k) new grown slots
-      (uses_joined no_slots old_slots (slots_after step old_slots) old (calls_of nue keys step) uses (uses_step step old_slots can))
+      uses_same no_slots (slots_after step old_slots) new_slots (λ k. old k ++ calls_of_step nue keys step k) new grown slots
+      (uses_joined no_slots old_slots (slots_after step old_slots) old (calls_of_step nue keys step) uses (uses_step step old_slots can))
 
   -- the slots that legal lists leave are determined by the lists
   pub one_left : (calls : ℕ → List DataCall) (left also : ℕ → Option Outgoing) → UsesUp nue keys no_slots calls left → UsesUp nue keys no_slots calls also → left ≡ also

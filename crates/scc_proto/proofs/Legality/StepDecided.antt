@@ -4,7 +4,7 @@ use Rattle.std.proofs.lemmas.Bool.Decides.{nat_tests}
 use Rattle.scc_base.specs.Calls.{DataCall}
 use Rattle.scc_base.specs.Groups.{place_in}
 use Rattle.scc_base.proofs.Confluence.{equal_or_not, last_or_below}
-use Rattle.scc_proto.specs.Legality.{Standing, CallStep, Posting, Taking, Pairing, Meeting, owner_of, IsFirst, IsProper, callers, call_at, slot_at, slot_before, slot_after, slots_after, Makes, OwnStep}
+use Rattle.scc_proto.specs.Legality.{Standing, CallStep, Posting, Taking, Pairing, Meeting, owner_of, IsFirst, IsProper, callers, call_at, looks_at_slot, slot_before, slot_after, slots_after, Makes, OwnStep}
 use Rattle.scc_proto.proofs.Legality.CallTests.{IsDecided, BeginsWith, begins_with, same_slot}
 use Rattle.scc_proto.proofs.Legality.StepLaws.{own_step, owner_of-own_step, step_told, first_call}
 
@@ -73,7 +73,7 @@ module _ (nue : ℕ) (keys : ℕ → ℕ → ℕ) where
   callers_below (Pairing from m) = (suc (from + m.to), λ k within. grind (arith, nat_tests))
   callers_below (Meeting comm root) = (nue, λ k within. grind (arith, nat_tests))
 
-  slot_below : (step : CallStep) → (n : ℕ) × ((k : ℕ) → slot_at step k ≡ true → k < n)
+  slot_below : (step : CallStep) → (n : ℕ) × ((k : ℕ) → looks_at_slot step k ≡ true → k < n)
   slot_below (Posting from m) = (suc from, λ k within. grind (arith, nat_tests))
   slot_below (Taking from m) = (suc from, λ k within. grind (arith, nat_tests))
   slot_below (Pairing from m) = (suc from, λ k within. grind (arith, nat_tests))
@@ -83,7 +83,7 @@ module _ (nue : ℕ) (keys : ℕ → ℕ → ℕ) where
   pub record IsReady (step : CallStep) (s : Standing) : Type 0 where
     pub proper : IsProper nue keys step
     pub calls : (k : ℕ) → callers nue keys step k ≡ true → BeginsWith (call_at step k) (s.calls k)
-    pub slot : (k : ℕ) → slot_at step k ≡ true → s.slots k ≡ slot_before step
+    pub slot : (k : ℕ) → looks_at_slot step k ≡ true → s.slots k ≡ slot_before step
 
   decide_ready : (step : CallStep) (s : Standing) → IsDecided (IsReady step s)
   decide_ready step s =
@@ -96,13 +96,13 @@ module _ (nue : ℕ) (keys : ℕ → ℕ → ℕ) where
       Calls = (k : ℕ) → callers nue keys step k ≡ true → BeginsWith (call_at step k) (s.calls k)
 
       Slot : Type 0
-      Slot = (k : ℕ) → slot_at step k ≡ true → s.slots k ≡ slot_before step
+      Slot = (k : ℕ) → looks_at_slot step k ≡ true → s.slots k ≡ slot_before step
 
       calls : IsDecided Calls
       calls = let bound = callers_below step in decide_members (callers nue keys step) bound.0 bound.1 (λ k. BeginsWith (call_at step k) (s.calls k)) (λ k. begins_with (call_at step k) (s.calls k))
 
       slot : IsDecided Slot
-      slot = let bound = slot_below step in decide_members (slot_at step) bound.0 bound.1 (λ k. s.slots k ≡ slot_before step) (λ k. same_slot (s.slots k) (slot_before step))
+      slot = let bound = slot_below step in decide_members (looks_at_slot step) bound.0 bound.1 (λ k. s.slots k ≡ slot_before step) (λ k. same_slot (s.slots k) (slot_before step))
 
   -- the standing after a step
   abbrev pub standing_after : CallStep → Standing → Standing

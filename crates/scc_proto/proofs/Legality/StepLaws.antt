@@ -5,7 +5,7 @@ use Rattle.scc_base.specs.Calls.{DataCall, Send, Recv, Post, Bar}
 use Rattle.scc_base.specs.Changes.{Change}
 use Rattle.scc_base.proofs.ChangeLaws.{AreApart, apart_changes, same_change}
 use Rattle.scc_base.proofs.GroupFacts.{place_once}
-use Rattle.scc_proto.specs.Legality.{Outgoing, Standing, CallStep, Posting, Taking, Pairing, Meeting, owner_of, in_group, IsFirst, IsProper, callers, call_at, slot_at, slot_before, slot_after, Makes, OwnStep}
+use Rattle.scc_proto.specs.Legality.{Outgoing, Standing, CallStep, Posting, Taking, Pairing, Meeting, owner_of, in_group, IsFirst, IsProper, callers, call_at, looks_at_slot, slot_before, slot_after, Makes, OwnStep}
 
 -- the step that a rank's call belongs to, where it is the owner's call
 abbrev pub own_step : ℕ → DataCall → CallStep
@@ -73,7 +73,7 @@ module _ (nue : ℕ) (keys : ℕ → ℕ → ℕ) where
       calls = same_change (callers nue keys step) (λ k before after. before ≡ call_at step k ∷ after) s.calls t.calls u.calls (λ k x y z is also. cc) first.calls second.calls
 
       slots : t.slots ≡ u.slots
-      slots = same_change (slot_at step) (λ k before after. (before ≡ slot_before step) × (after ≡ slot_after step)) s.slots t.slots u.slots (λ k x y z is also. is.1 ∙ sym also.1) first.slots second.slots
+      slots = same_change (looks_at_slot step) (λ k before after. (before ≡ slot_before step) × (after ≡ slot_after step)) s.slots t.slots u.slots (λ k x y z is also. is.1 ∙ sym also.1) first.slots second.slots
 
   -- an owner has at most one step
   pub only_one : (a : ℕ) (s t u : Standing) → OwnStep nue keys a s t → OwnStep nue keys a s u → t ≡ u
@@ -90,7 +90,7 @@ module _ (nue : ℕ) (keys : ℕ → ℕ → ℕ) where
       same = sym (step_told x a x_owner) ∙ ap (own_step a) same_call_at ∙ step_told y a y_owner
 
   -- two steps look at one slot only where they have one owner or find different things in it
-  slots_apart : (x y : CallStep) (k : ℕ) → owner_of x ≢ owner_of y → slot_at x k ≡ true → slot_at y k ≡ true → slot_before x ≡ slot_before y → ⊥
+  slots_apart : (x y : CallStep) (k : ℕ) → owner_of x ≢ owner_of y → looks_at_slot x k ≡ true → looks_at_slot y k ≡ true → slot_before x ≡ slot_before y → ⊥
   slots_apart (Posting i m) (Posting j n) k apart at_x at_y same = grind (arith, nat_tests)
   slots_apart (Posting i m) (Taking j n) k apart at_x at_y same = cc
   slots_apart (Posting i m) (Pairing j n) k apart at_x at_y same = grind (arith, nat_tests)
@@ -113,7 +113,7 @@ module _ (nue : ℕ) (keys : ℕ → ℕ → ℕ) where
 
   -- two steps use the same call of a rank only where they have one owner or find different things in one slot
   callers_apart : (x y : CallStep) (k : ℕ) → IsProper nue keys x → IsProper nue keys y → owner_of x ≢ owner_of y
-      → ((i : ℕ) → slot_at x i ≡ true → slot_at y i ≡ true → slot_before x ≡ slot_before y)
+      → ((i : ℕ) → looks_at_slot x i ≡ true → looks_at_slot y i ≡ true → slot_before x ≡ slot_before y)
       → callers nue keys x k ≡ true → callers nue keys y k ≡ true → call_at x k ≡ call_at y k → ⊥
   callers_apart (Posting i m) (Posting j n) k px py apart slots in_x in_y same = grind (arith, nat_tests)
   callers_apart (Posting i m) (Taking j n) k px py apart slots in_x in_y same = cc
@@ -157,7 +157,7 @@ module _ (nue : ℕ) (keys : ℕ → ℕ → ℕ) where
       owners : owner_of x ≢ owner_of y
       owners is = apart (sym x_owner ∙ is ∙ y_owner)
 
-      same_slot_before : (i : ℕ) → slot_at x i ≡ true → slot_at y i ≡ true → slot_before x ≡ slot_before y
+      same_slot_before : (i : ℕ) → looks_at_slot x i ≡ true → looks_at_slot y i ≡ true → slot_before x ≡ slot_before y
       same_slot_before i at_x at_y = sym (x_makes.slots.changed i at_x).0 ∙ (y_makes.slots.changed i at_y).0
 
       same_call_at : (k : ℕ) → callers nue keys x k ≡ true → callers nue keys y k ≡ true → call_at x k ≡ call_at y k
@@ -166,11 +166,11 @@ module _ (nue : ℕ) (keys : ℕ → ℕ → ℕ) where
       calls_apart : AreApart (callers nue keys x) (callers nue keys y)
       calls_apart k in_x in_y = callers_apart x y k x_makes.proper y_makes.proper owners same_slot_before in_x in_y (same_call_at k in_x in_y)
 
-      no_slot : AreApart (slot_at x) (slot_at y)
+      no_slot : AreApart (looks_at_slot x) (looks_at_slot y)
       no_slot k at_x at_y = slots_apart x y k owners at_x at_y (same_slot_before k at_x at_y)
 
       calls : (v : ℕ → List DataCall) × Change (callers nue keys y) (λ k before after. before ≡ call_at y k ∷ after) t.calls v × Change (callers nue keys x) (λ k before after. before ≡ call_at x k ∷ after) u.calls v
       calls = apart_changes (callers nue keys x) (callers nue keys y) (λ k before after. before ≡ call_at x k ∷ after) (λ k before after. before ≡ call_at y k ∷ after) s.calls t.calls u.calls calls_apart x_makes.calls y_makes.calls
 
-      slots : (v : ℕ → Option Outgoing) × Change (slot_at y) (λ k before after. (before ≡ slot_before y) × (after ≡ slot_after y)) t.slots v × Change (slot_at x) (λ k before after. (before ≡ slot_before x) × (after ≡ slot_after x)) u.slots v
-      slots = apart_changes (slot_at x) (slot_at y) (λ k before after. (before ≡ slot_before x) × (after ≡ slot_after x)) (λ k before after. (before ≡ slot_before y) × (after ≡ slot_after y)) s.slots t.slots u.slots no_slot x_makes.slots y_makes.slots
+      slots : (v : ℕ → Option Outgoing) × Change (looks_at_slot y) (λ k before after. (before ≡ slot_before y) × (after ≡ slot_after y)) t.slots v × Change (looks_at_slot x) (λ k before after. (before ≡ slot_before x) × (after ≡ slot_after x)) u.slots v
+      slots = apart_changes (looks_at_slot x) (looks_at_slot y) (λ k before after. (before ≡ slot_before x) × (after ≡ slot_after x)) (λ k before after. (before ≡ slot_before y) × (after ≡ slot_after y)) s.slots t.slots u.slots no_slot x_makes.slots y_makes.slots

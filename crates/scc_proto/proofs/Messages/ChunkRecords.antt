@@ -15,8 +15,8 @@ use Rattle.scc_base.specs.declared.layouts.Layout.{Layout}
 use Rattle.scc_base.specs.declared.layouts.Layout.TheVariants.{LineFlags, BitFlags}
 use Rattle.scc_base.specs.declared.events.Event.{Event}
 use Rattle.scc_base.specs.declared.signals.Signal.TheVariants.{Sent, Ready}
-use Rattle.scc_proto.specs.Tables.{put}
-use Rattle.scc_proto.specs.Messages.{Notes, noted, note_word, has_all, bytes_from, is_zero_from, begun}
+use Rattle.scc_proto.specs.Tables.{table_with}
+use Rattle.scc_proto.specs.Messages.{Notes, noted_word, note_word, has_all, bytes_from, is_zero_from, fresh_message}
 use Rattle.scc_proto.specs.Stages.{Drafting, Taking, Record, blank}
 use Rattle.scc_proto.specs.Moves.{DraftChunk, RaiseSignal, ReadChunk, after}
 use Rattle.scc_proto.specs.Permission.{permits}
@@ -24,7 +24,7 @@ use Rattle.scc_proto.specs.Words.{Memory, memory_after, RankEvent, IsRun, ChunkW
 use Rattle.scc_proto.specs.Records.{act_of, record_after, forget_flags, change_held}
 use Rattle.scc_proto.specs.Histories.{events_of, memory_from, IsPermittedRun}
 use Rattle.scc_proto.specs.Ports.{Seat, MayMakeAll, record_next, record_on}
-use Rattle.scc_proto.specs.Examples.{two_ranks_by, for_each, drafts_head, begins_first, raises_ready, goes_second, bytes_of}
+use Rattle.scc_proto.specs.Examples.{two_ranks_by, for_numbers, drafts_head, begins_first, raises_ready, goes_second, bytes_of_words}
 use Rattle.scc_proto.proofs.Tests.{same_or_other, put_here, put_there, eqb_same}
 use Rattle.scc_proto.proofs.PortLaws.{record_on-append, may-append}
 use Rattle.scc_proto.proofs.Layouts.PlaceMoves.{Makes, store_moves, load_moves, signal_raised, signal_bit_raised}
@@ -40,15 +40,15 @@ events_of-append r (e ∷ a) b = by (events_of-append r a b) (e.rank == r)
     by rest true = λ i. e.event ∷ rest i
     by rest false = rest
 
-pub events_of-own : (r : ℕ) (of : ℕ → RankEvent) → ((k : ℕ) → ((of k).rank == r) ≡ true) → (n : ℕ) → events_of r (for_each of n) ≡ for_each (λ k. (of k).event) n
-unfolding for_each
+pub events_of-own : (r : ℕ) (of : ℕ → RankEvent) → ((k : ℕ) → ((of k).rank == r) ≡ true) → (n : ℕ) → events_of r (for_numbers of n) ≡ for_numbers (λ k. (of k).event) n
+unfolding for_numbers
 events_of-own r of own zero = refl
-events_of-own r of own (suc n) = events_of-append r (for_each of n) (of n ∷ []) ∙ (λ i. events_of-own r of own n i ++ (if own n i then (of n).event ∷ [] else []))
+events_of-own r of own (suc n) = events_of-append r (for_numbers of n) (of n ∷ []) ∙ (λ i. events_of-own r of own n i ++ (if own n i then (of n).event ∷ [] else []))
 
-pub events_of-other : (r : ℕ) (of : ℕ → RankEvent) → ((k : ℕ) → ((of k).rank == r) ≡ false) → (n : ℕ) → events_of r (for_each of n) ≡ []
-unfolding for_each
+pub events_of-other : (r : ℕ) (of : ℕ → RankEvent) → ((k : ℕ) → ((of k).rank == r) ≡ false) → (n : ℕ) → events_of r (for_numbers of n) ≡ []
+unfolding for_numbers
 events_of-other r of other zero = refl
-events_of-other r of other (suc n) = events_of-append r (for_each of n) (of n ∷ []) ∙ (λ i. events_of-other r of other n i ++ (if other n i then (of n).event ∷ [] else []))
+events_of-other r of other (suc n) = events_of-append r (for_numbers of n) (of n ∷ []) ∙ (λ i. events_of-other r of other n i ++ (if other n i then (of n).event ∷ [] else []))
 
 pub memory_from-append : (memory : Memory) (a b : List RankEvent) → memory_from memory (a ++ b) ≡ memory_from (memory_from memory a) b
 memory_from-append memory [] b = refl
@@ -68,12 +68,12 @@ pub are-append : (nue : ℕ) (a b : List RankEvent) → AreEvents nue a → AreE
 are-append nue [] b x y = y
 are-append nue (e ∷ a) b x y = (x.0, x.1, are-append nue a b x.2 y)
 
-pub are_each : (nue : ℕ) (of : ℕ → RankEvent) (n : ℕ) → ((k : ℕ) → k < n → ((of k).rank < nue) × IsEvent (of k).event) → AreEvents nue (for_each of n)
-unfolding for_each
+pub are_each : (nue : ℕ) (of : ℕ → RankEvent) (n : ℕ) → ((k : ℕ) → k < n → ((of k).rank < nue) × IsEvent (of k).event) → AreEvents nue (for_numbers of n)
+unfolding for_numbers
 are_each nue of zero is = tt
 are_each nue of (suc n) is =
     let last = is n (omega arith) in
-    are-append nue (for_each of n) (of n ∷ []) (are_each nue of n (λ k lt. is k (omega (arith, lt)))) (last.0, last.1, tt)
+    are-append nue (for_numbers of n) (of n ∷ []) (are_each nue of n (λ k lt. is k (omega (arith, lt)))) (last.0, last.1, tt)
 
 abbrev seat_at : SetupView → ℕ → Seat
 seat_at s r = record { setup = s; rank = r; mark = gnil; rest = gnil; hold = 0 }
@@ -85,7 +85,7 @@ permitted_run s [] records are may = tt
 permitted_run s (e ∷ es) records are may = (are.0, are.1, own.0, permitted_run s es next are.2 later)
   where
     next : ℕ → Record
-    next = put records e.rank (record_after s e.rank (records e.rank) e.event)
+    next = table_with records e.rank (record_after s e.rank (records e.rank) e.event)
 
     own : MayMakeAll (seat_at s e.rank) (records e.rank) (e.event ∷ events_of e.rank es)
     own = subst (λ (t : Bool). MayMakeAll (seat_at s e.rank) (records e.rank) (if t then e.event ∷ events_of e.rank es else events_of e.rank es)) (eqb_same e.rank) (may e.rank are.0)
@@ -117,12 +117,12 @@ unfoldable pub notes_up : (ℕ → ℕ) → ℕ → Notes
 notes_up word zero = []
 notes_up word (suc n) = note_word n (word n) (notes_up word n)
 
-noted_up : (word : ℕ → ℕ) (n k : ℕ) → k < n → noted (notes_up word n) k ≡ Some (word k)
+noted_up : (word : ℕ → ℕ) (n k : ℕ) → k < n → noted_word (notes_up word n) k ≡ Some (word k)
 unfolding notes_up
 noted_up word zero k lt = absurd (omega (arith, lt))
-noted_up word (suc n) k lt = same_or_other ((if k == n then Some (word n) else noted (notes_up word n) k) ≡ Some (word k)) k n
-    (λ t is. (λ i. if t i then Some (word n) else noted (notes_up word n) k) ∙ ap (λ x. Some (word x)) (sym is))
-    (λ t ne. (λ i. if t i then Some (word n) else noted (notes_up word n) k) ∙ noted_up word n k (omega (arith, lt, ne)))
+noted_up word (suc n) k lt = same_or_other ((if k == n then Some (word n) else noted_word (notes_up word n) k) ≡ Some (word k)) k n
+    (λ t is. (λ i. if t i then Some (word n) else noted_word (notes_up word n) k) ∙ ap (λ x. Some (word x)) (sym is))
+    (λ t ne. (λ i. if t i then Some (word n) else noted_word (notes_up word n) k) ∙ noted_up word n k (omega (arith, lt, ne)))
 
 has_up : (word : ℕ → ℕ) (n m : ℕ) → m ≤ n → has_all (notes_up word n) m ≡ true
 unfolding has_all
@@ -139,7 +139,7 @@ bytes_up : (word : ℕ → ℕ) (n start m : ℕ) → start + m ≤ 8 * n → by
 unfolding bytes_from
 bytes_up word n start zero le = refl
 bytes_up word n start (suc m) le =
-    let here : noted (notes_up word n) (start / 8) ≡ Some (word (start / 8)) = noted_up word n (start / 8) (omega (arith, le)) in
+    let here : noted_word (notes_up word n) (start / 8) ≡ Some (word (start / 8)) = noted_up word n (start / 8) (omega (arith, le)) in
     let next : suc start ≡ start + 1 = omega arith in
     let rest = bytes_up word n (start + 1) m (omega (arith, le)) in
     (λ i. (unwrap_or (here i) 0 / 256 ^ (start % 8) % 256) ∷ bytes_from (notes_up word n) (next i) m) ∙ (λ i. byte_in word start ∷ rest i)
@@ -149,8 +149,8 @@ bytes_up word n start (suc m) le =
 abbrev pub words_in : Layout → ℕ
 words_in layout = 4 * chunk_lines layout
 
-pub bytes_are : (layout : Layout) (word : ℕ → ℕ) → bytes_from (notes_up word (words_in layout)) 0 (chunk_size layout) ≡ bytes_of word (chunk_size layout)
-unfolding bytes_of
+pub bytes_are : (layout : Layout) (word : ℕ → ℕ) → bytes_from (notes_up word (words_in layout)) 0 (chunk_size layout) ≡ bytes_of_words word (chunk_size layout)
+unfolding bytes_of_words
 bytes_are layout word = bytes_up word (words_in layout) 0 (chunk_size layout) (omega arith)
 
 abbrev pub word_place : Layout → ℕ → WordAt
@@ -200,11 +200,11 @@ draft layout word k chunk lt = store_moves (seat_of layout 0) (drafting layout c
     (role_chunk (two_ranks_by layout) (two_valid layout) 0 k (omega arith) lt) refl refl
 
 pub drafts : (layout : Layout) (word : ℕ → ℕ) (n : ℕ) → n ≤ words_in layout
-    → Goes (seat_of layout 0) (drafting layout []) (for_each (λ k. store_of (word_place layout k) (word k)) n) (drafting layout (notes_up word n))
-unfolding for_each notes_up
+    → Goes (seat_of layout 0) (drafting layout []) (for_numbers (λ k. store_of (word_place layout k) (word k)) n) (drafting layout (notes_up word n))
+unfolding for_numbers notes_up
 drafts layout word zero le = record { may = tt; becomes = refl }
 drafts layout word (suc n) le =
-    goes_then (seat_of layout 0) (drafting layout []) (for_each (λ k. store_of (word_place layout k) (word k)) n) (drafting layout (notes_up word n))
+    goes_then (seat_of layout 0) (drafting layout []) (for_numbers (λ k. store_of (word_place layout k) (word k)) n) (drafting layout (notes_up word n))
     (store_of (word_place layout n) (word n) ∷ []) (drafting layout (note_word n (word n) (notes_up word n)))
     (drafts layout word n (omega (arith, le)))
     (goes_one (seat_of layout 0) (drafting layout (notes_up word n)) (store_of (word_place layout n) (word n)) (drafting layout (note_word n (word n) (notes_up word n))) (draft layout word n (notes_up word n) (omega (arith, le))))
@@ -302,7 +302,7 @@ abbrev begun_record : Layout → Record
 begun_record layout = record_on (seat_of layout 1) blank (begun_events layout)
 
 abbrev pub taking : Layout → Notes → Record
-taking layout chunk = record (begun_record layout) { stage = Taking 0 (begun (head layout)) chunk }
+taking layout chunk = record (begun_record layout) { stage = Taking 0 (fresh_message (head layout)) chunk }
 
 pub begins_taking : (layout : Layout) → Goes (seat_of layout 1) blank (begun_events layout) (taking layout [])
 unfolding record_next act_of has_all
@@ -315,11 +315,11 @@ loaded layout word k chunk lt = load_moves (seat_of layout 1) (taking layout chu
     (role_chunk (two_ranks_by layout) (two_valid layout) 0 k (omega arith) lt) refl
 
 pub loads_all : (layout : Layout) (word : ℕ → ℕ) (n : ℕ) → n ≤ words_in layout
-    → Goes (seat_of layout 1) (taking layout []) (for_each (λ k. load_of (word_place layout k) (word k)) n) (taking layout (notes_up word n))
-unfolding for_each notes_up
+    → Goes (seat_of layout 1) (taking layout []) (for_numbers (λ k. load_of (word_place layout k) (word k)) n) (taking layout (notes_up word n))
+unfolding for_numbers notes_up
 loads_all layout word zero le = record { may = tt; becomes = refl }
 loads_all layout word (suc n) le =
-    goes_then (seat_of layout 1) (taking layout []) (for_each (λ k. load_of (word_place layout k) (word k)) n) (taking layout (notes_up word n))
+    goes_then (seat_of layout 1) (taking layout []) (for_numbers (λ k. load_of (word_place layout k) (word k)) n) (taking layout (notes_up word n))
     (load_of (word_place layout n) (word n) ∷ []) (taking layout (note_word n (word n) (notes_up word n)))
     (loads_all layout word n (omega (arith, le)))
     (goes_one (seat_of layout 1) (taking layout (notes_up word n)) (load_of (word_place layout n) (word n)) (taking layout (note_word n (word n) (notes_up word n))) (loaded layout word n (notes_up word n) (omega (arith, le))))

@@ -4,25 +4,25 @@ use Rattle.std.proofs.lemmas.Bool.Decides.{nat_tests}
 use Rattle.scc_base.specs.Calls.{DataCall, Send, Recv, Post, Bar}
 use Rattle.scc_base.specs.Changes.{both}
 use Rattle.scc_base.proofs.ChangeLaws.{true_or_false}
-use Rattle.scc_proto.specs.Legality.{Outgoing, CallStep, Posting, Taking, Pairing, Meeting, in_group, IsFirst, callers, call_at, slot_at, slot_after, calls_of, slots_after, CanFollow, Grows, ByStep}
+use Rattle.scc_proto.specs.Legality.{Outgoing, CallStep, Posting, Taking, Pairing, Meeting, in_group, IsFirst, callers, call_at, looks_at_slot, slot_after, calls_of_step, slots_after, CanFollow, Grows, ByStep}
 
 module _ (nue : ℕ) (keys : ℕ → ℕ → ℕ) where
-  pub calls_of-in : (step : CallStep) (k : ℕ) → callers nue keys step k ≡ true → calls_of nue keys step k ≡ call_at step k ∷ []
+  pub calls_of-in : (step : CallStep) (k : ℕ) → callers nue keys step k ≡ true → calls_of_step nue keys step k ≡ call_at step k ∷ []
   calls_of-in step k within = ap (λ (b : Bool). if b then call_at step k ∷ [] else []) within
 
-  pub calls_of-out : (step : CallStep) (k : ℕ) → callers nue keys step k ≡ false → calls_of nue keys step k ≡ []
+  pub calls_of-out : (step : CallStep) (k : ℕ) → callers nue keys step k ≡ false → calls_of_step nue keys step k ≡ []
   calls_of-out step k without = ap (λ (b : Bool). if b then call_at step k ∷ [] else []) without
 
   -- each caller's list gains its call, and no other list changes
   pub grows_by : (old new : ℕ → List DataCall) (old_slots new_slots : ℕ → Option Outgoing) (step : CallStep) → CanFollow nue keys step old_slots
       → ((k : ℕ) → callers nue keys step k ≡ true → new k ≡ old k ++ call_at step k ∷ [])
       → ((k : ℕ) → callers nue keys step k ≡ false → new k ≡ old k)
-      → ((k : ℕ) → slot_at step k ≡ true → new_slots k ≡ slot_after step)
-      → ((k : ℕ) → slot_at step k ≡ false → new_slots k ≡ old_slots k)
+      → ((k : ℕ) → looks_at_slot step k ≡ true → new_slots k ≡ slot_after step)
+      → ((k : ℕ) → looks_at_slot step k ≡ false → new_slots k ≡ old_slots k)
       → Grows nue keys old old_slots new new_slots
   grows_by old new old_slots new_slots step can gain stay slot slots = ByStep step can calls left
     where
-      calls : (k : ℕ) → new k ≡ old k ++ calls_of nue keys step k
+      calls : (k : ℕ) → new k ≡ old k ++ calls_of_step nue keys step k
       calls k =
           ⊎_elim
           (λ (is : callers nue keys step k ≡ true). gain k is ∙ ap (λ (l : List DataCall). old k ++ l) (sym (calls_of-in step k is)))
@@ -32,9 +32,9 @@ module _ (nue : ℕ) (keys : ℕ → ℕ → ℕ) where
       left : (k : ℕ) → new_slots k ≡ slots_after step old_slots k
       left k =
           ⊎_elim
-          (λ (is : slot_at step k ≡ true). slot k is ∙ sym (ap (λ (b : Bool). if b then slot_after step else old_slots k) is))
-          (λ (is : slot_at step k ≡ false). slots k is ∙ sym (ap (λ (b : Bool). if b then slot_after step else old_slots k) is))
-          (true_or_false (slot_at step k))
+          (λ (is : looks_at_slot step k ≡ true). slot k is ∙ sym (ap (λ (b : Bool). if b then slot_after step else old_slots k) is))
+          (λ (is : looks_at_slot step k ≡ false). slots k is ∙ sym (ap (λ (b : Bool). if b then slot_after step else old_slots k) is))
+          (true_or_false (looks_at_slot step k))
 
   only_in : (A : ℕ → Type 0) (i k : ℕ) → A i → (k == i) ≡ true → A k
   only_in A i k holds is = let same : i ≡ k = grind (arith, nat_tests) in subst A same holds

@@ -5,8 +5,8 @@ use Rattle.scc_base.specs.Setups.{SetupView, IsSetup, setup_key}
 use Rattle.scc_base.proofs.Confluence.{equal_or_not}
 use Rattle.scc_base.proofs.ChangeLaws.{true_or_false}
 use Rattle.scc_base.specs.declared.signals.Signal.TheVariants.{Sent, Ready}
-use Rattle.scc_proto.specs.Tables.{put}
-use Rattle.scc_proto.specs.Messages.{Progress, begun, with_chunk, message_of, sent_messages, received_messages, send_to, post_to, head_of, is_last}
+use Rattle.scc_proto.specs.Tables.{table_with}
+use Rattle.scc_proto.specs.Messages.{Progress, fresh_message, with_chunk, message_of, sent_messages, received_messages, send_to, post_to, head_of, is_last}
 use Rattle.scc_proto.specs.Stages.{Filling, Raised, Answered, Stage, Idle, Drafting, Sending, Between, Taking, Barrier, OnItsWay, Record}
 use Rattle.scc_proto.specs.Moves.{Move, DraftHeader, DraftChunk, RaiseSignal, LookSignal, ReadHeader, ReadChunk, LowerSignal, FlipGather, LookGather, WriteRelease, LookRelease, StoreHeap, NoMove, Misplaced, is_posted, raise_sent, lower_ready, post_raised, finished_if, calls_raised, calls_sent, after}
 use Rattle.scc_proto.specs.Permission.{is_drafted, may_raise, may_go_on, is_answered_by}
@@ -15,7 +15,7 @@ use Rattle.scc_proto.specs.Records.{chunk_of}
 use Rattle.scc_proto.specs.Views.{View}
 use Rattle.scc_proto.specs.Pairs.{Resting, Offering, pair_of, IsReady, HasArrived, sending_side, side_of_post}
 use Rattle.scc_proto.specs.Singles.{IsConsistent, is_free}
-use Rattle.scc_proto.specs.Passed.{in_hand, is_received, passed_open, passed_calls, slot_by, slot_of}
+use Rattle.scc_proto.specs.Passed.{in_hand, is_received_ahead, passed_open, passed_calls, slot_by, slot_of}
 use Rattle.scc_proto.specs.Agreement.{RecordsAgree, PairsAgree, SendersAgree, GroupsAgree}
 use Rattle.scc_proto.specs.Legality.{Grows, ByNothing}
 use Rattle.scc_proto.proofs.Messages.Growth.{grows_by_post}
@@ -34,7 +34,7 @@ module _ (s : SetupView) (me : ℕ) (view : View) (records : ℕ → Record) (lo
   new_of move = after (chunk_of s) move (records me)
 
   abbrev next_of : Move → ℕ → Record
-  next_of move = put records me (new_of move)
+  next_of move = table_with records me (new_of move)
 
   abbrev GrowsBy : Move → Type 0
   GrowsBy move = Grows s.nue (setup_key s) (passed_calls s records) (slot_of s records) (passed_calls s (next_of move)) (slot_of s (next_of move))
@@ -77,11 +77,11 @@ module _ (s : SetupView) (me : ℕ) (view : View) (records : ℕ → Record) (lo
           (λ (posts : is_posted header ≡ true). a_post posts)
           (λ (sends : is_posted header ≡ false).
           quiet s me records (new_of (RaiseSignal Sent to)) refl bars
-          (ap (λ (st : Stage). calls_raised (chunk_of s) to st (records me).calls) is ∙ ap (λ (b : Bool). finished_if b (post_to to (message_of (with_chunk (chunk_of s) (begun (head_of header)) chunk))) (records me).calls) sends)
+          (ap (λ (st : Stage). calls_raised (chunk_of s) to st (records me).calls) is ∙ ap (λ (b : Bool). finished_if b (post_to to (message_of (with_chunk (chunk_of s) (fresh_message (head_of header)) chunk))) (records me).calls) sends)
           (ap (λ (p : Option OnItsWay). slot_by (chunk_of s) me p records) (ap (λ (st : Stage). post_raised to st (records me).post) is ∙ ap (λ (b : Bool). if b then Some (record { to = to; head = head_of header; chunk = chunk; is_answered = false }) else (records me).post) sends))
           (ap (λ (st : Stage). passed_open s me (raise_sent to st) records) is
-          ∙ ap (λ (b : Bool). passed_open s me (if b then Idle else Sending to Raised (begun (head_of header)) chunk) records) sends
-          ∙ ap (λ (b : Bool). if b then send_to to (message_of (in_hand (chunk_of s) Raised (begun (head_of header)) chunk)) ∷ [] else []) (not_received (received_messages me (records to).calls) (sent_messages to (records me).calls) at_level)
+          ∙ ap (λ (b : Bool). passed_open s me (if b then Idle else Sending to Raised (fresh_message (head_of header)) chunk) records) sends
+          ∙ ap (λ (b : Bool). if b then send_to to (message_of (in_hand (chunk_of s) Raised (fresh_message (head_of header)) chunk)) ∷ [] else []) (not_received (received_messages me (records to).calls) (sent_messages to (records me).calls) at_level)
           ∙ sym (ap (λ (st : Stage). passed_open s me st records) is)))
           (true_or_false (is_posted header))
         where
@@ -91,45 +91,45 @@ module _ (s : SetupView) (me : ℕ) (view : View) (records : ℕ → Record) (lo
           a_post : is_posted header ≡ true → GrowsBy (RaiseSignal Sent to)
           a_post posts =
               grows_by_post s.nue (setup_key s) (passed_calls s records) (passed_calls s (next_of (RaiseSignal Sent to))) (slot_of s records) (slot_of s (next_of (RaiseSignal Sent to))) me
-              (record { to = to; head = head_of header; bytes = (with_chunk (chunk_of s) (begun (head_of header)) chunk).bytes })
+              (record { to = to; head = head_of header; bytes = (with_chunk (chunk_of s) (fresh_message (head_of header)) chunk).bytes })
               empty gain
               (λ k other. passed_stays s me records (new_of (RaiseSignal Sent to)) refl bars k other (received k))
               full
               (λ k other. slot_stays s me records (new_of (RaiseSignal Sent to)) refl bars k other (received k))
             where
-              new_calls : calls_raised (chunk_of s) to (records me).stage (records me).calls ≡ (records me).calls ++ post_to to (message_of (with_chunk (chunk_of s) (begun (head_of header)) chunk)) ∷ []
-              new_calls = ap (λ (st : Stage). calls_raised (chunk_of s) to st (records me).calls) is ∙ ap (λ (b : Bool). finished_if b (post_to to (message_of (with_chunk (chunk_of s) (begun (head_of header)) chunk))) (records me).calls) posts
+              new_calls : calls_raised (chunk_of s) to (records me).stage (records me).calls ≡ (records me).calls ++ post_to to (message_of (with_chunk (chunk_of s) (fresh_message (head_of header)) chunk)) ∷ []
+              new_calls = ap (λ (st : Stage). calls_raised (chunk_of s) to st (records me).calls) is ∙ ap (λ (b : Bool). finished_if b (post_to to (message_of (with_chunk (chunk_of s) (fresh_message (head_of header)) chunk))) (records me).calls) posts
 
               new_stage : raise_sent to (records me).stage ≡ Idle
-              new_stage = ap (raise_sent to) is ∙ ap (λ (b : Bool). if b then Idle else Sending to Raised (begun (head_of header)) chunk) posts
+              new_stage = ap (raise_sent to) is ∙ ap (λ (b : Bool). if b then Idle else Sending to Raised (fresh_message (head_of header)) chunk) posts
 
               new_post : post_raised to (records me).stage (records me).post ≡ Some (record { to = to; head = head_of header; chunk = chunk; is_answered = false })
               new_post = ap (λ (st : Stage). post_raised to st (records me).post) is ∙ ap (λ (b : Bool). if b then Some (record { to = to; head = head_of header; chunk = chunk; is_answered = false }) else (records me).post) posts
 
               received : (k : ℕ) → received_messages k (calls_raised (chunk_of s) to (records me).stage (records me).calls) ≡ received_messages k (records me).calls
-              received k = ap (received_messages k) new_calls ∙ received_messages-post k (records me).calls to (message_of (with_chunk (chunk_of s) (begun (head_of header)) chunk))
+              received k = ap (received_messages k) new_calls ∙ received_messages-post k (records me).calls to (message_of (with_chunk (chunk_of s) (fresh_message (head_of header)) chunk))
 
-              gain : passed_calls s (next_of (RaiseSignal Sent to)) me ≡ passed_calls s records me ++ post_to to (message_of (with_chunk (chunk_of s) (begun (head_of header)) chunk)) ∷ []
+              gain : passed_calls s (next_of (RaiseSignal Sent to)) me ≡ passed_calls s records me ++ post_to to (message_of (with_chunk (chunk_of s) (fresh_message (head_of header)) chunk)) ∷ []
               gain =
                   passed_now s me records (new_of (RaiseSignal Sent to)) refl bars
                   ∙ ap₂ (λ (l : List DataCall) (st : Stage). l ++ passed_open s me st (next_of (RaiseSignal Sent to))) new_calls new_stage
-                  ∙ append-nil ((records me).calls ++ post_to to (message_of (with_chunk (chunk_of s) (begun (head_of header)) chunk)) ∷ [])
-                  ∙ ap (λ (l : List DataCall). l ++ post_to to (message_of (with_chunk (chunk_of s) (begun (head_of header)) chunk)) ∷ []) (sym (ap (λ (st : Stage). (records me).calls ++ passed_open s me st records) is ∙ append-nil (records me).calls))
+                  ∙ append-nil ((records me).calls ++ post_to to (message_of (with_chunk (chunk_of s) (fresh_message (head_of header)) chunk)) ∷ [])
+                  ∙ ap (λ (l : List DataCall). l ++ post_to to (message_of (with_chunk (chunk_of s) (fresh_message (head_of header)) chunk)) ∷ []) (sym (ap (λ (st : Stage). (records me).calls ++ passed_open s me st records) is ∙ append-nil (records me).calls))
 
               apart : (length (received_messages me (next_of (RaiseSignal Sent to) to).calls) == length (sent_messages to (next_of (RaiseSignal Sent to) me).calls)) ≡ false
               apart =
                   ap₂ (λ (a b : List Message). length a == length b)
                   (received_at s me records (new_of (RaiseSignal Sent to)) refl bars me (received me) to)
-                  (sent_now s me records (new_of (RaiseSignal Sent to)) refl bars to ∙ ap (sent_messages to) new_calls ∙ sent_messages-post to (records me).calls to (message_of (with_chunk (chunk_of s) (begun (head_of header)) chunk))
-                  ∙ message_here (sent_messages to (records me).calls) to to (message_of (with_chunk (chunk_of s) (begun (head_of header)) chunk)) (test_same to to refl))
-                  ∙ test_apart (length (received_messages me (records to).calls)) (length (sent_messages to (records me).calls ++ message_of (with_chunk (chunk_of s) (begun (head_of header)) chunk) ∷ []))
-                  (λ same. let longer = one_more (sent_messages to (records me).calls) (message_of (with_chunk (chunk_of s) (begun (head_of header)) chunk)) in let even = ap length at_level in absurd (omega (arith, same, longer, even)))
+                  (sent_now s me records (new_of (RaiseSignal Sent to)) refl bars to ∙ ap (sent_messages to) new_calls ∙ sent_messages-post to (records me).calls to (message_of (with_chunk (chunk_of s) (fresh_message (head_of header)) chunk))
+                  ∙ message_here (sent_messages to (records me).calls) to to (message_of (with_chunk (chunk_of s) (fresh_message (head_of header)) chunk)) (test_same to to refl))
+                  ∙ test_apart (length (received_messages me (records to).calls)) (length (sent_messages to (records me).calls ++ message_of (with_chunk (chunk_of s) (fresh_message (head_of header)) chunk) ∷ []))
+                  (λ same. let longer = one_more (sent_messages to (records me).calls) (message_of (with_chunk (chunk_of s) (fresh_message (head_of header)) chunk)) in let even = ap length at_level in absurd (omega (arith, same, longer, even)))
 
-              full : slot_of s (next_of (RaiseSignal Sent to)) me ≡ Some (record { to = to; head = head_of header; bytes = (with_chunk (chunk_of s) (begun (head_of header)) chunk).bytes })
+              full : slot_of s (next_of (RaiseSignal Sent to)) me ≡ Some (record { to = to; head = head_of header; bytes = (with_chunk (chunk_of s) (fresh_message (head_of header)) chunk).bytes })
               full =
                   slot_now s me records (new_of (RaiseSignal Sent to)) refl bars
                   ∙ ap (λ (p : Option OnItsWay). slot_by (chunk_of s) me p (next_of (RaiseSignal Sent to))) new_post
-                  ∙ ap (λ (b : Bool). if b then None else Some (record { to = to; head = head_of header; bytes = (with_chunk (chunk_of s) (begun (head_of header)) chunk).bytes })) apart
+                  ∙ ap (λ (b : Bool). if b then None else Some (record { to = to; head = head_of header; bytes = (with_chunk (chunk_of s) (fresh_message (head_of header)) chunk).bytes })) apart
       by_stage (Sending j Filling message chunk) is =
           quiet s me records (new_of (RaiseSignal Sent to)) refl bars
           (ap (λ (st : Stage). calls_raised (chunk_of s) to st (records me).calls) is)
@@ -148,8 +148,8 @@ module _ (s : SetupView) (me : ℕ) (view : View) (records : ℕ → Record) (lo
           at_level : received_messages me (records to).calls ≡ sent_messages to (records me).calls
           at_level = level (Some message) (ap (λ (st : Stage). sending_side to st (records me).post) is ∙ sending_here to j Filling message chunk (records me).post here)
 
-          not_yet : is_received me j records ≡ false
-          not_yet = ap (λ (k : ℕ). is_received me k records) (same_by_eqb j to here) ∙ not_received (received_messages me (records to).calls) (sent_messages to (records me).calls) at_level
+          not_yet : is_received_ahead me j records ≡ false
+          not_yet = ap (λ (k : ℕ). is_received_ahead me k records) (same_by_eqb j to here) ∙ not_received (received_messages me (records to).calls) (sent_messages to (records me).calls) at_level
       by_stage Idle is = not_allowed Idle is refl
       by_stage (Sending j Raised message chunk) is = not_allowed (Sending j Raised message chunk) is refl
       by_stage (Sending j Answered message chunk) is = not_allowed (Sending j Answered message chunk) is refl
@@ -181,7 +181,7 @@ module _ (s : SetupView) (me : ℕ) (view : View) (records : ℕ → Record) (lo
       settled None is answered side = absurd (true≢false (sym answered))
       settled (Some p) is answered side =
           ap (λ (o : Option OnItsWay). slot_by (chunk_of s) me o records) is
-          ∙ ap (λ (b : Bool). if b then None else Some (record { to = p.to; head = p.head; bytes = (with_chunk (chunk_of s) (begun p.head) p.chunk).bytes }))
+          ∙ ap (λ (b : Bool). if b then None else Some (record { to = p.to; head = p.head; bytes = (with_chunk (chunk_of s) (fresh_message p.head) p.chunk).bytes }))
           (ap (λ (j : ℕ). length (received_messages me (records j).calls) == length (sent_messages j (records me).calls)) target
           ∙ test_same (length (received_messages me (records by).calls)) (length (sent_messages by (records me).calls)) (ap length level))
         where
@@ -194,18 +194,18 @@ module _ (s : SetupView) (me : ℕ) (view : View) (records : ℕ → Record) (lo
           was_answered : p.is_answered ≡ true
           was_answered = both_second (p.to == by) p.is_answered answered
 
-          sending : sending_side by (records me).stage (records me).post ≡ Offering true true (begun p.head) p.chunk
-          sending = side ∙ post_here by p here ∙ ap (λ (b : Bool). Offering b true (begun p.head) p.chunk) was_answered
+          sending : sending_side by (records me).stage (records me).post ≡ Offering true true (fresh_message p.head) p.chunk
+          sending = side ∙ post_here by p here ∙ ap (λ (b : Bool). Offering b true (fresh_message p.head) p.chunk) was_answered
 
-          ready : (through : Option Progress) × IsReady (chunk_of s) (pair_of me by view (records me) (records by)) through true true (begun p.head) p.chunk
-          ready = when_answered (chunk_of s) (pair_of me by view (records me) (records by)) true (begun p.head) p.chunk sending (pairs me by peers)
+          ready : (through : Option Progress) × IsReady (chunk_of s) (pair_of me by view (records me) (records by)) through true true (fresh_message p.head) p.chunk
+          ready = when_answered (chunk_of s) (pair_of me by view (records me) (records by)) true (fresh_message p.head) p.chunk sending (pairs me by peers)
 
-          arrived : (b : Bool) → HasArrived b (chunk_of s) true (begun p.head) p.chunk ready.0 (sent_messages by (records me).calls) (received_messages me (records by).calls) → received_messages me (records by).calls ≡ sent_messages by (records me).calls
+          arrived : (b : Bool) → HasArrived b (chunk_of s) true (fresh_message p.head) p.chunk ready.0 (sent_messages by (records me).calls) (received_messages me (records by).calls) → received_messages me (records by).calls ≡ sent_messages by (records me).calls
           arrived true has = has.1 ∙ append-nil (sent_messages by (records me).calls)
           arrived false has = has.1
 
           level : received_messages me (records by).calls ≡ sent_messages by (records me).calls
-          level = arrived (is_last (chunk_of s) (begun p.head)) ready.1.arrived
+          level = arrived (is_last (chunk_of s) (fresh_message p.head)) ready.1.arrived
 
       a_post : (st : Stage) → (records me).stage ≡ st → lower_ready (chunk_of s) st ≡ st → calls_sent (chunk_of s) st (records me).calls ≡ (records me).calls → sending_side by st (records me).post ≡ side_of_post by (records me).post → may_go_on by st (records me).post ≡ is_answered_by by (records me).post → GrowsBy (LowerSignal Ready by)
       a_post st is same_stage same_calls side asks =
@@ -249,15 +249,15 @@ module _ (s : SetupView) (me : ℕ) (view : View) (records : ℕ → Record) (lo
               arrived : HasArrived false (chunk_of s) false message chunk ready.0 (sent_messages by (records me).calls) (received_messages me (records by).calls)
               arrived = subst (λ (b : Bool). HasArrived b (chunk_of s) false message chunk ready.0 (sent_messages by (records me).calls) (received_messages me (records by).calls)) more ready.1.arrived
 
-              not_yet : is_received me j records ≡ false
-              not_yet = ap (λ (k : ℕ). is_received me k records) target ∙ not_received (received_messages me (records by).calls) (sent_messages by (records me).calls) arrived.1
+              not_yet : is_received_ahead me j records ≡ false
+              not_yet = ap (λ (k : ℕ). is_received_ahead me k records) target ∙ not_received (received_messages me (records by).calls) (sent_messages by (records me).calls) arrived.1
           by_last true last = ByNothing calls slots
             where
               arrived : HasArrived true (chunk_of s) false message chunk ready.0 (sent_messages by (records me).calls) (received_messages me (records by).calls)
               arrived = subst (λ (b : Bool). HasArrived b (chunk_of s) false message chunk ready.0 (sent_messages by (records me).calls) (received_messages me (records by).calls)) last ready.1.arrived
 
-              through : is_received me j records ≡ true
-              through = ap (λ (k : ℕ). is_received me k records) target
+              through : is_received_ahead me j records ≡ true
+              through = ap (λ (k : ℕ). is_received_ahead me k records) target
                   ∙ test_same (length (received_messages me (records by).calls)) (suc (length (sent_messages by (records me).calls)))
                   (ap length arrived.1 ∙ one_more (sent_messages by (records me).calls) (message_of (with_chunk (chunk_of s) message chunk)))
 
@@ -324,12 +324,12 @@ module _ (s : SetupView) (me : ℕ) (view : View) (records : ℕ → Record) (lo
   message_grows Misplaced step other = kept_quiet Misplaced refl (λ comm. refl) refl refl refl
 
 pub message_calls : (s : SetupView) (me : ℕ) (view : View) (records : ℕ → Record) (move : Move) → IsSetup s → IsViewStep s me view (records me) move → RecordsAgree s records → PairsAgree s view records → SendersAgree s view records → is_barrier_move move ≡ false
-    → Grows s.nue (setup_key s) (passed_calls s records) (slot_of s records) (passed_calls s (put records me (after (chunk_of s) move (records me)))) (slot_of s (put records me (after (chunk_of s) move (records me))))
+    → Grows s.nue (setup_key s) (passed_calls s records) (slot_of s records) (passed_calls s (table_with records me (after (chunk_of s) move (records me)))) (slot_of s (table_with records me (after (chunk_of s) move (records me))))
 message_calls s me view records move setup step consistent pairs senders other = message_grows s me view records step.rank consistent pairs senders move step other
 
 -- every move adds to the passed calls nothing, or the calls of one step
 pub calls_grow : (s : SetupView) (me : ℕ) (view : View) (records : ℕ → Record) (move : Move) → IsSetup s → IsViewStep s me view (records me) move → RecordsAgree s records → PairsAgree s view records → SendersAgree s view records → GroupsAgree s view records
-    → Grows s.nue (setup_key s) (passed_calls s records) (slot_of s records) (passed_calls s (put records me (after (chunk_of s) move (records me)))) (slot_of s (put records me (after (chunk_of s) move (records me))))
+    → Grows s.nue (setup_key s) (passed_calls s records) (slot_of s records) (passed_calls s (table_with records me (after (chunk_of s) move (records me)))) (slot_of s (table_with records me (after (chunk_of s) move (records me))))
 calls_grow s me view records move setup step consistent pairs senders groups =
     ⊎_elim
     (λ (barrier : is_barrier_move move ≡ true). barrier_calls s me view records move setup step consistent groups barrier)

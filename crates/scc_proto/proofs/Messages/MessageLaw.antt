@@ -2,11 +2,11 @@
 use Rattle.std.proofs.Common.{◌≡◌, ◌⊎◌, ℕ, ◌==◌, Bool, true, false, true≢false, if◌then◌else◌, List, [], ◌∷◌, ◌++◌, length, Option, Some, None, inl, inr, refl, sym, ◌∙◌, ap, append-nil}
 use Rattle.scc_base.specs.Calls.{DataCall, Send, Recv, Post, Bar, Message}
 use Rattle.scc_base.specs.Setups.{SetupView, setup_key}
-use Rattle.scc_proto.specs.Messages.{begun, with_chunk, message_of, sent_messages, received_messages, send_to}
+use Rattle.scc_proto.specs.Messages.{fresh_message, with_chunk, message_of, sent_messages, received_messages, send_to}
 use Rattle.scc_proto.specs.Stages.{Stage, Idle, Drafting, Sending, Between, Taking, Barrier, OnItsWay, Record}
 use Rattle.scc_proto.specs.Singles.{IsConsistent, IsPosted, is_free}
 use Rattle.scc_proto.specs.Records.{chunk_of}
-use Rattle.scc_proto.specs.Passed.{in_hand, passed_open, passed_calls, slot_by, slot_of, is_received, is_gathered}
+use Rattle.scc_proto.specs.Passed.{in_hand, passed_open, passed_calls, slot_by, slot_of, is_received_ahead, is_gathered}
 use Rattle.scc_proto.specs.PairMessages.{open_message, posted_message, PairMessages, AllReceived, OpenReceived, OnItsWayYet}
 use Rattle.scc_proto.specs.Legality.{slot_message}
 use Rattle.scc_proto.specs.Agreement.{CallsAgree}
@@ -45,7 +45,7 @@ received_messages-append i (Bar c ∷ l) more = received_messages-append i l mor
 none_received : (s : SetupView) (i me : ℕ) (stage : Stage) (records : ℕ → Record) → received_messages i (passed_open s me stage records) ≡ []
 none_received s i me Idle records = refl
 none_received s i me (Drafting header chunk) records = refl
-none_received s i me (Sending to part message chunk) records = none (is_received me to records)
+none_received s i me (Sending to part message chunk) records = none (is_received_ahead me to records)
   where
     none : (b : Bool) → received_messages i (if b then send_to to (message_of (in_hand (chunk_of s) part message chunk)) ∷ [] else []) ≡ []
     none true = refl
@@ -77,7 +77,7 @@ open_sent : (s : SetupView) (r me : ℕ) (records : ℕ → Record) (stage : Sta
     → (sent_messages r (passed_open s me stage records) ≡ []) ⊎ ((m : Message) × (open_message (chunk_of s) r stage ≡ Some m) × (sent_messages r (passed_open s me stage records) ≡ m ∷ []) × (post ≡ None))
 open_sent s r me records Idle post posted = inl refl
 open_sent s r me records (Drafting header chunk) post posted = inl refl
-open_sent s r me records (Sending to part message chunk) post posted = sends (is_received me to records) (to == r) refl
+open_sent s r me records (Sending to part message chunk) post posted = sends (is_received_ahead me to records) (to == r) refl
   where
     sends : (b at : Bool) → at ≡ (to == r)
         → (sent_messages r (if b then send_to to (message_of (in_hand (chunk_of s) part message chunk)) ∷ [] else []) ≡ [])
@@ -106,16 +106,16 @@ slot_sent s r me records None = inl refl
 slot_sent s r me records (Some post) = stands (length (received_messages me (records post.to).calls) == length (sent_messages post.to (records me).calls)) (post.to == r) refl
   where
     stands : (b at : Bool) → at ≡ (post.to == r)
-        → (slot_message r (if b then None else Some (record { to = post.to; head = post.head; bytes = (with_chunk (chunk_of s) (begun post.head) post.chunk).bytes })) ≡ [])
-        ⊎ ((m : Message) × ((if post.to == r then Some (message_of (with_chunk (chunk_of s) (begun post.head) post.chunk)) else None) ≡ Some m) × (slot_message r (if b then None else Some (record { to = post.to; head = post.head; bytes = (with_chunk (chunk_of s) (begun post.head) post.chunk).bytes })) ≡ m ∷ []))
+        → (slot_message r (if b then None else Some (record { to = post.to; head = post.head; bytes = (with_chunk (chunk_of s) (fresh_message post.head) post.chunk).bytes })) ≡ [])
+        ⊎ ((m : Message) × ((if post.to == r then Some (message_of (with_chunk (chunk_of s) (fresh_message post.head) post.chunk)) else None) ≡ Some m) × (slot_message r (if b then None else Some (record { to = post.to; head = post.head; bytes = (with_chunk (chunk_of s) (fresh_message post.head) post.chunk).bytes })) ≡ m ∷ []))
     stands true at is = inl refl
     stands false true is =
         inr (
-          message_of (with_chunk (chunk_of s) (begun post.head) post.chunk),
-          ap (λ (b : Bool). if b then Some (message_of (with_chunk (chunk_of s) (begun post.head) post.chunk)) else None) (sym is),
-          ap (λ (b : Bool). if b then message_of (with_chunk (chunk_of s) (begun post.head) post.chunk) ∷ [] else []) (sym is),
+          message_of (with_chunk (chunk_of s) (fresh_message post.head) post.chunk),
+          ap (λ (b : Bool). if b then Some (message_of (with_chunk (chunk_of s) (fresh_message post.head) post.chunk)) else None) (sym is),
+          ap (λ (b : Bool). if b then message_of (with_chunk (chunk_of s) (fresh_message post.head) post.chunk) ∷ [] else []) (sym is),
         )
-    stands false false is = inl (ap (λ (b : Bool). if b then message_of (with_chunk (chunk_of s) (begun post.head) post.chunk) ∷ [] else []) (sym is))
+    stands false false is = inl (ap (λ (b : Bool). if b then message_of (with_chunk (chunk_of s) (fresh_message post.head) post.chunk) ∷ [] else []) (sym is))
 
 pub pair_messages : (s : SetupView) (from to : ℕ) (records : ℕ → Record) → CallsAgree s records → IsConsistent s from (records from) → PairMessages s from to records
 pair_messages s from to records legal consistent =

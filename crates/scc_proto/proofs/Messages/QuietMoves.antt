@@ -4,14 +4,14 @@ use Rattle.std.proofs.lemmas.Bool.Decides.{nat_tests}
 use Rattle.scc_base.specs.Calls.{DataCall, Bar, Message}
 use Rattle.scc_base.specs.Setups.{SetupView, setup_key, root_of}
 use Rattle.scc_base.proofs.Confluence.{equal_or_not}
-use Rattle.scc_proto.specs.Tables.{put}
-use Rattle.scc_proto.specs.Messages.{Notes, Progress, begun, with_chunk, message_of, sent_messages, received_messages, send_to, note_word}
+use Rattle.scc_proto.specs.Tables.{table_with}
+use Rattle.scc_proto.specs.Messages.{Notes, Progress, fresh_message, with_chunk, message_of, sent_messages, received_messages, send_to, note_word}
 use Rattle.scc_proto.specs.Stages.{Part, Filling, Raised, Answered, Stage, Idle, Drafting, Sending, Between, Taking, Barrier, OnItsWay, Record}
 use Rattle.scc_proto.specs.Moves.{draft_header, draft_chunk, read_chunk, lower_sent, look_ready, post_answered}
 use Rattle.scc_proto.specs.Records.{chunk_of, last_of}
 use Rattle.scc_proto.specs.Pairs.{Resting, Offering, sending_side, side_of_part, side_of_post}
 use Rattle.scc_proto.specs.Singles.{IsPosted, is_free}
-use Rattle.scc_proto.specs.Passed.{in_hand, gathered, is_gathered, passed_open, passed_calls, slot_by, slot_of}
+use Rattle.scc_proto.specs.Passed.{in_hand, gathered_barriers, is_gathered, passed_open, passed_calls, slot_by, slot_of}
 use Rattle.scc_proto.specs.Legality.{Grows, ByNothing}
 use Rattle.scc_proto.proofs.Barriers.BarrierFacts.{Counts, gathered-bar, bar_at, gathered_in}
 use Rattle.scc_proto.proofs.Barriers.GroupRanks.{put_here, put_there}
@@ -40,85 +40,85 @@ pub slot_at_rank : (s : SetupView) (k : ℕ) (post : Option OnItsWay) (old new :
     → slot_by (chunk_of s) k post new ≡ slot_by (chunk_of s) k post old
 slot_at_rank s k None old new received sent = refl
 slot_at_rank s k (Some post) old new received sent =
-    ap₂ (λ (a b : List Message). if length a == length b then None else Some (record { to = post.to; head = post.head; bytes = (with_chunk (chunk_of s) (begun post.head) post.chunk).bytes })) (received post.to) (sent post.to)
+    ap₂ (λ (a b : List Message). if length a == length b then None else Some (record { to = post.to; head = post.head; bytes = (with_chunk (chunk_of s) (fresh_message post.head) post.chunk).bytes })) (received post.to) (sent post.to)
 
 module _ (s : SetupView) (me : ℕ) (records : ℕ → Record) (new : Record) (flips : new.flips ≡ (records me).flips) (bars : (comm : ℕ) → bar_at comm new.stage ≡ bar_at comm (records me).stage) where
-  pub gathered_at : (comm n r : ℕ) → gathered comm n (put records me new r) ≡ gathered comm n (records r)
+  pub gathered_at : (comm n r : ℕ) → gathered_barriers comm n (table_with records me new r) ≡ gathered_barriers comm n (records r)
   gathered_at comm n r =
       ⊎_elim
       (λ (is : r ≡ me).
-      ap (gathered comm n) (put_here records me r new is) ∙ gathered-bar comm n new
+      ap (gathered_barriers comm n) (put_here records me r new is) ∙ gathered-bar comm n new
       ∙ ap₂ (λ (f : ℕ → ℕ) (b : Option Counts). gathered_in n (f comm) b) flips (bars comm)
-      ∙ sym (gathered-bar comm n (records me)) ∙ ap (λ (k : ℕ). gathered comm n (records k)) (sym is))
-      (λ (other : r ≢ me). ap (gathered comm n) (put_there records me r new other))
+      ∙ sym (gathered-bar comm n (records me)) ∙ ap (λ (k : ℕ). gathered_barriers comm n (records k)) (sym is))
+      (λ (other : r ≢ me). ap (gathered_barriers comm n) (put_there records me r new other))
       (equal_or_not r me)
 
-  pub flips_at_rank : (comm k : ℕ) → (put records me new k).flips comm ≡ (records k).flips comm
+  pub flips_at_rank : (comm k : ℕ) → (table_with records me new k).flips comm ≡ (records k).flips comm
   flips_at_rank comm k =
       ⊎_elim
       (λ (is : k ≡ me). ap (λ (rec : Record). rec.flips comm) (put_here records me k new is) ∙ ap (λ (f : ℕ → ℕ). f comm) flips ∙ ap (λ (j : ℕ). (records j).flips comm) (sym is))
       (λ (other : k ≢ me). ap (λ (rec : Record). rec.flips comm) (put_there records me k new other))
       (equal_or_not k me)
 
-  pub gathers_alike : (k comm : ℕ) → is_gathered s comm k (put records me new) ≡ is_gathered s comm k records
+  pub gathers_alike : (k comm : ℕ) → is_gathered s comm k (table_with records me new) ≡ is_gathered s comm k records
   gathers_alike k comm = ap₂ nat_le (flips_at_rank comm k) (gathered_at comm (last_of s comm k) (root_of s comm k))
 
-  pub received_at : (k : ℕ) → received_messages k new.calls ≡ received_messages k (records me).calls → (to : ℕ) → received_messages k (put records me new to).calls ≡ received_messages k (records to).calls
+  pub received_at : (k : ℕ) → received_messages k new.calls ≡ received_messages k (records me).calls → (to : ℕ) → received_messages k (table_with records me new to).calls ≡ received_messages k (records to).calls
   received_at k same to =
       ⊎_elim
       (λ (is : to ≡ me). ap (λ (rec : Record). received_messages k rec.calls) (put_here records me to new is) ∙ same ∙ ap (λ (j : ℕ). received_messages k (records j).calls) (sym is))
       (λ (other : to ≢ me). ap (λ (rec : Record). received_messages k rec.calls) (put_there records me to new other))
       (equal_or_not to me)
 
-  pub sent_at_rank : (k : ℕ) → k ≢ me → (to : ℕ) → sent_messages to (put records me new k).calls ≡ sent_messages to (records k).calls
+  pub sent_at_rank : (k : ℕ) → k ≢ me → (to : ℕ) → sent_messages to (table_with records me new k).calls ≡ sent_messages to (records k).calls
   sent_at_rank k other to = ap (λ (rec : Record). sent_messages to rec.calls) (put_there records me k new other)
 
   -- another rank passes and posts nothing
-  pub passed_stays : (k : ℕ) → k ≢ me → received_messages k new.calls ≡ received_messages k (records me).calls → passed_calls s (put records me new) k ≡ passed_calls s records k
+  pub passed_stays : (k : ℕ) → k ≢ me → received_messages k new.calls ≡ received_messages k (records me).calls → passed_calls s (table_with records me new) k ≡ passed_calls s records k
   passed_stays k other received =
-      ap (λ (rec : Record). rec.calls ++ passed_open s k rec.stage (put records me new)) (put_there records me k new other)
-      ∙ ap (λ (l : List DataCall). (records k).calls ++ l) (open_at s k (records k).stage records (put records me new) (received_at k received) (sent_at_rank k other) (gathers_alike k))
+      ap (λ (rec : Record). rec.calls ++ passed_open s k rec.stage (table_with records me new)) (put_there records me k new other)
+      ∙ ap (λ (l : List DataCall). (records k).calls ++ l) (open_at s k (records k).stage records (table_with records me new) (received_at k received) (sent_at_rank k other) (gathers_alike k))
 
-  pub slot_stays : (k : ℕ) → k ≢ me → received_messages k new.calls ≡ received_messages k (records me).calls → slot_of s (put records me new) k ≡ slot_of s records k
+  pub slot_stays : (k : ℕ) → k ≢ me → received_messages k new.calls ≡ received_messages k (records me).calls → slot_of s (table_with records me new) k ≡ slot_of s records k
   slot_stays k other received =
-      ap (λ (rec : Record). slot_by (chunk_of s) k rec.post (put records me new)) (put_there records me k new other)
-      ∙ slot_at_rank s k (records k).post records (put records me new) (received_at k received) (sent_at_rank k other)
+      ap (λ (rec : Record). slot_by (chunk_of s) k rec.post (table_with records me new)) (put_there records me k new other)
+      ∙ slot_at_rank s k (records k).post records (table_with records me new) (received_at k received) (sent_at_rank k other)
 
-  pub passed_now : passed_calls s (put records me new) me ≡ new.calls ++ passed_open s me new.stage (put records me new)
-  passed_now = ap (λ (rec : Record). rec.calls ++ passed_open s me rec.stage (put records me new)) (put_here records me me new refl)
+  pub passed_now : passed_calls s (table_with records me new) me ≡ new.calls ++ passed_open s me new.stage (table_with records me new)
+  passed_now = ap (λ (rec : Record). rec.calls ++ passed_open s me rec.stage (table_with records me new)) (put_here records me me new refl)
 
-  pub slot_now : slot_of s (put records me new) me ≡ slot_by (chunk_of s) me new.post (put records me new)
-  slot_now = ap (λ (rec : Record). slot_by (chunk_of s) me rec.post (put records me new)) (put_here records me me new refl)
+  pub slot_now : slot_of s (table_with records me new) me ≡ slot_by (chunk_of s) me new.post (table_with records me new)
+  slot_now = ap (λ (rec : Record). slot_by (chunk_of s) me rec.post (table_with records me new)) (put_here records me me new refl)
 
-  pub sent_now : (to : ℕ) → sent_messages to (put records me new me).calls ≡ sent_messages to new.calls
+  pub sent_now : (to : ℕ) → sent_messages to (table_with records me new me).calls ≡ sent_messages to new.calls
   sent_now to = ap (λ (rec : Record). sent_messages to rec.calls) (put_here records me me new refl)
 
   -- a move that finishes no call, and passes and posts nothing
   pub quiet : new.calls ≡ (records me).calls → slot_by (chunk_of s) me new.post records ≡ slot_by (chunk_of s) me (records me).post records → passed_open s me new.stage records ≡ passed_open s me (records me).stage records
-      → Grows s.nue (setup_key s) (passed_calls s records) (slot_of s records) (passed_calls s (put records me new)) (slot_of s (put records me new))
+      → Grows s.nue (setup_key s) (passed_calls s records) (slot_of s records) (passed_calls s (table_with records me new)) (slot_of s (table_with records me new))
   quiet calls post open_call = ByNothing passed slots
     where
       received : (k : ℕ) → received_messages k new.calls ≡ received_messages k (records me).calls
       received k = ap (received_messages k) calls
 
-      sent : (to : ℕ) → sent_messages to (put records me new me).calls ≡ sent_messages to (records me).calls
+      sent : (to : ℕ) → sent_messages to (table_with records me new me).calls ≡ sent_messages to (records me).calls
       sent to = sent_now to ∙ ap (sent_messages to) calls
 
-      passed : (k : ℕ) → passed_calls s (put records me new) k ≡ passed_calls s records k
+      passed : (k : ℕ) → passed_calls s (table_with records me new) k ≡ passed_calls s records k
       passed k =
           ⊎_elim
           (λ (is : k ≡ me).
-          subst (λ (j : ℕ). passed_calls s (put records me new) j ≡ passed_calls s records j) (sym is)
-          (passed_now ∙ ap₂ (λ (l more : List DataCall). l ++ more) calls (open_at s me new.stage records (put records me new) (received_at me (received me)) sent (gathers_alike me) ∙ open_call)))
+          subst (λ (j : ℕ). passed_calls s (table_with records me new) j ≡ passed_calls s records j) (sym is)
+          (passed_now ∙ ap₂ (λ (l more : List DataCall). l ++ more) calls (open_at s me new.stage records (table_with records me new) (received_at me (received me)) sent (gathers_alike me) ∙ open_call)))
           (λ (other : k ≢ me). passed_stays k other (received k))
           (equal_or_not k me)
 
-      slots : (k : ℕ) → slot_of s (put records me new) k ≡ slot_of s records k
+      slots : (k : ℕ) → slot_of s (table_with records me new) k ≡ slot_of s records k
       slots k =
           ⊎_elim
           (λ (is : k ≡ me).
-          subst (λ (j : ℕ). slot_of s (put records me new) j ≡ slot_of s records j) (sym is)
-          (slot_now ∙ slot_at_rank s me new.post records (put records me new) (received_at me (received me)) sent ∙ post))
+          subst (λ (j : ℕ). slot_of s (table_with records me new) j ≡ slot_of s records j) (sym is)
+          (slot_now ∙ slot_at_rank s me new.post records (table_with records me new) (received_at me (received me)) sent ∙ post))
           (λ (other : k ≢ me). slot_stays k other (received k))
           (equal_or_not k me)
 
@@ -191,7 +191,7 @@ offering_sends r st post message chunk is = by_stage st is
     none_posted None is = cc
     none_posted (Some p) is = by_test (p.to == r) is
       where
-        by_test : (b : Bool) → (if b then Offering p.is_answered true (begun p.head) p.chunk else Resting None) ≡ Offering false false message chunk → ⊥
+        by_test : (b : Bool) → (if b then Offering p.is_answered true (fresh_message p.head) p.chunk else Resting None) ≡ Offering false false message chunk → ⊥
         by_test true is = cc
         by_test false is = cc
 
@@ -217,7 +217,7 @@ pub record IsPostOf (r : ℕ) (post : Option OnItsWay) (message : Progress) (chu
   pub message_on_way : OnItsWay
   pub is : post ≡ Some message_on_way
   pub to : message_on_way.to ≡ r
-  pub begun_is : begun message_on_way.head ≡ message
+  pub begun_is : fresh_message message_on_way.head ≡ message
   pub chunk_is : message_on_way.chunk ≡ chunk
 
 pub offering_posts : (r : ℕ) (st : Stage) (post : Option OnItsWay) (a : Bool) (message : Progress) (chunk : Notes) → sending_side r st post ≡ Offering a true message chunk → IsPostOf r post message chunk
@@ -227,7 +227,7 @@ offering_posts r st post a message chunk is = by_stage st is
     by_post None is = absurd cc
     by_post (Some p) is = by_test (p.to == r) refl is
       where
-        by_test : (b : Bool) → (p.to == r) ≡ b → (if b then Offering p.is_answered true (begun p.head) p.chunk else Resting None) ≡ Offering a true message chunk → IsPostOf r (Some p) message chunk
+        by_test : (b : Bool) → (p.to == r) ≡ b → (if b then Offering p.is_answered true (fresh_message p.head) p.chunk else Resting None) ≡ Offering a true message chunk → IsPostOf r (Some p) message chunk
         by_test true at is = record { message_on_way = p; is = refl; to = grind (arith, nat_tests); begun_is = cc; chunk_is = cc }
         by_test false at is = absurd cc
 

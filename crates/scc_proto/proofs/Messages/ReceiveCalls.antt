@@ -4,8 +4,8 @@ use Rattle.scc_base.specs.Calls.{DataCall, Recv, Message}
 use Rattle.scc_base.specs.Setups.{SetupView, setup_key}
 use Rattle.scc_base.proofs.Confluence.{equal_or_not}
 use Rattle.scc_base.specs.declared.signals.Signal.TheVariants.{Ready}
-use Rattle.scc_proto.specs.Tables.{put}
-use Rattle.scc_proto.specs.Messages.{Notes, Progress, begun, with_chunk, message_of, sent_messages, received_messages, send_to, recv_from, is_last, is_whole, chunk_bytes, chunk_words, bytes_from}
+use Rattle.scc_proto.specs.Tables.{table_with}
+use Rattle.scc_proto.specs.Messages.{Notes, Progress, fresh_message, with_chunk, message_of, sent_messages, received_messages, send_to, recv_from, is_last, is_whole, chunk_bytes, chunk_words, bytes_from}
 use Rattle.scc_proto.specs.Stages.{Raised, Stage, Idle, Drafting, Sending, Between, Taking, Barrier, OnItsWay, Record}
 use Rattle.scc_proto.specs.Moves.{Move, RaiseSignal, raise_ready, finished_if, calls_received, after}
 use Rattle.scc_proto.specs.Permission.{has_taken}
@@ -14,7 +14,7 @@ use Rattle.scc_proto.specs.Records.{chunk_of}
 use Rattle.scc_proto.specs.Views.{View}
 use Rattle.scc_proto.specs.Pairs.{Offering, Awaiting, Receiving, pair_of, IsTaken, sending_side, taking_side, pending}
 use Rattle.scc_proto.specs.Singles.{IsPosted, is_free}
-use Rattle.scc_proto.specs.Passed.{is_received, passed_open, passed_calls, slot_by, slot_of}
+use Rattle.scc_proto.specs.Passed.{is_received_ahead, passed_open, passed_calls, slot_by, slot_of}
 use Rattle.scc_proto.specs.Agreement.{RecordsAgree, PairsAgree, SendersAgree}
 use Rattle.scc_proto.specs.Legality.{Grows}
 use Rattle.scc_proto.proofs.Messages.Growth.{grows_by_take, grows_by_pair}
@@ -34,7 +34,7 @@ module _ (s : SetupView) (me : ℕ) (view : View) (records : ℕ → Record) (lo
   new_of move = after (chunk_of s) move (records me)
 
   abbrev next_of : Move → ℕ → Record
-  next_of move = put records me (new_of move)
+  next_of move = table_with records me (new_of move)
 
   abbrev GrowsBy : Move → Type 0
   GrowsBy move = Grows s.nue (setup_key s) (passed_calls s records) (slot_of s records) (passed_calls s (next_of move)) (slot_of s (next_of move))
@@ -171,7 +171,7 @@ module _ (s : SetupView) (me : ℕ) (view : View) (records : ℕ → Record) (lo
                       ∙ ap (λ (b : Bool). (records to).calls ++ (if b then send_to me (message_of (with_chunk (chunk_of s) message taken.1)) ∷ [] else [])) (not_received (received_messages to (records me).calls) (sent_messages me (records to).calls) (sym level))
                       ∙ append-nil (records to).calls
 
-                  through : is_received to me (next_of (RaiseSignal Ready to)) ≡ true
+                  through : is_received_ahead to me (next_of (RaiseSignal Ready to)) ≡ true
                   through =
                       ap₂ (λ (a b : List Message). length a == suc (length b)) received_here (sent_at_rank s me records (new_of (RaiseSignal Ready to)) refl bars to apart me)
                       ∙ test_same (length (received_messages to (records me).calls ++ message_of (with_chunk (chunk_of s) message taken.1) ∷ [])) (suc (length (sent_messages me (records to).calls)))
@@ -197,7 +197,7 @@ module _ (s : SetupView) (me : ℕ) (view : View) (records : ℕ → Record) (lo
               a_take : taken.0 ≡ true → GrowsBy (RaiseSignal Ready to)
               a_take posts =
                   grows_by_take s.nue (setup_key s) (passed_calls s records) (passed_calls s (next_of (RaiseSignal Ready to))) (slot_of s records) (slot_of s (next_of (RaiseSignal Ready to))) to
-                  (record { to = on_way.to; head = on_way.head; bytes = (with_chunk (chunk_of s) (begun on_way.head) on_way.chunk).bytes })
+                  (record { to = on_way.to; head = on_way.head; bytes = (with_chunk (chunk_of s) (fresh_message on_way.head) on_way.chunk).bytes })
                   full gain stay empty slot_else
                 where
                   sending : sending_side me (records to).stage (records to).post ≡ Offering false true message taken.1
@@ -209,16 +209,16 @@ module _ (s : SetupView) (me : ℕ) (view : View) (records : ℕ → Record) (lo
                   on_way : OnItsWay
                   on_way = posted.message_on_way
 
-                  whole_message : with_chunk (chunk_of s) message taken.1 ≡ with_chunk (chunk_of s) (begun on_way.head) on_way.chunk
+                  whole_message : with_chunk (chunk_of s) message taken.1 ≡ with_chunk (chunk_of s) (fresh_message on_way.head) on_way.chunk
                   whole_message = sym (ap₂ (λ (m : Progress) (c : Notes). with_chunk (chunk_of s) m c) posted.begun_is posted.chunk_is)
 
                   level : sent_messages me (records to).calls ≡ received_messages to (records me).calls ++ message_of (with_chunk (chunk_of s) message taken.1) ∷ []
                   level = taken.2.level ∙ ap (λ (b : Bool). received_messages to (records me).calls ++ pending (chunk_of s) b message taken.1) posts
 
-                  full : slot_of s records to ≡ Some (record { to = on_way.to; head = on_way.head; bytes = (with_chunk (chunk_of s) (begun on_way.head) on_way.chunk).bytes })
+                  full : slot_of s records to ≡ Some (record { to = on_way.to; head = on_way.head; bytes = (with_chunk (chunk_of s) (fresh_message on_way.head) on_way.chunk).bytes })
                   full =
                       ap (λ (p : Option OnItsWay). slot_by (chunk_of s) to p records) posted.is
-                      ∙ ap (λ (b : Bool). if b then None else Some (record { to = on_way.to; head = on_way.head; bytes = (with_chunk (chunk_of s) (begun on_way.head) on_way.chunk).bytes }))
+                      ∙ ap (λ (b : Bool). if b then None else Some (record { to = on_way.to; head = on_way.head; bytes = (with_chunk (chunk_of s) (fresh_message on_way.head) on_way.chunk).bytes }))
                       (ap (λ (j : ℕ). length (received_messages to (records j).calls) == length (sent_messages j (records to).calls)) posted.to
                       ∙ test_apart (length (received_messages to (records me).calls)) (length (sent_messages me (records to).calls))
                       (λ same. let longer = one_more (received_messages to (records me).calls) (message_of (with_chunk (chunk_of s) message taken.1)) in let even = ap length level in absurd (omega (arith, same, longer, even))))
@@ -227,14 +227,14 @@ module _ (s : SetupView) (me : ℕ) (view : View) (records : ℕ → Record) (lo
                   empty =
                       ap (λ (rec : Record). slot_by (chunk_of s) to rec.post (next_of (RaiseSignal Ready to))) (put_there records me to (new_of (RaiseSignal Ready to)) apart)
                       ∙ ap (λ (p : Option OnItsWay). slot_by (chunk_of s) to p (next_of (RaiseSignal Ready to))) posted.is
-                      ∙ ap (λ (b : Bool). if b then None else Some (record { to = on_way.to; head = on_way.head; bytes = (with_chunk (chunk_of s) (begun on_way.head) on_way.chunk).bytes }))
+                      ∙ ap (λ (b : Bool). if b then None else Some (record { to = on_way.to; head = on_way.head; bytes = (with_chunk (chunk_of s) (fresh_message on_way.head) on_way.chunk).bytes }))
                       (ap (λ (j : ℕ). length (received_messages to (next_of (RaiseSignal Ready to) j).calls) == length (sent_messages j (next_of (RaiseSignal Ready to) to).calls)) posted.to
                       ∙ ap₂ (λ (a b : List Message). length a == length b) received_here (sent_at_rank s me records (new_of (RaiseSignal Ready to)) refl bars to apart me ∙ level)
                       ∙ test_same (length (received_messages to (records me).calls ++ message_of (with_chunk (chunk_of s) message taken.1) ∷ [])) (length (received_messages to (records me).calls ++ message_of (with_chunk (chunk_of s) message taken.1) ∷ [])) refl)
 
-                  gain : passed_calls s (next_of (RaiseSignal Ready to)) on_way.to ≡ passed_calls s records on_way.to ++ Recv to on_way.head (with_chunk (chunk_of s) (begun on_way.head) on_way.chunk).bytes ∷ []
+                  gain : passed_calls s (next_of (RaiseSignal Ready to)) on_way.to ≡ passed_calls s records on_way.to ++ Recv to on_way.head (with_chunk (chunk_of s) (fresh_message on_way.head) on_way.chunk).bytes ∷ []
                   gain =
-                      subst (λ (j : ℕ). passed_calls s (next_of (RaiseSignal Ready to)) j ≡ passed_calls s records j ++ Recv to on_way.head (with_chunk (chunk_of s) (begun on_way.head) on_way.chunk).bytes ∷ []) (sym posted.to)
+                      subst (λ (j : ℕ). passed_calls s (next_of (RaiseSignal Ready to)) j ≡ passed_calls s records j ++ Recv to on_way.head (with_chunk (chunk_of s) (fresh_message on_way.head) on_way.chunk).bytes ∷ []) (sym posted.to)
                       (receives ∙ ap (λ (m : Progress). passed_calls s records me ++ recv_from to (message_of m) ∷ []) whole_message)
 
                   free : is_free (records to).stage ≡ true

@@ -13,7 +13,7 @@ use Rattle.scc_proto.specs.Words.{Memory, zeros, is_at, memory_after, RankEvent,
 use Rattle.scc_proto.specs.Records.{record_of}
 use Rattle.scc_proto.specs.Histories.{events_of, records_of, memory_from, IsPermittedRun}
 use Rattle.scc_proto.specs.Ports.{MayMakeAll, record_in}
-use Rattle.scc_proto.specs.Examples.{two_ranks_by, for_each, drafts_word, loads_word, drafts_head, begins_first, raises_ready, goes_second, two_chunks_by, bytes_of}
+use Rattle.scc_proto.specs.Examples.{two_ranks_by, for_numbers, drafts_word, loads_word, drafts_head, begins_first, raises_ready, goes_second, two_chunks_by, bytes_of_words}
 use Rattle.scc_proto.proofs.Tests.{same_or_other, eqb_same, eqb_other}
 use Rattle.scc_proto.proofs.PortLaws.{record_in-and_then}
 use Rattle.scc_proto.proofs.Layouts.Roles.{lt_is, lt_no}
@@ -64,36 +64,36 @@ one_more layout word memory mid n before = record { here = here; frame = frame; 
         let miss = below_chunk layout n core line w lt in
         (λ i. if miss i then word n else mid.word core line w) ∙ before.frame core line w lt
 
-drafted : (layout : Layout) (word : ℕ → ℕ) (memory : Memory) (n : ℕ) → Drafted layout word memory (memory_from memory (for_each (drafts_word layout word) n)) n
-unfolding for_each
+drafted : (layout : Layout) (word : ℕ → ℕ) (memory : Memory) (n : ℕ) → Drafted layout word memory (memory_from memory (for_numbers (drafts_word layout word) n)) n
+unfolding for_numbers
 drafted layout word memory zero = record { here = λ k lt. absurd (omega (arith, lt)); frame = λ core line w lt. refl; registers = λ core. refl }
 drafted layout word memory (suc n) =
-    let mid = memory_from memory (for_each (drafts_word layout word) n) in
-    subst (λ (m : Memory). Drafted layout word memory m (suc n)) (sym (memory_from-append memory (for_each (drafts_word layout word) n) (drafts_word layout word n ∷ [])))
+    let mid = memory_from memory (for_numbers (drafts_word layout word) n) in
+    subst (λ (m : Memory). Drafted layout word memory m (suc n)) (sym (memory_from-append memory (for_numbers (drafts_word layout word) n) (drafts_word layout word n ∷ [])))
     (one_more layout word memory mid n (drafted layout word memory n))
 
-drafted_steps : (layout : Layout) (word : ℕ → ℕ) (memory : Memory) (n : ℕ) → IsRun memory (for_each (drafts_word layout word) n)
-unfolding for_each
+drafted_steps : (layout : Layout) (word : ℕ → ℕ) (memory : Memory) (n : ℕ) → IsRun memory (for_numbers (drafts_word layout word) n)
+unfolding for_numbers
 drafted_steps layout word memory zero = tt
-drafted_steps layout word memory (suc n) = run-append memory (for_each (drafts_word layout word) n) (drafts_word layout word n ∷ []) (drafted_steps layout word memory n) (tt, tt)
+drafted_steps layout word memory (suc n) = run-append memory (for_numbers (drafts_word layout word) n) (drafts_word layout word n ∷ []) (drafted_steps layout word memory n) (tt, tt)
 
 -- loads of words that stand change nothing
 loaded_steps : (layout : Layout) (word : ℕ → ℕ) (memory : Memory) (n : ℕ) → ((k : ℕ) → k < n → memory.word 0 (first_chunk layout + k / 4) (k % 4) ≡ word k)
-    → IsRun memory (for_each (loads_word layout word) n) × (memory_from memory (for_each (loads_word layout word) n) ≡ memory)
-unfolding for_each
+    → IsRun memory (for_numbers (loads_word layout word) n) × (memory_from memory (for_numbers (loads_word layout word) n) ≡ memory)
+unfolding for_numbers
 loaded_steps layout word memory zero stands = (tt, refl)
 loaded_steps layout word memory (suc n) stands =
     let before = loaded_steps layout word memory n (λ k lt. stands k (omega (arith, lt))) in
     let read = subst (λ (m : Memory). m.word 0 (first_chunk layout + n / 4) (n % 4) ≡ word n) (sym before.1) (stands n (omega arith)) in (
-      run-append memory (for_each (loads_word layout word) n) (loads_word layout word n ∷ []) before.0 (read, tt),
-      memory_from-append memory (for_each (loads_word layout word) n) (loads_word layout word n ∷ []) ∙ before.1,
+      run-append memory (for_numbers (loads_word layout word) n) (loads_word layout word n ∷ []) before.0 (read, tt),
+      memory_from-append memory (for_numbers (loads_word layout word) n) (loads_word layout word n ∷ []) ∙ before.1,
     )
 
 abbrev head_memory : Layout → Memory
 head_memory layout = memory_from zeros (drafts_head layout)
 
 abbrev drafted_memory : Layout → (ℕ → ℕ) → Memory
-drafted_memory layout word = memory_from (head_memory layout) (for_each (drafts_word layout word) (words_in layout))
+drafted_memory layout word = memory_from (head_memory layout) (for_numbers (drafts_word layout word) (words_in layout))
 
 -- the memory with the first chunk drafted, whose lines before the chunk buffer and registers compute
 abbrev chunk_memory : Layout → (ℕ → ℕ) → Memory
@@ -140,8 +140,8 @@ chunk_begun BitFlags word k lt = chunk_here BitFlags word k lt
 
 pub chunks_run : (layout : Layout) (word : ℕ → ℕ) → IsRun zeros (two_chunks_by layout word)
 chunks_run layout word =
-    let drafted_words = for_each (drafts_word layout word) (words_in layout) in
-    let loaded_words = for_each (loads_word layout word) (words_in layout) in
+    let drafted_words = for_numbers (drafts_word layout word) (words_in layout) in
+    let loaded_words = for_numbers (loads_word layout word) (words_in layout) in
     let last = raises_ready layout ++ goes_second layout in
     let loads_are = loaded_steps layout word (begun_memory layout word) (words_in layout) (chunk_begun layout word) in
     run-append zeros (drafts_head layout) (drafted_words ++ (begins_first layout ++ (loaded_words ++ last))) (tt, (tt, (tt, (tt, tt))))
@@ -153,10 +153,10 @@ chunks_run layout word =
 -- ---- the lists of both ranks
 
 abbrev own_drafts : Layout → (ℕ → ℕ) → List Event
-own_drafts layout word = for_each (λ k. store_of (word_place layout k) (word k)) (words_in layout)
+own_drafts layout word = for_numbers (λ k. store_of (word_place layout k) (word k)) (words_in layout)
 
 abbrev own_loads : Layout → (ℕ → ℕ) → List Event
-own_loads layout word = for_each (λ k. load_of (word_place layout k) (word k)) (words_in layout)
+own_loads layout word = for_numbers (λ k. load_of (word_place layout k) (word k)) (words_in layout)
 
 abbrev events_0 : Layout → (ℕ → ℕ) → List Event
 events_0 layout word = events_of 0 (drafts_head layout) ++ (own_drafts layout word ++ (raised_events layout ++ sent_events layout))
@@ -171,9 +171,9 @@ parts r a b c d e f = events_of-append r a (b ++ (c ++ (d ++ (e ++ f))))
     ∙ ap (λ (l : List Event). events_of r c ++ l) (events_of-append r d (e ++ f)
     ∙ ap (λ (l : List Event). events_of r d ++ l) (events_of-append r e f))))
 
-parts_of : (r : ℕ) (layout : Layout) (word : ℕ → ℕ) → events_of r (two_chunks_by layout word) ≡ events_of r (drafts_head layout) ++ (events_of r (for_each (drafts_word layout word) (words_in layout))
-    ++ (events_of r (begins_first layout) ++ (events_of r (for_each (loads_word layout word) (words_in layout)) ++ (events_of r (raises_ready layout) ++ events_of r (goes_second layout)))))
-parts_of r layout word = parts r (drafts_head layout) (for_each (drafts_word layout word) (words_in layout)) (begins_first layout) (for_each (loads_word layout word) (words_in layout)) (raises_ready layout) (goes_second layout)
+parts_of : (r : ℕ) (layout : Layout) (word : ℕ → ℕ) → events_of r (two_chunks_by layout word) ≡ events_of r (drafts_head layout) ++ (events_of r (for_numbers (drafts_word layout word) (words_in layout))
+    ++ (events_of r (begins_first layout) ++ (events_of r (for_numbers (loads_word layout word) (words_in layout)) ++ (events_of r (raises_ready layout) ++ events_of r (goes_second layout)))))
+parts_of r layout word = parts r (drafts_head layout) (for_numbers (drafts_word layout word) (words_in layout)) (begins_first layout) (for_numbers (loads_word layout word) (words_in layout)) (raises_ready layout) (goes_second layout)
 
 listed_0 : (layout : Layout) (word : ℕ → ℕ) → events_of 0 (two_chunks_by layout word) ≡ events_0 layout word
 listed_0 layout word =
@@ -208,13 +208,13 @@ record_is : (layout : Layout) (r : ℕ) (es : List Event) (late : Record) → Go
 unfolding record_in record_of
 record_is layout r es late goes = record_in-and_then (record { seat = seat_of layout r; events = [] }) es ∙ goes.becomes
 
-pub chunks_sent : (layout : Layout) (word : ℕ → ℕ) → (records_of (two_ranks_by layout) (two_chunks_by layout word) 0).calls ≡ Send 1 (head layout) (bytes_of word (chunk_size layout) ++ 7 ∷ []) ∷ []
+pub chunks_sent : (layout : Layout) (word : ℕ → ℕ) → (records_of (two_ranks_by layout) (two_chunks_by layout word) 0).calls ≡ Send 1 (head layout) (bytes_of_words word (chunk_size layout) ++ 7 ∷ []) ∷ []
 chunks_sent layout word = ap (λ (l : List Event). (record_of (two_ranks_by layout) 0 l).calls) (listed_0 layout word)
     ∙ ap (λ (rec : Record). rec.calls) (record_is layout 0 (events_0 layout word) (has_sent layout (notes_up word (words_in layout))) (goes_0 layout word))
     ∙ sent_calls layout (notes_up word (words_in layout))
     ∙ (λ i. Send 1 (head layout) (bytes_are layout word i ++ drafted_byte i) ∷ [])
 
-pub chunks_received : (layout : Layout) (word : ℕ → ℕ) → (records_of (two_ranks_by layout) (two_chunks_by layout word) 1).calls ≡ Recv 0 (head layout) (bytes_of word (chunk_size layout) ++ 7 ∷ []) ∷ []
+pub chunks_received : (layout : Layout) (word : ℕ → ℕ) → (records_of (two_ranks_by layout) (two_chunks_by layout word) 1).calls ≡ Recv 0 (head layout) (bytes_of_words word (chunk_size layout) ++ 7 ∷ []) ∷ []
 chunks_received layout word = ap (λ (l : List Event). (record_of (two_ranks_by layout) 1 l).calls) (listed_1 layout word)
     ∙ ap (λ (rec : Record). rec.calls) (record_is layout 1 (events_1 layout word) (has_received layout (notes_up word (words_in layout))) (goes_1 layout word))
     ∙ received_calls layout (notes_up word (words_in layout))
@@ -237,8 +237,8 @@ chunks_permitted layout word fits = permitted_run (two_ranks_by layout) (two_chu
   where
     are : AreEvents 2 (two_chunks_by layout word)
     are =
-        let drafted_words = for_each (drafts_word layout word) (words_in layout) in
-        let loaded_words = for_each (loads_word layout word) (words_in layout) in
+        let drafted_words = for_numbers (drafts_word layout word) (words_in layout) in
+        let loaded_words = for_numbers (loads_word layout word) (words_in layout) in
         let last = raises_ready layout ++ goes_second layout in
         are-append 2 (drafts_head layout) (drafted_words ++ (begins_first layout ++ (loaded_words ++ last))) (head_events layout)
         (are-append 2 drafted_words (begins_first layout ++ (loaded_words ++ last)) (are_each 2 (drafts_word layout word) (words_in layout) (λ k lt. (omega arith, (in_chunk layout k lt, fits k))))

@@ -7,7 +7,7 @@ use Rattle.scc_base.specs.Layouts.{chunk_size}
 use Rattle.scc_base.specs.Setups.{SetupView}
 use Rattle.scc_base.specs.declared.layouts.Layout.{Layout}
 use Rattle.scc_base.specs.declared.layouts.Layout.TheVariants.{LineFlags, BitFlags}
-use Rattle.scc_proto.specs.Messages.{Notes, StandsIn, Progress, begun, is_last, is_whole, is_head, is_post_head}
+use Rattle.scc_proto.specs.Messages.{Notes, StandsIn, Progress, fresh_message, is_last, is_whole, is_head, is_post_head}
 use Rattle.scc_proto.specs.Stages.{Part, Filling, Raised, Answered, Stage, Idle, Drafting, Sending, Between, Taking, Barrier, OnItsWay, Record}
 use Rattle.scc_proto.specs.Records.{chunk_of}
 use Rattle.scc_proto.specs.Singles.{IsConsistent, IsStage, IsPart, IsPosted, IsOnItsWay, IsUnderWay}
@@ -16,7 +16,7 @@ use Rattle.scc_proto.proofs.Tests.{same_or_other, both_second}
 use Rattle.scc_proto.proofs.Pairs.PhaseFacts.{sending_here, sending_there, post_here, post_there}
 
 -- a posted message is one chunk in either layout
-post_fits : (layout : Layout) (head : MessageHead) → is_post_head head ≡ true → is_last (chunk_size layout) (begun head) ≡ true
+post_fits : (layout : Layout) (head : MessageHead) → is_post_head head ≡ true → is_last (chunk_size layout) (fresh_message head) ≡ true
 post_fits LineFlags head t = fits head.len (len head t)
   where
     len : (head : MessageHead) → is_post_head head ≡ true → nat_le head.len 3584 ≡ true
@@ -32,10 +32,10 @@ post_fits BitFlags head t = fits head.len (len head t)
     fits : (n : ℕ) → nat_le n 3584 ≡ true → nat_le n 6624 ≡ true
     fits n t = grind (arith, nat_tests)
 
-pub post_is_last : (s : SetupView) (head : MessageHead) → is_post_head head ≡ true → is_last (chunk_of s) (begun head) ≡ true
+pub post_is_last : (s : SetupView) (head : MessageHead) → is_post_head head ≡ true → is_last (chunk_of s) (fresh_message head) ≡ true
 post_is_last s head t = post_fits s.layout head t
 
-pub posted_last : (s : SetupView) (me : ℕ) (rec : Record) → IsConsistent s me rec → (p : OnItsWay) → rec.post ≡ Some p → is_last (chunk_of s) (begun p.head) ≡ true
+pub posted_last : (s : SetupView) (me : ℕ) (rec : Record) → IsConsistent s me rec → (p : OnItsWay) → rec.post ≡ Some p → is_last (chunk_of s) (fresh_message p.head) ≡ true
 posted_last s me rec single p is = post_is_last s p.head (of rec.post single.post is).head
   where
     of : (o : Option OnItsWay) → IsPosted s me rec.stage o → o ≡ Some p → IsOnItsWay s me rec.stage p
@@ -60,12 +60,12 @@ module _ (s : SetupView) (me to : ℕ) (a p : Bool) (m : Progress) (w : Notes) (
   of_post st None posted stands is = absurd (cc)
   of_post st (Some post) posted stands is = same_or_other (Offers s p m w header buffer) post.to to
       (λ here e.
-      let side : Offering post.is_answered true (begun post.head) post.chunk ≡ Offering a p m w = sym (post_here to post here) ∙ is in
+      let side : Offering post.is_answered true (fresh_message post.head) post.chunk ≡ Offering a p m w = sym (post_here to post here) ∙ is in
       let ep : true ≡ p = cc (side) in
-      let em : begun post.head ≡ m = cc (side) in
+      let em : fresh_message post.head ≡ m = cc (side) in
       let ew : post.chunk ≡ w = cc (side) in
-      let offers : Offers s true (begun post.head) post.chunk header buffer = record { line = stands.0; words = stands.1; whole = posted.whole; valid = post_head_is_head post.head posted.head; post = λ _. posted.head; last = λ _. post_is_last s post.head posted.head } in
-      subst (λ (x : Bool). Offers s x m w header buffer) ep (subst (λ (x : Progress). Offers s true x w header buffer) em (subst (λ (x : Notes). Offers s true (begun post.head) x header buffer) ew offers)))
+      let offers : Offers s true (fresh_message post.head) post.chunk header buffer = record { line = stands.0; words = stands.1; whole = posted.whole; valid = post_head_is_head post.head posted.head; post = λ _. posted.head; last = λ _. post_is_last s post.head posted.head } in
+      subst (λ (x : Bool). Offers s x m w header buffer) ep (subst (λ (x : Progress). Offers s true x w header buffer) em (subst (λ (x : Notes). Offers s true (fresh_message post.head) x header buffer) ew offers)))
       (λ there ne. absurd (cc (sym (post_there to post there) ∙ is)))
 
   of_part : (part : Part) (message : Progress) (chunk : Notes) → IsUnderWay s me to message → IsPart (chunk_of s) part message chunk → HeaderStands message.head false header → StandsIn chunk buffer

@@ -3,14 +3,14 @@ use Rattle.std.proofs.Common.{◌≡◌, ◌≢◌, ℕ, true, ◌==◌, [], Non
 use Rattle.scc_base.specs.Setups.{SetupView}
 use Rattle.scc_base.specs.declared.signals.Signal.{Signal}
 use Rattle.scc_base.specs.declared.signals.Signal.TheVariants.{Sent, Ready}
-use Rattle.scc_proto.specs.Tables.{put, put_two}
+use Rattle.scc_proto.specs.Tables.{table_with, put_two}
 use Rattle.scc_proto.specs.Messages.{note_word, sent_messages, received_messages}
 use Rattle.scc_proto.specs.Stages.{Record}
 use Rattle.scc_proto.specs.Moves.{Move, DraftHeader, DraftChunk, RaiseSignal, LookSignal, ReadHeader, ReadChunk, LowerSignal, FlipGather, LookGather, WriteRelease, LookRelease, StoreHeap, NoMove, Misplaced, after, lower_sent}
 use Rattle.scc_proto.specs.Permission.{permits, may_take}
 use Rattle.scc_proto.specs.Words.{are_peers}
 use Rattle.scc_proto.specs.Records.{chunk_of}
-use Rattle.scc_proto.specs.Views.{View, shown}
+use Rattle.scc_proto.specs.Views.{View, view_after_move}
 use Rattle.scc_proto.specs.Singles.{IsConsistent}
 use Rattle.scc_proto.specs.Pairs.{pair_of, Phase, BufferStands, sending_side, taking_side}
 use Rattle.scc_proto.specs.Agreement.{RecordsAgree, PairsAgree, SendersAgree}
@@ -32,12 +32,12 @@ module _ (s : SetupView) (me to : ℕ) (view : View) (rec other : Record) (singl
   ready_at : (i v : ℕ) → put_two (view.signal Ready) me i v to me ≡ view.signal Ready to me
   ready_at i v = put_two_first (view.signal Ready) me i v to me (λ e. peers.apart (sym e))
 
-  pub of_sender : (move : Move) → Tells me move view → permits (chunk_of s) move rec ≡ true → Phase (chunk_of s) (pair_of me to (shown me move view) (after (chunk_of s) move rec) other)
+  pub of_sender : (move : Move) → Tells me move view → permits (chunk_of s) move rec ≡ true → Phase (chunk_of s) (pair_of me to (view_after_move me move view) (after (chunk_of s) move rec) other)
   of_sender (DraftHeader k v) told may = header_drafted (chunk_of s) to (view.signal Sent me to) (view.signal Ready to me) k v rec.stage rec.post (view.header me) (view.chunk me) (put_two view.header me k v me) (view.chunk me)
       rec.calls (taking_side me other.stage) (other.notes me) _ may phase
   of_sender (DraftChunk k v) told may = chunk_drafted (chunk_of s) to (view.signal Sent me to) (view.signal Ready to me) k v rec.stage rec.post (view.header me) (view.chunk me) (view.header me) (put_two view.chunk me k v me)
       rec.calls (taking_side me other.stage) (other.notes me) _ may phase
-  of_sender (RaiseSignal Sent j) told may = same_or_other (Phase (chunk_of s) (pair_of me to (shown me (RaiseSignal Sent j) view) (after (chunk_of s) (RaiseSignal Sent j) rec) other)) j to
+  of_sender (RaiseSignal Sent j) told may = same_or_other (Phase (chunk_of s) (pair_of me to (view_after_move me (RaiseSignal Sent j) view) (after (chunk_of s) (RaiseSignal Sent j) rec) other)) j to
       (λ here e. sent_raised_here (chunk_of s) to (view.signal Ready to me) j (view.header me) (view.chunk me) rec.calls (taking_side me other.stage) (other.notes me) _
       (view.signal Sent me to) (put_two (view.signal Sent) me j 1 me to) rec.stage rec.post may here (subst (λ x. put_two (view.signal Sent) me j 1 me x ≡ 1) e (put_two_here (view.signal Sent) me j 1)) phase)
       (λ there ne. let same : put_two (view.signal Sent) me j 1 me to ≡ view.signal Sent me to = put_two_second (view.signal Sent) me j 1 me to (λ e. ne (sym e)) in
@@ -75,7 +75,7 @@ module _ (s : SetupView) (from me : ℕ) (view : View) (other rec : Record) (sin
   offered : Stands s (pair_of from me view other rec)
   offered a p m w is = offers s from me a p m w (view.header from) (view.chunk from) other single stands is
 
-  pub of_taker : (move : Move) → IsMoveOf s me move → Tells me move view → permits (chunk_of s) move rec ≡ true → Phase (chunk_of s) (pair_of from me (shown me move view) other (after (chunk_of s) move rec))
+  pub of_taker : (move : Move) → IsMoveOf s me move → Tells me move view → permits (chunk_of s) move rec ≡ true → Phase (chunk_of s) (pair_of from me (view_after_move me move view) other (after (chunk_of s) move rec))
   of_taker (DraftHeader k v) own told may = same_pair (chunk_of s) (pair_of from me view other rec) _ refl refl refl (taking-draft_header from k v rec.stage) refl (header_left me from view (DraftHeader k v) peers.apart) refl refl refl phase
   of_taker (DraftChunk k v) own told may = same_pair (chunk_of s) (pair_of from me view other rec) _ refl refl refl (taking-draft_chunk from k v rec.stage) refl refl (chunk_left me from view (DraftChunk k v) peers.apart) refl refl phase
   of_taker (RaiseSignal Sent to) own told may = same_pair (chunk_of s) (pair_of from me view other rec) _ (put_two_first (view.signal Sent) me to 1 from me peers.apart) refl refl (taking-raise_sent from to rec.stage) refl refl refl refl
@@ -84,22 +84,22 @@ module _ (s : SetupView) (from me : ℕ) (view : View) (other rec : Record) (sin
       (is_set from) (told from) phase
   of_taker (ReadHeader j k v) own told may = same_or_other (Phase (chunk_of s) (pair_of from me view other (after (chunk_of s) (ReadHeader j k v) rec))) from j
       (λ here e. same_pair (chunk_of s) (record (pair_of from me view other rec) { notes = option_map (note_word k v) (rec.notes from) }) _ refl refl refl refl
-      (subst (λ x. put rec.notes x (option_map (note_word k v) (rec.notes x)) from ≡ option_map (note_word k v) (rec.notes from)) e (put_here rec.notes from (option_map (note_word k v) (rec.notes from)))) refl refl refl refl
+      (subst (λ x. table_with rec.notes x (option_map (note_word k v) (rec.notes x)) from ≡ option_map (note_word k v) (rec.notes from)) e (put_here rec.notes from (option_map (note_word k v) (rec.notes from)))) refl refl refl refl
       (header_read (chunk_of s) (pair_of from me view other rec) k v (rec.notes from) refl (subst (λ x. view.header x k ≡ v) (sym e) told) phase))
       (λ there ne. same_pair (chunk_of s) (pair_of from me view other rec) _ refl refl refl refl (put_there rec.notes j (option_map (note_word k v) (rec.notes j)) from ne) refl refl refl refl phase)
   of_taker (ReadChunk j k v) own told may = chunk_read (chunk_of s) from (view.signal Sent from me) (view.signal Ready me from) (sending_side me other.stage other.post) (rec.notes from) (view.header from) (view.chunk from) _ rec.calls
       j k v rec.stage (λ e. subst (λ x. view.chunk x k ≡ v) e told) phase
-  of_taker (LowerSignal Sent j) own told may = same_or_other (Phase (chunk_of s) (pair_of from me (shown me (LowerSignal Sent j) view) other (after (chunk_of s) (LowerSignal Sent j) rec))) j from
+  of_taker (LowerSignal Sent j) own told may = same_or_other (Phase (chunk_of s) (pair_of from me (view_after_move me (LowerSignal Sent j) view) other (after (chunk_of s) (LowerSignal Sent j) rec))) j from
       (λ here e. same_pair (chunk_of s) (record (pair_of from me view other rec) { sent_flag = put_two (view.signal Sent) j me 0 from me; taking = taking_side from (lower_sent j (unwrap_or (rec.notes from) []) rec.stage); notes = None }) _
       refl refl refl (ap (λ x. taking_side from (lower_sent j (unwrap_or (rec.notes x) []) rec.stage)) e)
-      (ap (λ x. put rec.notes x None from) e ∙ put_here rec.notes from None) refl refl refl refl
+      (ap (λ x. table_with rec.notes x None from) e ∙ put_here rec.notes from None) refl refl refl refl
       (sent_lowered_here s from (view.signal Sent from me) (view.signal Ready me from) j (sending_side me other.stage other.post) (view.header from) (view.chunk from) _ rec.calls
       (put_two (view.signal Sent) j me 0 from me) rec.stage (rec.notes from) (subst (λ x. may_take j (rec.notes x) rec.stage ≡ true) e may) offered
       (subst (λ x. put_two (view.signal Sent) j me 0 x me ≡ 0) e (put_two_here (view.signal Sent) j me 0)) here phase))
       (λ there ne. same_pair (chunk_of s) (record (pair_of from me view other rec) { taking = taking_side from (lower_sent j (unwrap_or (rec.notes j) []) rec.stage) }) _
       (put_two_first (view.signal Sent) j me 0 from me (λ e. ne (sym e))) refl refl refl (put_there rec.notes j None from (λ e. ne (sym e))) refl refl refl refl
       (sent_lowered_there s from (view.signal Sent from me) (view.signal Ready me from) j (sending_side me other.stage other.post) (view.header from) (view.chunk from) _ rec.calls rec.stage (rec.notes j) (rec.notes from) may there phase))
-  of_taker (RaiseSignal Ready j) own told may = same_or_other (Phase (chunk_of s) (pair_of from me (shown me (RaiseSignal Ready j) view) other (after (chunk_of s) (RaiseSignal Ready j) rec))) j from
+  of_taker (RaiseSignal Ready j) own told may = same_or_other (Phase (chunk_of s) (pair_of from me (view_after_move me (RaiseSignal Ready j) view) other (after (chunk_of s) (RaiseSignal Ready j) rec))) j from
       (λ here e. ready_raised_here s from (view.signal Sent from me) (view.signal Ready me from) j (sending_side me other.stage other.post) (rec.notes from) (view.header from) (view.chunk from) _ rec.calls
       (put_two (view.signal Ready) me j 1 me from) rec.stage may offered here (subst (λ x. put_two (view.signal Ready) me j 1 me x ≡ 1) e (put_two_here (view.signal Ready) me j 1)) phase)
       (λ there ne. same_pair (chunk_of s) (pair_of from me view other (after (chunk_of s) (RaiseSignal Ready j) rec)) _ refl (put_two_second (view.signal Ready) me j 1 me from (λ e. ne (sym e))) refl refl refl refl refl refl refl
@@ -121,7 +121,7 @@ module _ (s : SetupView) (from me : ℕ) (view : View) (other rec : Record) (sin
 -- ---- all pairs
 
 -- no flag of two other ranks changes
-signal_left : (me : ℕ) (signal : Signal) (by at : ℕ) (view : View) (move : Move) → by ≢ me → at ≢ me → (shown me move view).signal signal by at ≡ view.signal signal by at
+signal_left : (me : ℕ) (signal : Signal) (by at : ℕ) (view : View) (move : Move) → by ≢ me → at ≢ me → (view_after_move me move view).signal signal by at ≡ view.signal signal by at
 signal_left me signal by at view (DraftHeader k v) a b = refl
 signal_left me signal by at view (DraftChunk k v) a b = refl
 signal_left me signal by at view (RaiseSignal one j) a b = put_signal_left view.signal one signal (put_two (view.signal one) me j 1) by at (λ e. put_two_first (view.signal one) me j 1 by at a)
@@ -138,29 +138,29 @@ signal_left me signal by at view NoMove a b = refl
 signal_left me signal by at view Misplaced a b = refl
 
 pub pairs_kept : (s : SetupView) (me : ℕ) (view : View) (records : ℕ → Record) (move : Move) → IsViewStep s me view (records me) move
-    → RecordsAgree s records → SendersAgree s view records → PairsAgree s view records → PairsAgree s (shown me move view) (put records me (after (chunk_of s) move (records me)))
+    → RecordsAgree s records → SendersAgree s view records → PairsAgree s view records → PairsAgree s (view_after_move me move view) (table_with records me (after (chunk_of s) move (records me)))
 pairs_kept s me view records move step singles senders pairs from to peers =
     let p = peers_are s from to peers in
-    let next = put records me (after (chunk_of s) move (records me)) in
+    let next = table_with records me (after (chunk_of s) move (records me)) in
     let here : next me ≡ after (chunk_of s) move (records me) = put_here records me (after (chunk_of s) move (records me)) in
-    same_or_other (Phase (chunk_of s) (pair_of from to (shown me move view) (next from) (next to))) from me
+    same_or_other (Phase (chunk_of s) (pair_of from to (view_after_move me move view) (next from) (next to))) from me
     (λ t e.
     let pm : ArePeers s me to = subst (λ x. ArePeers s x to) e p in
     let there : next to ≡ records to = put_there records me (after (chunk_of s) move (records me)) to (λ f. pm.apart (sym f)) in
-    let moved : Phase (chunk_of s) (pair_of me to (shown me move view) (after (chunk_of s) move (records me)) (records to)) =
+    let moved : Phase (chunk_of s) (pair_of me to (view_after_move me move view) (after (chunk_of s) move (records me)) (records to)) =
     of_sender s me to view (records me) (records to) (singles.0 me step.rank) pm (pairs me to (subst (λ x. are_peers s x to ≡ true) e peers)) move step.told step.permitted in
-    subst (λ x. Phase (chunk_of s) (pair_of x to (shown me move view) (next x) (next to))) (sym e)
-    (subst (λ (x : Record). Phase (chunk_of s) (pair_of me to (shown me move view) x (next to))) (sym here)
-    (subst (λ (x : Record). Phase (chunk_of s) (pair_of me to (shown me move view) (after (chunk_of s) move (records me)) x)) (sym there) moved)))
-    (λ t ne. same_or_other (Phase (chunk_of s) (pair_of from to (shown me move view) (next from) (next to))) to me
+    subst (λ x. Phase (chunk_of s) (pair_of x to (view_after_move me move view) (next x) (next to))) (sym e)
+    (subst (λ (x : Record). Phase (chunk_of s) (pair_of me to (view_after_move me move view) x (next to))) (sym here)
+    (subst (λ (x : Record). Phase (chunk_of s) (pair_of me to (view_after_move me move view) (after (chunk_of s) move (records me)) x)) (sym there) moved)))
+    (λ t ne. same_or_other (Phase (chunk_of s) (pair_of from to (view_after_move me move view) (next from) (next to))) to me
     (λ u e.
     let pm : ArePeers s from me = subst (λ x. ArePeers s from x) e p in
     let there : next from ≡ records from = put_there records me (after (chunk_of s) move (records me)) from ne in
-    let moved : Phase (chunk_of s) (pair_of from me (shown me move view) (records from) (after (chunk_of s) move (records me))) =
+    let moved : Phase (chunk_of s) (pair_of from me (view_after_move me move view) (records from) (after (chunk_of s) move (records me))) =
     of_taker s from me view (records from) (records me) (singles.0 from p.one) (senders from p.one) pm (pairs from me (subst (λ x. are_peers s from x ≡ true) e peers)) move step.own step.told step.permitted in
-    subst (λ x. Phase (chunk_of s) (pair_of from x (shown me move view) (next from) (next x))) (sym e)
-    (subst (λ (x : Record). Phase (chunk_of s) (pair_of from me (shown me move view) (next from) x)) (sym here)
-    (subst (λ (x : Record). Phase (chunk_of s) (pair_of from me (shown me move view) x (after (chunk_of s) move (records me)))) (sym there) moved)))
+    subst (λ x. Phase (chunk_of s) (pair_of from x (view_after_move me move view) (next from) (next x))) (sym e)
+    (subst (λ (x : Record). Phase (chunk_of s) (pair_of from me (view_after_move me move view) (next from) x)) (sym here)
+    (subst (λ (x : Record). Phase (chunk_of s) (pair_of from me (view_after_move me move view) x (after (chunk_of s) move (records me)))) (sym there) moved)))
     (λ u nf.
     let a : next from ≡ records from = put_there records me (after (chunk_of s) move (records me)) from ne in
     let b : next to ≡ records to = put_there records me (after (chunk_of s) move (records me)) to nf in

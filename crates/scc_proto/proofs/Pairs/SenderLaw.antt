@@ -4,12 +4,12 @@ use Rattle.std.proofs.lemmas.Bool.Decides.{nat_tests}
 use Rattle.scc_base.specs.Setups.{SetupView}
 use Rattle.scc_base.specs.declared.signals.Signal.TheVariants.{Sent, Ready}
 use Rattle.scc_proto.specs.Tables.{put_two}
-use Rattle.scc_proto.specs.Messages.{Notes, noted, StandsIn, has_all, begun, is_last, head_of, is_head, is_post_head}
+use Rattle.scc_proto.specs.Messages.{Notes, noted_word, StandsIn, has_all, fresh_message, is_last, head_of, is_head, is_post_head}
 use Rattle.scc_proto.specs.Stages.{Filling, Raised, Answered, Stage, Idle, Drafting, Sending, Between, Taking, Barrier, OnItsWay, Record}
 use Rattle.scc_proto.specs.Moves.{Move, DraftHeader, DraftChunk, RaiseSignal, LookSignal, ReadHeader, ReadChunk, LowerSignal, FlipGather, LookGather, WriteRelease, LookRelease, StoreHeap, NoMove, Misplaced, draft_header, draft_chunk, raise_sent, read_chunk, lower_sent, raise_ready, look_ready, lower_ready, flip_gather, look_gather, write_release, look_release, post_raised, post_answered, after, is_posted}
 use Rattle.scc_proto.specs.Permission.{permits, drafts_header, drafts_chunk, may_raise, is_whole_header, is_post_word, is_drafted}
 use Rattle.scc_proto.specs.Records.{chunk_of}
-use Rattle.scc_proto.specs.Views.{View, shown}
+use Rattle.scc_proto.specs.Views.{View, view_after_move}
 use Rattle.scc_proto.specs.Pairs.{HeaderStands, DraftStands, PostStands, BufferStands}
 use Rattle.scc_proto.proofs.Layouts.MoveFacts.{IsViewStep}
 use Rattle.scc_proto.proofs.Tests.{put_two_here, put_two_first, put_two_second, both_first, both_second}
@@ -131,14 +131,14 @@ module _ (header : Notes) (h : ℕ → ℕ) (whole : is_whole_header header ≡ 
   all : has_all header 4 ≡ true
   all = both_first (has_all header 4) (is_head (head_of header) && is_post_word header) whole
 
-  word : (k : ℕ) → k < 4 → h k ≡ unwrap_or (noted header k) 0
+  word : (k : ℕ) → k < 4 → h k ≡ unwrap_or (noted_word header k) 0
   word k lt = let a = has_all-at header 4 all k lt in stands k a.0 a.1 ∙ sym (ap (λ (o : Option ℕ). unwrap_or o 0) a.1)
 
-  third : (posted : Bool) → is_posted header ≡ posted → unwrap_or (noted header 3) 0 ≡ (if posted then 1 else 0)
+  third : (posted : Bool) → is_posted header ≡ posted → unwrap_or (noted_word header 3) 0 ≡ (if posted then 1 else 0)
   third true is = grind (arith, nat_tests)
   third false is =
       let w : is_post_word header ≡ true = both_second (is_head (head_of header)) (is_post_word header) (both_second (has_all header 4) (is_head (head_of header) && is_post_word header) whole) in
-      let e : (if false then is_post_head (head_of header) else unwrap_or (noted header 3) 0 == 0) ≡ true = subst (λ b. (if b then is_post_head (head_of header) else unwrap_or (noted header 3) 0 == 0) ≡ true) is w in
+      let e : (if false then is_post_head (head_of header) else unwrap_or (noted_word header 3) 0 == 0) ≡ true = subst (λ b. (if b then is_post_head (head_of header) else unwrap_or (noted_word header 3) 0 == 0) ≡ true) is w in
       grind (arith, nat_tests, e)
 
   line_stands : (posted : Bool) → is_posted header ≡ posted → HeaderStands (head_of header) posted h
@@ -150,7 +150,7 @@ module _ (header : Notes) (h : ℕ → ℕ) (whole : is_whole_header header ≡ 
 
 -- a first chunk is raised
 first_raised : (posted : Bool) (to : ℕ) (header chunk : Notes) (h c : ℕ → ℕ) → is_whole_header header ≡ true → is_posted header ≡ posted → StandsIn header h → StandsIn chunk c
-    → DraftStands (if posted then Idle else Sending to Raised (begun (head_of header)) chunk) h c × PostStands (if posted then Some (record { to = to; head = head_of header; chunk = chunk; is_answered = false }) else None) h c
+    → DraftStands (if posted then Idle else Sending to Raised (fresh_message (head_of header)) chunk) h c × PostStands (if posted then Some (record { to = to; head = head_of header; chunk = chunk; is_answered = false }) else None) h c
 first_raised true to header chunk h c whole is a b = (tt, (line_stands header h whole a true is, b))
 first_raised false to header chunk h c whole is a b = ((line_stands header h whole a false is, b), tt)
 
@@ -158,7 +158,7 @@ raised_stands : (size to : ℕ) (h c : ℕ → ℕ) (st : Stage) (post : Option 
     → DraftStands (raise_sent to st) h c × PostStands (post_raised to st post) h c
 raised_stands size to h c st (Some post) may d = absurd (cc)
 raised_stands size to h c Idle None may d = absurd (cc)
-raised_stands size to h c (Drafting header chunk) None may d = first_raised (is_posted header) to header chunk h c (both_first (is_whole_header header) (is_drafted size (begun (head_of header)) chunk) may) refl d.0 d.1
+raised_stands size to h c (Drafting header chunk) None may d = first_raised (is_posted header) to header chunk h c (both_first (is_whole_header header) (is_drafted size (fresh_message (head_of header)) chunk) may) refl d.0 d.1
 raised_stands size to h c (Sending j Filling message chunk) None may d = (d, tt)
 raised_stands size to h c (Sending j Raised message chunk) None may d = absurd (cc)
 raised_stands size to h c (Sending j Answered message chunk) None may d = absurd (cc)
@@ -169,7 +169,7 @@ raised_stands size to h c (Barrier comm seen released) None may d = absurd (cc)
 -- ---- each move
 
 module _ (s : SetupView) (me : ℕ) (view : View) (rec : Record) (old : BufferStands rec (view.header me) (view.chunk me)) where
-  sender_by : (move : Move) → permits (chunk_of s) move rec ≡ true → BufferStands (after (chunk_of s) move rec) ((shown me move view).header me) ((shown me move view).chunk me)
+  sender_by : (move : Move) → permits (chunk_of s) move rec ≡ true → BufferStands (after (chunk_of s) move rec) ((view_after_move me move view).header me) ((view_after_move me move view).chunk me)
   sender_by (DraftHeader k v) may = record {
     draft = header_stored k v (view.header me) (view.chunk me) (put_two view.header me k v me) (put_two_here view.header me k v) (λ i ne. put_two_second view.header me k v me i ne) rec.stage
         (both_second (is_none rec.post) (drafts_header rec.stage) may) old.draft;
@@ -197,11 +197,11 @@ module _ (s : SetupView) (me : ℕ) (view : View) (rec : Record) (old : BufferSt
   sender_by Misplaced may = absurd (cc)
 
 pub sender_kept : (s : SetupView) (me : ℕ) (view : View) (rec : Record) (move : Move) → IsViewStep s me view rec move → BufferStands rec (view.header me) (view.chunk me)
-    → BufferStands (after (chunk_of s) move rec) ((shown me move view).header me) ((shown me move view).chunk me)
+    → BufferStands (after (chunk_of s) move rec) ((view_after_move me move view).header me) ((view_after_move me move view).chunk me)
 sender_kept s me view rec move step old = sender_by s me view rec old move step.permitted
 
 -- no other rank's buffer changes
-pub header_left : (me r : ℕ) (view : View) (move : Move) → r ≢ me → (shown me move view).header r ≡ view.header r
+pub header_left : (me r : ℕ) (view : View) (move : Move) → r ≢ me → (view_after_move me move view).header r ≡ view.header r
 header_left me r view (DraftHeader k v) ne = λ i j. put_two_first view.header me k v r j ne i
 header_left me r view (DraftChunk k v) ne = refl
 header_left me r view (RaiseSignal signal to) ne = refl
@@ -218,7 +218,7 @@ header_left me r view (StoreHeap place value) ne = refl
 header_left me r view NoMove ne = refl
 header_left me r view Misplaced ne = refl
 
-pub chunk_left : (me r : ℕ) (view : View) (move : Move) → r ≢ me → (shown me move view).chunk r ≡ view.chunk r
+pub chunk_left : (me r : ℕ) (view : View) (move : Move) → r ≢ me → (view_after_move me move view).chunk r ≡ view.chunk r
 chunk_left me r view (DraftHeader k v) ne = refl
 chunk_left me r view (DraftChunk k v) ne = λ i j. put_two_first view.chunk me k v r j ne i
 chunk_left me r view (RaiseSignal signal to) ne = refl

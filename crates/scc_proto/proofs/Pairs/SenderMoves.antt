@@ -1,7 +1,7 @@
 -- The phases of a pair under the moves of its sender.
 use Rattle.std.proofs.Common.{◌≡◌, ℕ, Bool, true, false, ◌&&◌, ◌==◌, if◌then◌else◌, List, [], ◌∷◌, ◌++◌, Option, Some, None, is_none, option_map, refl, sym, ◌∙◌, ap, subst, append-nil}
 use Rattle.scc_base.specs.Calls.{DataCall, Message}
-use Rattle.scc_proto.specs.Messages.{Notes, note_word, Progress, begun, is_last, with_chunk, message_of, head_of, sent_messages, send_to, post_to}
+use Rattle.scc_proto.specs.Messages.{Notes, note_word, Progress, fresh_message, is_last, with_chunk, message_of, head_of, sent_messages, send_to, post_to}
 use Rattle.scc_proto.specs.Stages.{Filling, Raised, Answered, Stage, Idle, Drafting, Sending, Between, Taking, Barrier, OnItsWay}
 use Rattle.scc_proto.specs.Moves.{draft_header, draft_chunk, raise_sent, look_ready, lower_ready, post_raised, post_answered, calls_raised, calls_sent, finished_if, is_posted}
 use Rattle.scc_proto.specs.Permission.{drafts_header, drafts_chunk, may_raise, may_go_on, is_drafted}
@@ -83,34 +83,34 @@ chunk_drafted size to f g k v st (Some post) h c h' c' calls t n b may phase = a
 
 -- a first chunk, of a posted message or of another one
 abbrev first_stage : Bool → ℕ → Notes → Notes → Stage
-first_stage posted j header chunk = if posted then Idle else Sending j Raised (begun (head_of header)) chunk
+first_stage posted j header chunk = if posted then Idle else Sending j Raised (fresh_message (head_of header)) chunk
 
 abbrev first_post : Bool → ℕ → Notes → Notes → Option OnItsWay
 first_post posted j header chunk = if posted then Some (record { to = j; head = head_of header; chunk = chunk; is_answered = false }) else None
 
 module _ (size : ℕ) (to g j : ℕ) (header chunk : Notes) (h c : ℕ → ℕ) (calls : List DataCall) (t : TakingSide) (n : Option Notes) (b : List Message) where
   level_here : (posted : Bool) → (j == to) ≡ true → b ≡ sent_messages to calls
-      → sent_messages to (finished_if posted (post_to j (message_of (with_chunk size (begun (head_of header)) chunk))) calls) ≡ b ++ pending size posted (begun (head_of header)) chunk
-  level_here true here level = sent_messages-post to calls j _ ∙ message_here (sent_messages to calls) j to _ here ∙ ap (λ (l : List Message). l ++ message_of (with_chunk size (begun (head_of header)) chunk) ∷ []) (sym level)
+      → sent_messages to (finished_if posted (post_to j (message_of (with_chunk size (fresh_message (head_of header)) chunk))) calls) ≡ b ++ pending size posted (fresh_message (head_of header)) chunk
+  level_here true here level = sent_messages-post to calls j _ ∙ message_here (sent_messages to calls) j to _ here ∙ ap (λ (l : List Message). l ++ message_of (with_chunk size (fresh_message (head_of header)) chunk) ∷ []) (sym level)
   level_here false here level = sym level ∙ sym (append-nil b)
 
-  level_there : (posted : Bool) → (j == to) ≡ false → sent_messages to (finished_if posted (post_to j (message_of (with_chunk size (begun (head_of header)) chunk))) calls) ≡ sent_messages to calls
+  level_there : (posted : Bool) → (j == to) ≡ false → sent_messages to (finished_if posted (post_to j (message_of (with_chunk size (fresh_message (head_of header)) chunk))) calls) ≡ sent_messages to calls
   level_there true there = sent_messages-post to calls j _ ∙ message_there (sent_messages to calls) j to _ there
   level_there false there = refl
 
-  side_here : (posted : Bool) → (j == to) ≡ true → sending_side to (first_stage posted j header chunk) (first_post posted j header chunk) ≡ Offering false posted (begun (head_of header)) chunk
+  side_here : (posted : Bool) → (j == to) ≡ true → sending_side to (first_stage posted j header chunk) (first_post posted j header chunk) ≡ Offering false posted (fresh_message (head_of header)) chunk
   side_here true here = post_here to _ here
-  side_here false here = sending_here to j Raised (begun (head_of header)) chunk None here
+  side_here false here = sending_here to j Raised (fresh_message (head_of header)) chunk None here
 
   side_there : (posted : Bool) → (j == to) ≡ false → sending_side to (first_stage posted j header chunk) (first_post posted j header chunk) ≡ Resting None
   side_there true there = post_there to _ there
-  side_there false there = sending_there to j Raised (begun (head_of header)) chunk None there
+  side_there false there = sending_there to j Raised (fresh_message (head_of header)) chunk None there
 
   -- toward the receiver
   pub first_here : (f posted_flag : ℕ) (posted : Bool) → (j == to) ≡ true → posted_flag ≡ 1
       → Phase size (from_sender to f g (Drafting header chunk) None h c calls t n b)
       → Phase size (from_sender to posted_flag g (first_stage posted j header chunk) (first_post posted j header chunk) h c
-      (finished_if posted (post_to j (message_of (with_chunk size (begun (head_of header)) chunk))) calls) t n b)
+      (finished_if posted (post_to j (message_of (with_chunk size (fresh_message (head_of header)) chunk))) calls) t n b)
   first_here f flag posted here set phase =
       let p = at_rest size (from_sender to f g (Drafting header chunk) None h c calls t n b) None refl phase in
       InRaised None (head_of header) posted chunk (record {
@@ -126,7 +126,7 @@ module _ (size : ℕ) (to g j : ℕ) (header chunk : Notes) (h c : ℕ → ℕ) 
   pub first_there : (f : ℕ) (posted : Bool) → (j == to) ≡ false
       → Phase size (from_sender to f g (Drafting header chunk) None h c calls t n b)
       → Phase size (from_sender to f g (first_stage posted j header chunk) (first_post posted j header chunk) h c
-      (finished_if posted (post_to j (message_of (with_chunk size (begun (head_of header)) chunk))) calls) t n b)
+      (finished_if posted (post_to j (message_of (with_chunk size (fresh_message (head_of header)) chunk))) calls) t n b)
   first_there f posted there phase =
       let p = at_rest size (from_sender to f g (Drafting header chunk) None h c calls t n b) None refl phase in
       InRest None (record { sent_flag = p.sent_flag; ready_flag = p.ready_flag; sending = side_there posted there; taking = p.taking; notes = p.notes; level = p.level ∙ sym (level_there posted there) })
@@ -224,7 +224,7 @@ module _ (size : ℕ) (to f g : ℕ) (is_set : ℕ → Bool) (h c : ℕ → ℕ)
       → Phase size (record x { sending = side_of_post to (Some (record post { is_answered = if set then true else post.is_answered })) })
   post_seen false post s x flag was phase = same_pair size x (record x { sending = side_of_post to (Some post) }) refl refl (sym was) refl refl refl refl refl refl phase
   post_seen true post s x flag was phase = same_or_other (Phase size (record x { sending = side_of_post to (Some (record post { is_answered = true })) })) post.to to
-      (λ here is. seen_ready x (record x { sending = side_of_post to (Some (record post { is_answered = true })) }) post.is_answered true (begun post.head) post.chunk
+      (λ here is. seen_ready x (record x { sending = side_of_post to (Some (record post { is_answered = true })) }) post.is_answered true (fresh_message post.head) post.chunk
       (flag ∙ told (ap is_set (sym is) ∙ s)) (was ∙ post_here to post here) (λ k. record x { sending = post_here to (record post { is_answered = true }) here k }) phase)
       (λ there ne. same_pair size x (record x { sending = side_of_post to (Some (record post { is_answered = true })) })
       refl refl (post_there to (record post { is_answered = true }) there ∙ sym (was ∙ post_there to post there)) refl refl refl refl refl refl phase)
@@ -286,15 +286,15 @@ module _ (size : ℕ) (to f g j : ℕ) (h c : ℕ → ℕ) (calls : List DataCal
 
   -- a posted message is on its way no more
   post_through : (flag : ℕ) (st : Stage) (post : OnItsWay) → sending_side to st None ≡ Resting None → sending_side to st (Some post) ≡ side_of_post to (Some post)
-      → is_last size (begun post.head) ≡ true → ((post.to == j) && post.is_answered) ≡ true → ((j == to) ≡ true → flag ≡ 0) → ((j == to) ≡ false → flag ≡ g)
+      → is_last size (fresh_message post.head) ≡ true → ((post.to == j) && post.is_answered) ≡ true → ((j == to) ≡ true → flag ≡ 0) → ((j == to) ≡ false → flag ≡ g)
       → Phase size (from_sender to f g st (Some post) h c calls t n b) → Phase size (from_sender to f flag st None h c calls t n b)
   post_through flag st post none some last may clear kept phase = same_or_other (Phase size (from_sender to f flag st None h c calls t n b)) j to
       (λ here is.
       let its : (post.to == to) ≡ true = ap (λ x. x == to) (same_by_eqb post.to j (both_first (post.to == j) post.is_answered may)) ∙ here in
       let answered : post.is_answered ≡ true = both_second (post.to == j) post.is_answered may in
-      let r = when_answered size (from_sender to f g st (Some post) h c calls t n b) true (begun post.head) post.chunk
-      (some ∙ post_here to post its ∙ ap (λ x. Offering x true (begun post.head) post.chunk) answered) phase in
-      let a : HasArrived true size true (begun post.head) post.chunk r.0 (sent_messages to calls) b = subst (λ x. HasArrived x size true (begun post.head) post.chunk r.0 (sent_messages to calls) b) last r.1.arrived in
+      let r = when_answered size (from_sender to f g st (Some post) h c calls t n b) true (fresh_message post.head) post.chunk
+      (some ∙ post_here to post its ∙ ap (λ x. Offering x true (fresh_message post.head) post.chunk) answered) phase in
+      let a : HasArrived true size true (fresh_message post.head) post.chunk r.0 (sent_messages to calls) b = subst (λ x. HasArrived x size true (fresh_message post.head) post.chunk r.0 (sent_messages to calls) b) last r.1.arrived in
       InRest None (record {
         sent_flag = r.1.sent_flag;
         ready_flag = clear here;
@@ -308,7 +308,7 @@ module _ (size : ℕ) (to f g j : ℕ) (h c : ℕ → ℕ) (calls : List DataCal
       same_pair size (from_sender to f g st (Some post) h c calls t n b) (from_sender to f flag st None h c calls t n b) refl (kept there)
       (none ∙ sym (some ∙ post_there to post its)) refl refl refl refl refl refl phase)
 
-  pub ready_lowered : (flag : ℕ) (st : Stage) (post : Option OnItsWay) → may_go_on j st post ≡ true → ((p : OnItsWay) → post ≡ Some p → is_last size (begun p.head) ≡ true)
+  pub ready_lowered : (flag : ℕ) (st : Stage) (post : Option OnItsWay) → may_go_on j st post ≡ true → ((p : OnItsWay) → post ≡ Some p → is_last size (fresh_message p.head) ≡ true)
       → ((j == to) ≡ true → flag ≡ 0) → ((j == to) ≡ false → flag ≡ g)
       → Phase size (from_sender to f g st post h c calls t n b) → Phase size (from_sender to f flag (lower_ready size st) None h c (calls_sent size st calls) t n b)
   ready_lowered flag Idle None may last clear kept phase = absurd (cc)

@@ -2,12 +2,12 @@
 use Rattle.std.proofs.Common.{◌≡◌, ℕ, suc, Bool, true, false, ◌==◌, if◌then◌else◌, List, [], ◌∷◌, ◌++◌, Option, Some, None, option_map, unwrap_or, refl, sym, ◌∙◌, ap, subst, append-nil}
 use Rattle.scc_base.specs.Calls.{DataCall, Message}
 use Rattle.scc_base.specs.Setups.{SetupView}
-use Rattle.scc_proto.specs.Messages.{Notes, note_word, StandsIn, has_all, Progress, begun, is_last, is_whole, is_head, with_chunk, chunk_bytes, chunk_words, message_of, head_of, received_messages, recv_from}
+use Rattle.scc_proto.specs.Messages.{Notes, note_word, StandsIn, has_all, Progress, fresh_message, is_last, is_whole, is_head, with_chunk, chunk_bytes, chunk_words, message_of, head_of, received_messages, recv_from}
 use Rattle.scc_proto.specs.Stages.{Stage, Idle, Drafting, Sending, Between, Taking, Barrier}
 use Rattle.scc_proto.specs.Moves.{read_chunk, lower_sent, raise_ready, calls_received, finished_if}
 use Rattle.scc_proto.specs.Permission.{may_take, has_taken, says_head}
 use Rattle.scc_proto.specs.Records.{chunk_of}
-use Rattle.scc_proto.specs.Pairs.{SendingSide, Offering, TakingSide, Awaiting, Receiving, taking_side, Pair, resumed, pending, settling, NotesStand, HasArrived, Phase, InRaised, InTaken, InReady, HeaderStands}
+use Rattle.scc_proto.specs.Pairs.{SendingSide, Offering, TakingSide, Awaiting, Receiving, taking_side, Pair, message_so_far, pending, settling, NotesStand, HasArrived, Phase, InRaised, InTaken, InReady, HeaderStands}
 use Rattle.scc_proto.proofs.Tests.{same_or_other, same_by_eqb, both_first, both_second}
 use Rattle.scc_proto.proofs.Messages.MessageLists.{received_messages-recv, message_here, message_there}
 use Rattle.scc_proto.proofs.Pairs.PairFrames.{same_pair}
@@ -115,7 +115,7 @@ Stands s x = (a p : Bool) (m : Progress) (w : Notes) → x.sending ≡ Offering 
 
 -- the chunk is taken on from what is through
 taken_on : (size : ℕ) (x : Pair) (flag : ℕ) (message : Progress) (header : Notes) → x.notes ≡ Some header → flag ≡ 0
-    → ((r : Raise size x) → resumed r.through r.head ≡ message)
+    → ((r : Raise size x) → message_so_far r.through r.head ≡ message)
     → Phase size x → Phase size (record x { sent_flag = flag; taking = Receiving message []; notes = None })
 taken_on size x flag message header was clear same phase =
     let r = when_seen size x header was phase in
@@ -134,25 +134,25 @@ module _ (s : SetupView) (from f g j : ℕ) (side : SendingSide) (h c : ℕ → 
   -- a first chunk
   first_taken : (flag : ℕ) (header : Notes) (st : Stage) → taking_side from st ≡ Awaiting None → Stands s (from_taker from f g side st (Some header) h c sent calls) → says_head header ≡ true → flag ≡ 0 → (j == from) ≡ true
       → Phase (chunk_of s) (from_taker from f g side st (Some header) h c sent calls)
-      → Phase (chunk_of s) (from_taker from flag g side (Taking j (begun (head_of header)) []) None h c sent calls)
+      → Phase (chunk_of s) (from_taker from flag g side (Taking j (fresh_message (head_of header)) []) None h c sent calls)
   first_taken flag header st rests stands says clear here phase =
       let x = from_taker from f g side st (Some header) h c sent calls in
       let all : has_all header 3 ≡ true = both_first (has_all header 3) (is_head (head_of header)) says in
-      let same : (r : Raise (chunk_of s) x) → resumed r.through r.head ≡ begun (head_of header) = λ r.
+      let same : (r : Raise (chunk_of s) x) → message_so_far r.through r.head ≡ fresh_message (head_of header) = λ r.
       let none : r.through ≡ None = cc (r.is.taking, rests) in
-      let o : Offers s r.is_post (resumed r.through r.head) r.chunk h c = stands false r.is_post (resumed r.through r.head) r.chunk r.is.sending in
-      let line : HeaderStands r.head r.is_post h = subst (λ (q : Option Progress). HeaderStands (resumed q r.head).head r.is_post h) none o.line in
-      ap (λ (q : Option Progress). resumed q r.head) none ∙ ap begun (sym (head_is header r.head r.is_post h all r.is.notes line)) in
+      let o : Offers s r.is_post (message_so_far r.through r.head) r.chunk h c = stands false r.is_post (message_so_far r.through r.head) r.chunk r.is.sending in
+      let line : HeaderStands r.head r.is_post h = subst (λ (q : Option Progress). HeaderStands (message_so_far q r.head).head r.is_post h) none o.line in
+      ap (λ (q : Option Progress). message_so_far q r.head) none ∙ ap fresh_message (sym (head_is header r.head r.is_post h all r.is.notes line)) in
       subst (λ (t : TakingSide). Phase (chunk_of s) (record { sent_flag = flag; ready_flag = g; sending = side; taking = t; notes = None; header = h; chunk = c; sent = sent; received = received_messages from calls }))
-      (sym (taking_here from j (begun (head_of header)) [] here)) (taken_on (chunk_of s) x flag (begun (head_of header)) header refl clear same phase)
+      (sym (taking_here from j (fresh_message (head_of header)) [] here)) (taken_on (chunk_of s) x flag (fresh_message (head_of header)) header refl clear same phase)
 
   later_taken : (flag : ℕ) (header : Notes) (message : Progress) → flag ≡ 0 → (j == from) ≡ true
       → Phase (chunk_of s) (from_taker from f g side (Between j message) (Some header) h c sent calls)
       → Phase (chunk_of s) (from_taker from flag g side (Taking j message []) None h c sent calls)
   later_taken flag header message clear here phase =
       let x = from_taker from f g side (Between j message) (Some header) h c sent calls in
-      let same : (r : Raise (chunk_of s) x) → resumed r.through r.head ≡ message = λ r.
-      let some : r.through ≡ Some message = cc (r.is.taking, between_here from j message here) in ap (λ (q : Option Progress). resumed q r.head) some in
+      let same : (r : Raise (chunk_of s) x) → message_so_far r.through r.head ≡ message = λ r.
+      let some : r.through ≡ Some message = cc (r.is.taking, between_here from j message here) in ap (λ (q : Option Progress). message_so_far q r.head) some in
       subst (λ (t : TakingSide). Phase (chunk_of s) (record { sent_flag = flag; ready_flag = g; sending = side; taking = t; notes = None; header = h; chunk = c; sent = sent; received = received_messages from calls }))
       (sym (taking_here from j message [] here)) (taken_on (chunk_of s) x flag message header refl clear same phase)
 
@@ -173,7 +173,7 @@ module _ (s : SetupView) (from f g j : ℕ) (side : SendingSide) (h c : ℕ → 
       → Phase (chunk_of s) (from_taker from f g side (lower_sent j (unwrap_or own []) st) n h c sent calls)
   sent_lowered_there st None n may there phase = absurd (cc)
   sent_lowered_there Idle (Some header) n may there phase = same_pair (chunk_of s) (from_taker from f g side Idle n h c sent calls) _ refl refl refl
-      (taking_there from j (begun (head_of header)) [] there) refl refl refl refl refl phase
+      (taking_there from j (fresh_message (head_of header)) [] there) refl refl refl refl refl phase
   sent_lowered_there (Drafting a b) (Some header) n may there phase = absurd (cc)
   sent_lowered_there (Sending to part message chunk) (Some header) n may there phase = absurd (cc)
   sent_lowered_there (Between i message) (Some header) n may there phase =

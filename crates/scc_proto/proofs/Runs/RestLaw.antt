@@ -13,8 +13,8 @@ use Rattle.scc_proto.specs.Messages.{note_word}
 use Rattle.scc_proto.specs.Stages.{Part, Filling, Raised, Answered, Stage, Idle, Drafting, Sending, Between, Taking, Barrier, OnItsWay, Record}
 use Rattle.scc_proto.specs.Moves.{Move, LookSignal, ReadHeader, ReadChunk, LookGather, LookRelease, NoMove, read_chunk, look_ready, look_gather, look_release, post_answered, calls_let_go, after}
 use Rattle.scc_proto.specs.Words.{Role, HeaderWord, ChunkWord, SignalFlag, SignalFlags, GatherFlag, ReleaseFlag, HeapWord, IdleWord, role_of}
-use Rattle.scc_proto.specs.Records.{chunk_of, leads, look_at, look_at_bits, load_by, Act, Moving, NotingSignal, load_act, act_by, act_of, after_act, is_permitted, record_after, record_from}
-use Rattle.scc_proto.specs.Like.{unanswered, Like}
+use Rattle.scc_proto.specs.Records.{chunk_of, leads, look_at, look_at_bits, load_by, EventAct, Moving, NotingSignal, load_act, act_by, act_of, after_act, is_permitted, record_after, record_from}
+use Rattle.scc_proto.specs.Like.{as_unanswered, Like}
 use Rattle.scc_proto.specs.Resting.{is_resting_by, is_resting}
 use Rattle.scc_proto.proofs.Words.FlagsTold.{like_self, like_both}
 use Rattle.scc_proto.proofs.PortLaws.{record_from-append}
@@ -104,7 +104,7 @@ release_further comm value v calls (Barrier c seen released) = by ((c == comm) &
     by false = inl (refl, refl)
 
 -- whether its `ready` was seen makes no difference to a posted message
-answered_like : (is_set : ℕ → Bool) (post : Option OnItsWay) → option_map unanswered post ≡ option_map unanswered (option_map (post_answered is_set) post)
+answered_like : (is_set : ℕ → Bool) (post : Option OnItsWay) → option_map as_unanswered post ≡ option_map as_unanswered (option_map (post_answered is_set) post)
 answered_like is_set None = refl
 answered_like is_set (Some post) = refl
 
@@ -160,7 +160,7 @@ module _ (s : SetupView) (me : ℕ) where
   look_comes NoMove looks rec = inl (record { stage = refl; post = refl; flips = λ comm. refl; calls = refl })
   look_comes _ looks rec = absurd (cc)
 
-  if_comes : (b : Bool) (one other : Act) (rec : Record) → Comes rec (after_act (chunk_of s) one rec) → Comes rec (after_act (chunk_of s) other rec) → Comes rec (after_act (chunk_of s) (if b then one else other) rec)
+  if_comes : (b : Bool) (one other : EventAct) (rec : Record) → Comes rec (after_act (chunk_of s) one rec) → Comes rec (after_act (chunk_of s) other rec) → Comes rec (after_act (chunk_of s) (if b then one else other) rec)
   if_comes true one other rec a b = a
   if_comes false one other rec a b = b
 

@@ -6,13 +6,13 @@ use Rattle.scc_base.specs.Heads.{MessageHead}
 use Rattle.scc_base.specs.Setups.{SetupView, place_of, root_of}
 use Rattle.scc_base.specs.declared.signals.Signal.{Signal}
 use Rattle.scc_base.specs.declared.signals.Signal.TheVariants.{Sent, Ready}
-use Rattle.scc_proto.specs.Messages.{Notes, Progress, begun, is_last, with_chunk, sent_messages, received_messages}
+use Rattle.scc_proto.specs.Messages.{Notes, Progress, fresh_message, is_last, with_chunk, sent_messages, received_messages}
 use Rattle.scc_proto.specs.Stages.{Stage, Idle, Drafting, Sending, Between, Taking, Barrier, OnItsWay, Record}
 use Rattle.scc_proto.specs.Words.{Memory, are_peers}
 use Rattle.scc_proto.specs.Records.{chunk_of}
 use Rattle.scc_proto.specs.Views.{view_of, SameFlagWords}
-use Rattle.scc_proto.specs.Like.{unanswered, Like}
-use Rattle.scc_proto.specs.Pairs.{SendingSide, Resting, Offering, side_of_post, sending_side, taking_side, resumed, pending, settling, HasArrived, Pair, pair_of, IsRaised, IsReady, Phase, InRest, InRaised, InTaken, InReady}
+use Rattle.scc_proto.specs.Like.{as_unanswered, Like}
+use Rattle.scc_proto.specs.Pairs.{SendingSide, Resting, Offering, side_of_post, sending_side, taking_side, message_so_far, pending, settling, HasArrived, Pair, pair_of, IsRaised, IsReady, Phase, InRest, InRaised, InTaken, InReady}
 use Rattle.scc_proto.specs.Groups.{holds_back, releases}
 use Rattle.scc_proto.specs.Registers.{Holder, Nobody, HeldBy}
 use Rattle.scc_proto.specs.Agreement.{Agrees}
@@ -51,12 +51,12 @@ record SameRecords (x y : Pair) : Type 0 where
 module _ (size : ℕ) (x y : Pair) (same : SameRecords x y) where
   raised_ready : (t u : Option Progress) (h : MessageHead) (p : Bool) (c : Notes) (a q : Bool) (m : Progress) (w : Notes) → IsRaised size x t h p c → IsReady size y u a q m w → ⊥
   raised_ready t u h p c a q m w raised ready =
-      let side : Offering false p (resumed t h) c ≡ Offering false q m w = sym (ap unseen raised.sending) ∙ same.sending ∙ ap unseen ready.sending in
-      let ep : p ≡ q = cc (side) in let em : resumed t h ≡ m = cc (side) in let ec : c ≡ w = cc (side) in
+      let side : Offering false p (message_so_far t h) c ≡ Offering false q m w = sym (ap unseen raised.sending) ∙ same.sending ∙ ap unseen ready.sending in
+      let ep : p ≡ q = cc (side) in let em : message_so_far t h ≡ m = cc (side) in let ec : c ≡ w = cc (side) in
       let et : t ≡ u = cc (raised.taking, same.taking, ready.taking) in
       let level : y.sent ≡ y.received ++ pending size q m w =
       sym same.sent ∙ raised.level ∙ (λ i. same.received i ++ pending size (ep i) (em i) (ec i)) in
-      not_arrived (is_last size m) size q m w u y.sent y.received (λ r is. sym em ∙ ap (λ (o : Option Progress). resumed o h) (et ∙ is)) level ready.arrived
+      not_arrived (is_last size m) size q m w u y.sent y.received (λ r is. sym em ∙ ap (λ (o : Option Progress). message_so_far o h) (et ∙ is)) level ready.arrived
 
   -- a side that offers nothing, against one that offers a chunk
   rest_offers : (t : Option Progress) (a p : Bool) (m : Progress) (c : Notes) → x.sending ≡ Resting t → y.sending ≡ Offering a p m c → ⊥
@@ -72,10 +72,10 @@ reversed x y same = record { sending = sym same.sending; taking = sym same.takin
 
 flags_by : (size : ℕ) (x y : Pair) → SameRecords x y → Phase size x → Phase size y → SameFlags x y
 flags_by size x y same (InRest t p) (InRest u q) = record { sent_flag = p.sent_flag ∙ sym q.sent_flag; ready_flag = p.ready_flag ∙ sym q.ready_flag }
-flags_by size x y same (InRest t p) (InRaised u h b c q) = absurd (rest_offers size x y same t false b (resumed u h) c p.sending q.sending)
+flags_by size x y same (InRest t p) (InRaised u h b c q) = absurd (rest_offers size x y same t false b (message_so_far u h) c p.sending q.sending)
 flags_by size x y same (InRest t p) (InTaken m b c w q) = absurd (rest_offers size x y same t false b m c p.sending q.sending)
 flags_by size x y same (InRest t p) (InReady u a b m c q) = absurd (rest_offers size x y same t a b m c p.sending q.sending)
-flags_by size x y same (InRaised t h b c p) (InRest u q) = absurd (rest_offers size y x (reversed x y same) u false b (resumed t h) c q.sending p.sending)
+flags_by size x y same (InRaised t h b c p) (InRest u q) = absurd (rest_offers size y x (reversed x y same) u false b (message_so_far t h) c q.sending p.sending)
 flags_by size x y same (InRaised t h b c p) (InRaised u k d e q) = record { sent_flag = p.sent_flag ∙ sym q.sent_flag; ready_flag = p.ready_flag ∙ sym q.ready_flag }
 flags_by size x y same (InRaised t h b c p) (InTaken m d e w q) = absurd (cc (p.taking, same.taking, q.taking))
 flags_by size x y same (InRaised t h b c p) (InReady u a d m e q) = absurd (raised_ready size x y same t u h b c a d m e p q)
@@ -93,16 +93,16 @@ unseen_post : (b a : Bool) (m : Progress) (c : Notes) → unseen (if b then Offe
 unseen_post true a m c = refl
 unseen_post false a m c = refl
 
-like_post : (r : ℕ) (p q : Option OnItsWay) → option_map unanswered p ≡ option_map unanswered q → unseen (side_of_post r p) ≡ unseen (side_of_post r q)
+like_post : (r : ℕ) (p q : Option OnItsWay) → option_map as_unanswered p ≡ option_map as_unanswered q → unseen (side_of_post r p) ≡ unseen (side_of_post r q)
 like_post r None None same = refl
 like_post r None (Some q) same = absurd (cc (same))
 like_post r (Some p) None same = absurd (cc (same))
 like_post r (Some p) (Some q) same =
-    unseen_post (p.to == r) p.is_answered (begun p.head) p.chunk
-    ∙ ap (λ (x : OnItsWay). if x.to == r then Offering false true (begun x.head) x.chunk else Resting None) (same_Some (unanswered p) (unanswered q) same)
-    ∙ sym (unseen_post (q.to == r) q.is_answered (begun q.head) q.chunk)
+    unseen_post (p.to == r) p.is_answered (fresh_message p.head) p.chunk
+    ∙ ap (λ (x : OnItsWay). if x.to == r then Offering false true (fresh_message x.head) x.chunk else Resting None) (same_Some (as_unanswered p) (as_unanswered q) same)
+    ∙ sym (unseen_post (q.to == r) q.is_answered (fresh_message q.head) q.chunk)
 
-like_side : (r : ℕ) (st : Stage) (p q : Option OnItsWay) → option_map unanswered p ≡ option_map unanswered q → unseen (sending_side r st p) ≡ unseen (sending_side r st q)
+like_side : (r : ℕ) (st : Stage) (p q : Option OnItsWay) → option_map as_unanswered p ≡ option_map as_unanswered q → unseen (sending_side r st p) ≡ unseen (sending_side r st q)
 like_side r Idle p q same = like_post r p q same
 like_side r (Drafting header chunk) p q same = like_post r p q same
 like_side r (Sending to part message chunk) p q same = refl

@@ -10,7 +10,7 @@ use Rattle.scc_base.specs.declared.events.Event.{Event}
 use Rattle.scc_proto.specs.Stages.{HeapStore, Record, blank}
 use Rattle.scc_proto.specs.Moves.{Move, DraftHeader, DraftChunk, RaiseSignal, LookSignal, LowerSignal, FlipGather, LookGather, WriteRelease, LookRelease, NoMove, Misplaced, heap_after}
 use Rattle.scc_proto.specs.Words.{Memory, IsStep, Role, HeaderWord, ChunkWord, SignalFlag, SignalFlags, GatherFlag, ReleaseFlag, HeapWord, IdleWord, role_of}
-use Rattle.scc_proto.specs.Records.{chunk_of, last_of, leads, look_at, look_at_bits, load_by, lowered_below, raises_bit, move_at, change_at, flags_noted, store_by, Act, Moving, NotingSignal, Holding, load_act, store_act, act_by, act_of, after_act, is_permitted, record_after, record_from, record_of}
+use Rattle.scc_proto.specs.Records.{chunk_of, last_of, leads, look_at, look_at_bits, load_by, lowered_below, raises_bit, move_at, change_at, flags_noted, store_by, EventAct, Moving, NotingSignal, Holding, load_act, store_act, act_by, act_of, after_act, is_permitted, record_after, record_from, record_of}
 use Rattle.scc_proto.specs.Agreement.{WordAgrees, WasStored, Agrees}
 
 -- a move that stores nothing in the heap
@@ -69,7 +69,7 @@ module _ (s : SetupView) (me : ℕ) where
       moving : (move : Move) → Quiet move → Contains (heap_after move rec.heap) x → Contains rec.heap x
       moving move quiet has = subst (λ (h : List HeapStore). Contains h x) (quiet rec.heap) has
 
-      noting : (b : Bool) (one other : Act) → (after_act (chunk_of s) one rec).heap ≡ rec.heap → (after_act (chunk_of s) other rec).heap ≡ rec.heap → (after_act (chunk_of s) (if b then one else other) rec).heap ≡ rec.heap
+      noting : (b : Bool) (one other : EventAct) → (after_act (chunk_of s) one rec).heap ≡ rec.heap → (after_act (chunk_of s) other rec).heap ≡ rec.heap → (after_act (chunk_of s) (if b then one else other) rec).heap ≡ rec.heap
       noting true one other p q = p
       noting false one other p q = q
 

@@ -12,7 +12,7 @@ use Rattle.scc_base.specs.declared.events.Access.TheVariants.{Load, Store, Take,
 use Rattle.scc_base.specs.declared.events.Event.{Event}
 use Rattle.scc_base.specs.declared.signals.Signal.{Signal}
 use Rattle.scc_base.specs.declared.signals.Signal.TheVariants.{Sent, Ready}
-use Rattle.scc_proto.specs.Tables.{put}
+use Rattle.scc_proto.specs.Tables.{table_with}
 use Rattle.scc_proto.specs.Stages.{FlagWords, Record}
 use Rattle.scc_proto.specs.Moves.{Move, LowerSignal, RaiseSignal, NoMove}
 use Rattle.scc_proto.specs.Permission.{permits}
@@ -39,9 +39,9 @@ keeps_map change None = record { none = λ is. refl; some = λ is. is }
 keeps_map change (Some flags) = record { none = λ is. absurd (cc); some = λ is. refl }
 
 -- at one core alone the flags are changed
-changed_here : (change : FlagWords → FlagWords) (held : ℕ → Option FlagWords) (c core : ℕ) → Keeps (held core) (put held c (option_map change (held c)) core)
-changed_here change held c core = same_or_other (Keeps (held core) (put held c (option_map change (held c)) core)) core c
-    (λ t e. subst (λ (x : ℕ). Keeps (held x) (put held c (option_map change (held c)) x)) (sym e) (subst (λ (o : Option FlagWords). Keeps (held c) o) (sym (put_here held c (option_map change (held c)))) (keeps_map change (held c))))
+changed_here : (change : FlagWords → FlagWords) (held : ℕ → Option FlagWords) (c core : ℕ) → Keeps (held core) (table_with held c (option_map change (held c)) core)
+changed_here change held c core = same_or_other (Keeps (held core) (table_with held c (option_map change (held c)) core)) core c
+    (λ t e. subst (λ (x : ℕ). Keeps (held x) (table_with held c (option_map change (held c)) x)) (sym e) (subst (λ (o : Option FlagWords). Keeps (held c) o) (sym (put_here held c (option_map change (held c)))) (keeps_map change (held c))))
     (λ t ne. keeps_same (held core) _ (put_there held c (option_map change (held c)) core ne))
 
 holder_kept : (nue register late core : ℕ) (records new : ℕ → Record) → late ≡ register → ((k : ℕ) → Keeps ((records k).held core) ((new k).held core)) → Holder nue register core records → Holder nue late core new
@@ -83,22 +83,22 @@ record IsQuiet (s : SetupView) (memory late : Memory) (held new : ℕ → Option
   pub others : (core : ℕ) (o : Option FlagWords) → (is_some (held core) ≡ true → o ≡ None) → NotedFlags s.layout o (memory.word core 1) → NotedFlags s.layout o (late.word core 1)
 
 module _ (s : SetupView) (memory late : Memory) (records : ℕ → Record) (me : ℕ) (below : me < s.nue) (new : Record) where
-  quiet_keeps : IsQuiet s memory late (records me).held new.held → (core k : ℕ) → Keeps ((records k).held core) ((put records me new k).held core)
-  quiet_keeps quiet core k = same_or_other (Keeps ((records k).held core) ((put records me new k).held core)) k me
-      (λ t e. subst (λ (x : ℕ). Keeps ((records x).held core) ((put records me new x).held core)) (sym e)
+  quiet_keeps : IsQuiet s memory late (records me).held new.held → (core k : ℕ) → Keeps ((records k).held core) ((table_with records me new k).held core)
+  quiet_keeps quiet core k = same_or_other (Keeps ((records k).held core) ((table_with records me new k).held core)) k me
+      (λ t e. subst (λ (x : ℕ). Keeps ((records x).held core) ((table_with records me new x).held core)) (sym e)
       (subst (λ (r : Record). Keeps ((records me).held core) (r.held core)) (sym (put_here records me new)) (quiet.keeps core)))
       (λ t ne. keeps_same _ _ (ap (λ (r : Record). r.held core) (put_there records me new k ne)))
 
-  quiet_noted : IsQuiet s memory late (records me).held new.held → (core : ℕ) → RegisterAgrees s memory core records → (k : ℕ) → k < s.nue → NotedFlags s.layout ((put records me new k).held core) (late.word core 1)
-  quiet_noted quiet core agrees k lt = same_or_other (NotedFlags s.layout ((put records me new k).held core) (late.word core 1)) k me
-      (λ t e. subst (λ (x : ℕ). NotedFlags s.layout ((put records me new x).held core) (late.word core 1)) (sym e)
+  quiet_noted : IsQuiet s memory late (records me).held new.held → (core : ℕ) → RegisterAgrees s memory core records → (k : ℕ) → k < s.nue → NotedFlags s.layout ((table_with records me new k).held core) (late.word core 1)
+  quiet_noted quiet core agrees k lt = same_or_other (NotedFlags s.layout ((table_with records me new k).held core) (late.word core 1)) k me
+      (λ t e. subst (λ (x : ℕ). NotedFlags s.layout ((table_with records me new x).held core) (late.word core 1)) (sym e)
       (subst (λ (r : Record). NotedFlags s.layout (r.held core) (late.word core 1)) (sym (put_here records me new)) (quiet.mine core)))
       (λ t ne. subst (λ (r : Record). NotedFlags s.layout (r.held core) (late.word core 1)) (sym (put_there records me new k ne))
       (quiet.others core ((records k).held core) (λ held. alone s.nue (memory.register core) core records me k agrees.holder below held lt ne) (agrees.noted k lt)))
 
-  quiet_kept : IsQuiet s memory late (records me).held new.held → RegistersAgree s memory records → RegistersAgree s late (put records me new)
+  quiet_kept : IsQuiet s memory late (records me).held new.held → RegistersAgree s memory records → RegistersAgree s late (table_with records me new)
   quiet_kept quiet agrees core = record {
-    holder = holder_kept s.nue (memory.register core) (late.register core) core records (put records me new) (quiet.register core) (quiet_keeps quiet core) (agrees core).holder;
+    holder = holder_kept s.nue (memory.register core) (late.register core) core records (table_with records me new) (quiet.register core) (quiet_keeps quiet core) (agrees core).holder;
     noted = quiet_noted quiet core (agrees core);
   }
 
@@ -122,9 +122,9 @@ noting BitFlags e signal (Some flags) words value is noted = λ other.
     set_noted signal other (Some value) flags (words (signal_word other)) (λ same. subst (λ (x : Signal). words (signal_word x) ≡ value) same is) (λ apart. noted other)
 
 -- the flags under one register are changed, and those under the others are as they were
-at_core : (P : ℕ → Option FlagWords → Type 0) (held : ℕ → Option FlagWords) (c : ℕ) (x : Option FlagWords) (core : ℕ) → P c x → (core ≢ c → P core (held core)) → P core (put held c x core)
-at_core P held c x core here there = same_or_other (P core (put held c x core)) core c
-    (λ t e. subst (λ (k : ℕ). P k (put held c x k)) (sym e) (subst (P c) (sym (put_here held c x)) here))
+at_core : (P : ℕ → Option FlagWords → Type 0) (held : ℕ → Option FlagWords) (c : ℕ) (x : Option FlagWords) (core : ℕ) → P c x → (core ≢ c → P core (held core)) → P core (table_with held c x core)
+at_core P held c x core here there = same_or_other (P core (table_with held c x core)) core c
+    (λ t e. subst (λ (k : ℕ). P k (table_with held c x k)) (sym e) (subst (P c) (sym (put_here held c x)) here))
     (λ t ne. subst (P core) (sym (put_there held c x core ne)) (there ne))
 
 module _ (s : SetupView) (memory : Memory) (rec : Record) (me : ℕ) (place : WordAt) (value : ℕ) (tells : word_at memory place ≡ value) (noted : (core : ℕ) → NotedFlags s.layout (rec.held core) (memory.word core 1)) where
@@ -132,7 +132,7 @@ module _ (s : SetupView) (memory : Memory) (rec : Record) (me : ℕ) (place : Wo
   word_read owner word own = (λ i. memory.word place.core (sym own.at_line i) (sym own.at_word i)) ∙ tells
 
   notes_quiet : (change : FlagWords → FlagWords) → NotedFlags s.layout (option_map change (rec.held place.core)) (memory.word place.core 1)
-      → IsQuiet s memory memory rec.held (put rec.held place.core (option_map change (rec.held place.core)))
+      → IsQuiet s memory memory rec.held (table_with rec.held place.core (option_map change (rec.held place.core)))
   notes_quiet change is = record {
     register = λ core. refl;
     keeps = changed_here change rec.held place.core;
@@ -183,7 +183,7 @@ module _ (s : SetupView) (memory : Memory) (rec : Record) (me : ℕ) (place : Wo
   plain_quiet apart = record { register = λ core. refl; keeps = λ core. keeps_same (rec.held core) (rec.held core) refl; mine = λ core. plain_noted apart core (rec.held core) (noted core); others = λ core o none is. plain_noted apart core o is }
 
   flag_quiet : (change : FlagWords → FlagWords) → is_some (rec.held place.core) ≡ true → NotedFlags s.layout (option_map change (rec.held place.core)) (stored.word place.core 1)
-      → IsQuiet s memory stored rec.held (put rec.held place.core (option_map change (rec.held place.core)))
+      → IsQuiet s memory stored rec.held (table_with rec.held place.core (option_map change (rec.held place.core)))
   flag_quiet change held is = record {
     register = λ core. refl;
     keeps = changed_here change rec.held place.core;
@@ -221,24 +221,24 @@ module _ (s : SetupView) (memory : Memory) (rec : Record) (me : ℕ) (place : Wo
 -- the records with other flags under one rank's registers
 module _ (s : SetupView) (memory : Memory) (records : ℕ → Record) (me : ℕ) (below : me < s.nue) (c : ℕ) (x : Option FlagWords) where
   abbrev holds : ℕ → Record
-  holds = put records me (record (records me) { held = put (records me).held c x })
+  holds = table_with records me (record (records me) { held = table_with (records me).held c x })
 
   mine_there : (core : ℕ) → core ≢ c → (k : ℕ) → (holds k).held core ≡ (records k).held core
   mine_there core ne k = same_or_other ((holds k).held core ≡ (records k).held core) k me
-      (λ t e. ap (λ (i : ℕ). (holds i).held core) e ∙ ap (λ (r : Record). r.held core) (put_here records me (record (records me) { held = put (records me).held c x }))
+      (λ t e. ap (λ (i : ℕ). (holds i).held core) e ∙ ap (λ (r : Record). r.held core) (put_here records me (record (records me) { held = table_with (records me).held c x }))
       ∙ put_there (records me).held c x core ne ∙ ap (λ (i : ℕ). (records i).held core) (sym e))
-      (λ t other. ap (λ (r : Record). r.held core) (put_there records me (record (records me) { held = put (records me).held c x }) k other))
+      (λ t other. ap (λ (r : Record). r.held core) (put_there records me (record (records me) { held = table_with (records me).held c x }) k other))
 
   mine_here : (holds me).held c ≡ x
-  mine_here = ap (λ (r : Record). r.held c) (put_here records me (record (records me) { held = put (records me).held c x })) ∙ put_here (records me).held c x
+  mine_here = ap (λ (r : Record). r.held c) (put_here records me (record (records me) { held = table_with (records me).held c x })) ∙ put_here (records me).held c x
 
   others_here : (k : ℕ) → k ≢ me → (holds k).held c ≡ (records k).held c
-  others_here k ne = ap (λ (r : Record). r.held c) (put_there records me (record (records me) { held = put (records me).held c x }) k ne)
+  others_here k ne = ap (λ (r : Record). r.held c) (put_there records me (record (records me) { held = table_with (records me).held c x }) k ne)
 
   -- the other registers are as they were
-  agrees_there : (register : ℕ) (core : ℕ) → core ≢ c → RegisterAgrees s memory core records → RegisterAgrees s (record memory { register = put memory.register c register }) core holds
+  agrees_there : (register : ℕ) (core : ℕ) → core ≢ c → RegisterAgrees s memory core records → RegisterAgrees s (record memory { register = table_with memory.register c register }) core holds
   agrees_there register core ne agrees = record {
-    holder = holder_kept s.nue (memory.register core) (put memory.register c register core) core records holds (put_there memory.register c register core ne) (λ k. keeps_same _ _ (mine_there core ne k)) agrees.holder;
+    holder = holder_kept s.nue (memory.register core) (table_with memory.register c register core) core records holds (put_there memory.register c register core ne) (λ k. keeps_same _ _ (mine_there core ne k)) agrees.holder;
     noted = λ k lt. subst (λ (o : Option FlagWords). NotedFlags s.layout o (memory.word core 1)) (sym (mine_there core ne k)) (agrees.noted k lt);
   }
 
@@ -247,9 +247,9 @@ module _ (s : SetupView) (memory : Memory) (records : ℕ → Record) (me : ℕ)
       (λ t e. subst (λ (o : Option FlagWords). NotedFlags s.layout o (memory.word c 1)) (sym (ap (λ (i : ℕ). (holds i).held c) e ∙ mine_here)) is)
       (λ t ne. subst (λ (o : Option FlagWords). NotedFlags s.layout o (memory.word c 1)) (sym (others_here k ne)) (noted k lt))
 
-  agrees_at : (register : ℕ) → RegisterAgrees s (record memory { register = put memory.register c register }) c holds → RegistersAgree s memory records → RegistersAgree s (record memory { register = put memory.register c register }) holds
-  agrees_at register here agrees core = same_or_other (RegisterAgrees s (record memory { register = put memory.register c register }) core holds) core c
-      (λ t e. subst (λ (i : ℕ). RegisterAgrees s (record memory { register = put memory.register c register }) i holds) (sym e) here)
+  agrees_at : (register : ℕ) → RegisterAgrees s (record memory { register = table_with memory.register c register }) c holds → RegistersAgree s memory records → RegistersAgree s (record memory { register = table_with memory.register c register }) holds
+  agrees_at register here agrees core = same_or_other (RegisterAgrees s (record memory { register = table_with memory.register c register }) core holds) core c
+      (λ t e. subst (λ (i : ℕ). RegisterAgrees s (record memory { register = table_with memory.register c register }) i holds) (sym e) here)
       (λ t ne. agrees_there register core ne (agrees core))
 
 none_in : (signal : Signal) → flags_in signal (record { sent = None; ready = None }) ≡ None
@@ -266,7 +266,7 @@ nobody_holds nue register core records free (Nobody is nobody) k lt = nobody k l
 nobody_holds nue register core records free (HeldBy holder low is held others) k lt = absurd (omega (arith, free, is))
 
 taken_kept : (s : SetupView) (memory : Memory) (records : ℕ → Record) (me : ℕ) → me < s.nue → (c : ℕ) → memory.register c ≡ 0 → RegistersAgree s memory records
-    → RegistersAgree s (record memory { register = put memory.register c 1 }) (put records me (record (records me) { held = put (records me).held c (Some (record { sent = None; ready = None })) }))
+    → RegistersAgree s (record memory { register = table_with memory.register c 1 }) (table_with records me (record (records me) { held = table_with (records me).held c (Some (record { sent = None; ready = None })) }))
 taken_kept s memory records me below c free agrees =
     let x : Option FlagWords = Some (record { sent = None; ready = None }) in
     agrees_at s memory records me below c x 1 (record {
@@ -276,7 +276,7 @@ taken_kept s memory records me below c free agrees =
     }) agrees
 
 freed_kept : (s : SetupView) (memory : Memory) (records : ℕ → Record) (me : ℕ) → me < s.nue → (c : ℕ) → is_some ((records me).held c) ≡ true → RegistersAgree s memory records
-    → RegistersAgree s (record memory { register = put memory.register c 0 }) (put records me (record (records me) { held = put (records me).held c None }))
+    → RegistersAgree s (record memory { register = table_with memory.register c 0 }) (table_with records me (record (records me) { held = table_with (records me).held c None }))
 freed_kept s memory records me below c held agrees =
     agrees_at s memory records me below c None 0 (record {
       holder = Nobody (put_here memory.register c 0) (λ k lt. same_or_other ((holds s memory records me below c None k).held c ≡ None) k me
@@ -289,7 +289,7 @@ freed_kept s memory records me below c held agrees =
 
 module _ (s : SetupView) (memory : Memory) (records : ℕ → Record) (me : ℕ) (below : me < s.nue) (place : WordAt) (value : ℕ) (agrees : RegistersAgree s memory records) where
   abbrev Kept : Access → Type 0
-  Kept access = RegistersAgree s (memory_by access place value memory) (put records me (record_after s me (records me) (record { access = access; place = place; value = value })))
+  Kept access = RegistersAgree s (memory_by access place value memory) (table_with records me (record_after s me (records me) (record { access = access; place = place; value = value })))
 
   load_kept : place.word < 4 → word_at memory place ≡ value → Kept Load
   unfolding act_of
@@ -298,32 +298,32 @@ module _ (s : SetupView) (memory : Memory) (records : ℕ → Record) (me : ℕ)
 
   store_kept : place.word < 4 → permits_act (chunk_of s) (store_act s me (records me) place value (role_of s place)) (records me) ≡ true → Kept Store
   unfolding act_of
-  store_kept word may = subst (λ (r : Record). RegistersAgree s (memory_by Store place value memory) (put records me r)) (sym (if_yes _ _ (records me) may))
+  store_kept word may = subst (λ (r : Record). RegistersAgree s (memory_by Store place value memory) (table_with records me r)) (sym (if_yes _ _ (records me) may))
       (quiet_kept s memory (memory_by Store place value memory) records me below (after_act (chunk_of s) (store_act s me (records me) place value (role_of s place)) (records me))
       (store_quiet s memory (records me) me place value (λ core. (agrees core).noted me below) (role_of s place) (role_stands s place word) may) agrees)
 
   take_by : (b : Bool) → (b ≡ true → memory.register place.core ≡ 0)
-      → RegistersAgree s (record memory { register = if b then put memory.register place.core 1 else memory.register }) (put records me (after_act (chunk_of s) (if b then Holding place.core else Moving NoMove) (records me)))
+      → RegistersAgree s (record memory { register = if b then table_with memory.register place.core 1 else memory.register }) (table_with records me (after_act (chunk_of s) (if b then Holding place.core else Moving NoMove) (records me)))
   take_by true free = taken_kept s memory records me below place.core (free refl) agrees
   take_by false free = quiet_kept s memory memory records me below (records me) (same_quiet s memory (records me).held (λ core. (agrees core).noted me below)) agrees
 
   take_kept : ((value ≡ 1) × (memory.register place.core ≡ 0)) ⊎ ((value ≡ 0) × (memory.register place.core ≡ 1)) → is_none ((records me).held place.core) ≡ true → Kept Take
   unfolding act_of
-  take_kept found may = subst (λ (r : Record). RegistersAgree s (memory_by Take place value memory) (put records me r)) (sym (if_yes _ _ (records me) may))
+  take_kept found may = subst (λ (r : Record). RegistersAgree s (memory_by Take place value memory) (table_with records me r)) (sym (if_yes _ _ (records me) may))
       (take_by (value == 1) (λ t. ⊎_elim (λ (a : (value ≡ 1) × (memory.register place.core ≡ 0)). a.1)
       (λ (a : (value ≡ 0) × (memory.register place.core ≡ 1)). let one = eq_is value 1 t in absurd (omega (arith, a.0, one))) found))
 
   free_kept : is_some ((records me).held place.core) ≡ true → Kept Free
   unfolding act_of
-  free_kept may = subst (λ (r : Record). RegistersAgree s (memory_by Free place value memory) (put records me r)) (sym (if_yes _ _ (records me) may)) (freed_kept s memory records me below place.core may agrees)
+  free_kept may = subst (λ (r : Record). RegistersAgree s (memory_by Free place value memory) (table_with records me r)) (sym (if_yes _ _ (records me) may)) (freed_kept s memory records me below place.core may agrees)
 
 -- the registers agree with what the ranks hold, after each permitted event that is a step
 pub registers_kept : (s : SetupView) (me : ℕ) (memory : Memory) (records : ℕ → Record) (e : Event) → IsSetup s → me < s.nue → IsEvent e → IsStep memory e → IsPermitted s me (records me) e → RegistersAgree s memory records
-    → RegistersAgree s (memory_after memory e) (put records me (record_after s me (records me) e))
+    → RegistersAgree s (memory_after memory e) (table_with records me (record_after s me (records me) e))
 registers_kept s me memory records e valid below is step may agrees = by e.access e.place e.value is step may
   where
     by : (access : Access) (place : WordAt) (value : ℕ) → IsAccess access place value → IsStepBy access place value memory → IsTrue (permits_by s me (records me) access place value)
-        → RegistersAgree s (memory_by access place value memory) (put records me (record_after s me (records me) (record { access = access; place = place; value = value })))
+        → RegistersAgree s (memory_by access place value memory) (table_with records me (record_after s me (records me) (record { access = access; place = place; value = value })))
     by Load place value is step may = load_kept s memory records me below place value agrees is.0.word_below step
     by Store place value is step may = store_kept s memory records me below place value agrees is.0.word_below may
     by Take place value is step may = take_kept s memory records me below place value agrees step may

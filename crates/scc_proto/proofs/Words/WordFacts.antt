@@ -10,7 +10,7 @@ use Rattle.scc_proto.specs.Messages.{is_head, is_post_head, message_of, send_to}
 use Rattle.scc_proto.specs.Stages.{Stage, Idle, Drafting, Sending, Between, Taking, Barrier, Record}
 use Rattle.scc_proto.specs.Words.{Memory, Role, role_of, word_at}
 use Rattle.scc_proto.specs.Records.{chunk_of}
-use Rattle.scc_proto.specs.Passed.{IsPassed, in_hand, open_of, open_call, is_received, is_gathered, passed_open, passed_calls}
+use Rattle.scc_proto.specs.Passed.{IsPassed, in_hand, call_in_stage, open_call, is_received_ahead, is_gathered, passed_open, passed_calls}
 use Rattle.scc_proto.specs.Registers.{Holder, Nobody, HeldBy}
 use Rattle.scc_proto.specs.Agreement.{Agrees, WordAgrees}
 
@@ -19,10 +19,10 @@ passed_if : (calls : List DataCall) (call : DataCall) (test : Bool) → IsPassed
 passed_if calls call true = inr (call, refl, refl)
 passed_if calls call false = inl (append-nil calls)
 
-passed_by : (s : SetupView) (records : ℕ → Record) (me : ℕ) (calls : List DataCall) (stage : Stage) → IsPassed calls (open_of (chunk_of s) stage) (calls ++ passed_open s me stage records)
+passed_by : (s : SetupView) (records : ℕ → Record) (me : ℕ) (calls : List DataCall) (stage : Stage) → IsPassed calls (call_in_stage (chunk_of s) stage) (calls ++ passed_open s me stage records)
 passed_by s records me calls Idle = inl (append-nil calls)
 passed_by s records me calls (Drafting header chunk) = inl (append-nil calls)
-passed_by s records me calls (Sending to part message chunk) = passed_if calls (send_to to (message_of (in_hand (chunk_of s) part message chunk))) (is_received me to records)
+passed_by s records me calls (Sending to part message chunk) = passed_if calls (send_to to (message_of (in_hand (chunk_of s) part message chunk))) (is_received_ahead me to records)
 passed_by s records me calls (Between from message) = inl (append-nil calls)
 passed_by s records me calls (Taking from message chunk) = inl (append-nil calls)
 passed_by s records me calls (Barrier comm seen released) = passed_if calls (Bar comm) (is_gathered s comm me records)
@@ -31,7 +31,7 @@ pub passed_is : (s : SetupView) (records : ℕ → Record) (me : ℕ) → IsPass
 passed_is s records me = passed_by s records me (records me).calls (records me).stage
 
 pub idle_opens_nothing : (s : SetupView) (rec : Record) → rec.stage ≡ Idle → open_call s rec ≡ None
-idle_opens_nothing s rec idle = ap (open_of (chunk_of s)) idle
+idle_opens_nothing s rec idle = ap (call_in_stage (chunk_of s)) idle
 
 -- ---- heads
 

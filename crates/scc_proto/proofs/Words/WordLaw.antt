@@ -9,7 +9,7 @@ use Rattle.scc_base.specs.Events.{IsAccess, IsEvent}
 use Rattle.scc_base.specs.declared.events.Access.{Access}
 use Rattle.scc_base.specs.declared.events.Access.TheVariants.{Load, Store, Take, Free}
 use Rattle.scc_base.specs.declared.events.Event.{Event}
-use Rattle.scc_proto.specs.Tables.{put}
+use Rattle.scc_proto.specs.Tables.{table_with}
 use Rattle.scc_proto.specs.Stages.{HeapStore, Record}
 use Rattle.scc_proto.specs.Moves.{Move, LowerSignal, RaiseSignal, StoreHeap, Misplaced, heap_after, after}
 use Rattle.scc_proto.specs.Permission.{permits}
@@ -30,8 +30,8 @@ heap_grows (StoreHeap place value) heap x has = Contains-append_left heap (recor
 heap_grows move heap x has = has
 
 module _ (s : SetupView) (records : ℕ → Record) (me : ℕ) (new : Record) (grows : (x : HeapStore) → Contains (records me).heap x → Contains new.heap x) where
-  stored_stays : (place : WordAt) (word : ℕ) → WasStored s.nue records place word → WasStored s.nue (put records me new) place word
-  stored_stays place word was = same_or_other (WasStored s.nue (put records me new) place word) was.by me
+  stored_stays : (place : WordAt) (word : ℕ) → WasStored s.nue records place word → WasStored s.nue (table_with records me new) place word
+  stored_stays place word was = same_or_other (WasStored s.nue (table_with records me new) place word) was.by me
       (λ t e. record {
         by = me;
         below = subst (λ (k : ℕ). k < s.nue) e was.below;
@@ -40,22 +40,22 @@ module _ (s : SetupView) (records : ℕ → Record) (me : ℕ) (new : Record) (g
       })
       (λ t ne. record { by = was.by; below = was.below; stored = subst (λ (r : Record). Contains r.heap (record { place = place; value = word })) (sym (put_there records me new was.by ne)) was.stored })
 
-  word_stays : (role : Role) (place : WordAt) (word : ℕ) → WordAgrees s place word records role → WordAgrees s place word (put records me new) role
+  word_stays : (role : Role) (place : WordAt) (word : ℕ) → WordAgrees s place word records role → WordAgrees s place word (table_with records me new) role
   word_stays HeapWord place word agrees = ⊎_elim (λ (zero : word ≡ 0). inl zero) (λ (was : WasStored s.nue records place word). inr (stored_stays place word was)) agrees
   word_stays IdleWord place word agrees = agrees
   word_stays (SignalFlags signal at) place word agrees = agrees
   word_stays role place word agrees = tt
 
   -- the same words
-  words_stay : (memory late : Memory) → ((place : WordAt) → word_at late place ≡ word_at memory place) → WordsAgree s memory records → WordsAgree s late (put records me new)
-  words_stay memory late same agrees place is = subst (λ (word : ℕ). WordAgrees s place word (put records me new) (role_of s place)) (sym (same place)) (word_stays (role_of s place) place (word_at memory place) (agrees place is))
+  words_stay : (memory late : Memory) → ((place : WordAt) → word_at late place ≡ word_at memory place) → WordsAgree s memory records → WordsAgree s late (table_with records me new)
+  words_stay memory late same agrees place is = subst (λ (word : ℕ). WordAgrees s place word (table_with records me new) (role_of s place)) (sym (same place)) (word_stays (role_of s place) place (word_at memory place) (agrees place is))
 
   -- another word at one place
-  word_stored : (memory : Memory) (place : WordAt) (value : ℕ) → WordAgrees s place value (put records me new) (role_of s place) → WordsAgree s memory records → WordsAgree s (memory_by Store place value memory) (put records me new)
-  word_stored memory place value here agrees q is = same_word (WordAgrees s q (word_at (memory_by Store place value memory) q) (put records me new) (role_of s q)) place q
-      (λ e. subst (λ (word : ℕ). WordAgrees s q word (put records me new) (role_of s q)) (sym (stored_here place value memory q e))
-      (subst (λ (p : WordAt). WordAgrees s p value (put records me new) (role_of s p)) e here))
-      (λ ne. subst (λ (word : ℕ). WordAgrees s q word (put records me new) (role_of s q)) (sym (stored_there place value memory q ne)) (word_stays (role_of s q) q (word_at memory q) (agrees q is)))
+  word_stored : (memory : Memory) (place : WordAt) (value : ℕ) → WordAgrees s place value (table_with records me new) (role_of s place) → WordsAgree s memory records → WordsAgree s (memory_by Store place value memory) (table_with records me new)
+  word_stored memory place value here agrees q is = same_word (WordAgrees s q (word_at (memory_by Store place value memory) q) (table_with records me new) (role_of s q)) place q
+      (λ e. subst (λ (word : ℕ). WordAgrees s q word (table_with records me new) (role_of s q)) (sym (stored_here place value memory q e))
+      (subst (λ (p : WordAt). WordAgrees s p value (table_with records me new) (role_of s p)) e here))
+      (λ ne. subst (λ (word : ℕ). WordAgrees s q word (table_with records me new) (role_of s q)) (sym (stored_there place value memory q ne)) (word_stays (role_of s q) q (word_at memory q) (agrees q is)))
 
 -- ---- a change of a word of flags leaves the bits that are nobody's
 
@@ -89,7 +89,7 @@ module _ (s : SetupView) (rec : Record) (me : ℕ) (below : me < s.nue) (value :
 module _ (s : SetupView) (memory : Memory) (records : ℕ → Record) (me : ℕ) (below : me < s.nue) (place : WordAt) (value : ℕ) (noted : NotedFlags s.layout ((records me).held place.core) (memory.word place.core 1)) where
   -- the word that is stored, by its use
   stored_agrees : (role : Role) → Stands s place role → permits_act (chunk_of s) (store_act s me (records me) place value role) (records me) ≡ true → WordAgrees s place (word_at memory place) records role
-      → WordAgrees s place value (put records me (after_act (chunk_of s) (store_act s me (records me) place value role) (records me))) role
+      → WordAgrees s place value (table_with records me (after_act (chunk_of s) (store_act s me (records me) place value role) (records me))) role
   stored_agrees HeapWord st may agrees = inr (record {
     by = me;
     below = below;
@@ -104,7 +104,7 @@ module _ (s : SetupView) (memory : Memory) (records : ℕ → Record) (me : ℕ)
 
 -- heap words, idle words and nobody's bits agree, after each permitted event that is a step
 pub words_kept : (s : SetupView) (me : ℕ) (memory : Memory) (records : ℕ → Record) (e : Event) → IsSetup s → me < s.nue → IsEvent e → IsStep memory e → IsPermitted s me (records me) e → RegistersAgree s memory records → WordsAgree s memory records
-    → WordsAgree s (memory_after memory e) (put records me (record_after s me (records me) e))
+    → WordsAgree s (memory_after memory e) (table_with records me (record_after s me (records me) e))
 unfolding act_of
 words_kept s me memory records e valid below is step may registers agrees = by e.access e.place e.value is step may grows
   where
@@ -114,12 +114,12 @@ words_kept s me memory records e valid below is step may registers agrees = by e
 
     by : (access : Access) (place : WordAt) (value : ℕ) → IsAccess access place value → IsStepBy access place value memory → IsTrue (permits_by s me (records me) access place value)
         → ((x : HeapStore) → Contains (records me).heap x → Contains (record_after s me (records me) (record { access = access; place = place; value = value })).heap x)
-        → WordsAgree s (memory_by access place value memory) (put records me (record_after s me (records me) (record { access = access; place = place; value = value })))
+        → WordsAgree s (memory_by access place value memory) (table_with records me (record_after s me (records me) (record { access = access; place = place; value = value })))
     by Load place value is step may grows = words_stay s records me (record_after s me (records me) (record { access = Load; place = place; value = value })) grows memory memory (λ p. refl) agrees
     by Take place value is step may grows = words_stay s records me (record_after s me (records me) (record { access = Take; place = place; value = value })) grows memory (memory_by Take place value memory) (λ p. refl) agrees
     by Free place value is step may grows = words_stay s records me (record_after s me (records me) (record { access = Free; place = place; value = value })) grows memory (memory_by Free place value memory) (λ p. refl) agrees
     by Store place value is step may grows =
         word_stored s records me (record_after s me (records me) (record { access = Store; place = place; value = value })) grows memory place value
-        (subst (λ (r : Record). WordAgrees s place value (put records me r) (role_of s place)) (sym (if_yes _ _ (records me) may))
+        (subst (λ (r : Record). WordAgrees s place value (table_with records me r) (role_of s place)) (sym (if_yes _ _ (records me) may))
         (stored_agrees s memory records me below place value ((registers place.core).noted me below) (role_of s place) (role_stands s place is.0.word_below) may (agrees place is.0)))
         agrees

@@ -23,7 +23,7 @@ use Rattle.scc_base.specs.declared.communicators.CommRule.TheVariants as rule
 use Rattle.script_reader.specs.Checks.{has_root, is_absent, is_to_self}
 use Rattle.script_reader.specs.Effects.{comm_needed, effect_of}
 use Rattle.script_reader.specs.Script.{IsSized, Script, has_rank, peer_of, rules_of}
-use Rattle.script_reader.specs.Settled.{HasPeer, IsSettled, IsWhole}
+use Rattle.script_reader.specs.Settled.{HasPeer, IsSettled, IsWholeScript}
 use Rattle.script_reader.specs.declared.script.Item.{Item}
 use Rattle.script_reader.specs.declared.script.Peer.{Peer}
 use Rattle.script_reader.specs.declared.script.Stmt.{Stmt}
@@ -144,7 +144,7 @@ module _ (script : Script) (rank : ℕ) where
       by false has = tt
 
   -- the program's
-  pub program_aimed : IsWhole script.nue script.items → rank < script.nue → AreAimed (program_of script rank)
+  pub program_aimed : IsWholeScript script.nue script.items → rank < script.nue → AreAimed (program_of script rank)
   program_aimed whole within =
       hold_program AreAimed tt aimed_both (setup_of script) rank script.items (λ k item found. aimed_prims item (λ has.
       let settled = at-found (IsSettled script.nue (rules_of script.items)) script.items k item whole.settled found in

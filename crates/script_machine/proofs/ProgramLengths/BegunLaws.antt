@@ -4,7 +4,7 @@ use Rattle.std.specs.Prelude.{◌==◌}
 use Rattle.scc_base.specs.Heads.{MessageHead}
 use Rattle.scc_base.specs.Setups.{SetupView, members_of, place_of}
 use Rattle.scc_base.specs.declared.kinds.Kind.TheVariants as kind
-use Rattle.groups.specs.Collectives.{IsCallable, head_of, other_steps, others_of, root_steps, send_each, steps_of}
+use Rattle.groups.specs.Collectives.{IsCallable, head_of_kind, other_steps, others_of, root_steps, send_each, steps_of}
 use Rattle.groups.specs.declared.collectives.Coll.{Coll}
 use Rattle.groups.specs.declared.collectives.Coll.TheVariants as coll
 use Rattle.script_machine.specs.Program.{begins, call_steps, can_call}
@@ -22,7 +22,7 @@ cast_begins s rank comm root len = never (place_of s comm rank == root)
     others = others_of s comm rank root
 
     never : (b : Bool) → begins (cond b (root_steps (coll.Bcast comm root len) others) (other_steps (coll.Bcast comm root len) (slice_index (members_of s comm rank) root))) ≡ false
-    never true = sends_begin (head_of kind.Bcast comm len) others
+    never true = sends_begin (head_of_kind kind.Bcast comm len) others
     never false = refl
 
 -- a call that has a step can be made, and it is a step of the call

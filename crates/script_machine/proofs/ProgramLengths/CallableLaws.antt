@@ -13,7 +13,7 @@ use Rattle.scc_base.specs.declared.communicators.CommRule.TheVariants as rule
 use Rattle.script_reader.specs.Checks.{has_no_root, has_root, is_absent, is_past_group}
 use Rattle.script_reader.specs.Effects.{comm_needed, effect_of}
 use Rattle.script_reader.specs.Script.{IsSized, Script, has_rank, rules_of}
-use Rattle.script_reader.specs.Settled.{IsSettled, IsWhole, run_with}
+use Rattle.script_reader.specs.Settled.{IsSettled, IsWholeScript, run_with}
 use Rattle.script_reader.specs.declared.script.Item.{Item}
 use Rattle.script_reader.specs.declared.script.Stmt.{Stmt}
 use Rattle.script_reader.specs.declared.script.Stmt.TheVariants as stmt
@@ -65,7 +65,7 @@ module _ (script : Script) (rank : ℕ) (below : rank < script.nue) where
   callable_by _ call is short there rooted = absurd (cc)
 
 -- a collective call of an item may be made by the ranks of its section
-pub callable : (script : Script) → IsWhole script.nue script.items → (k : ℕ) (item : Item) (rank : ℕ) → slice_get script.items k ≡ Some item → rank < script.nue → has_rank item.who rank ≡ true
+pub callable : (script : Script) → IsWholeScript script.nue script.items → (k : ℕ) (item : Item) (rank : ℕ) → slice_get script.items k ≡ Some item → rank < script.nue → has_rank item.who rank ≡ true
     → (call : Collective) → collective_of item.stmt ≡ Some call → can_call (setup_of script) rank call.coll ≡ true
 callable script whole k item rank found below has call is =
     let settled = at-found (IsSettled script.nue (rules_of script.items)) script.items k item whole.settled found in

@@ -5,10 +5,10 @@ use Rattle.script_machine.specs.declared.held.Held.{Held}
 use Rattle.script_machine.specs.declared.prims.Action.{Action}
 use Rattle.script_machine.specs.declared.prims.Action.TheVariants as action
 use Rattle.script_machine.specs.declared.prims.Standing.{Standing}
-use Rattle.script_machine.specs.Holds.{HasRoomFor, local_with, rooms_with, worked}
+use Rattle.script_machine.specs.Holds.{HasRoomFor, local_with, rooms_with, held_after_own}
 use Rattle.script_machine.specs.Lengths.{lengths_of}
 use Rattle.script_machine.specs.Local.{Local, local_next, next_by_act, next_by_prim, next_prim}
-use Rattle.script_machine.specs.Moves.{length_in, went}
+use Rattle.script_machine.specs.Moves.{length_asked, went}
 use Rattle.script_machine.specs.Next.{Next, is_going}
 use Rattle.script_machine.specs.Next.Next.{Ends, Goes, Posts, Sends, Recvs, Bars}
 use Rattle.script_machine.specs.Program.{Prim}
@@ -38,22 +38,22 @@ module _ (h : Held) (walk : WalkView) (state : Standing) (line : ℕ) where
 
   -- and it does what the step of the rank says
   pub worked_local : (a : Action) (on : WalkView) → is_going (next_by_act (local_with h walk state) line (act_meant a)) ≡ true → on.left ≡ drop 1 walk.left
-      → local_with (worked a h) on state ≡ after (next_by_act (local_with h walk state) line (act_meant a)) [] (local_with h walk state)
+      → local_with (held_after_own a h) on state ≡ after (next_by_act (local_with h walk state) line (act_meant a)) [] (local_with h walk state)
   worked_local (action.Send to head source) on going left = absurd (cc)
   worked_local (action.Post to reg) on going left = absurd (cc)
   worked_local (action.Recv from reg head) on going left = absurd (cc)
   worked_local (action.Gather from head sized) on going left = absurd (cc)
   worked_local (action.Bar comm) on going left = absurd (cc)
-  worked_local (action.Own (own.Print reg form)) on going left = ap (λ (l : List Prim). record (local_with (worked (action.Own (own.Print reg form)) h) walk state) { left = l }) left
-  worked_local a on going left = ap (λ (l : List Prim). record (local_with (worked a h) walk state) { left = l }) left
+  worked_local (action.Own (own.Print reg form)) on going left = ap (λ (l : List Prim). record (local_with (held_after_own (action.Own (own.Print reg form)) h) walk state) { left = l }) left
+  worked_local a on going left = ap (λ (l : List Prim). record (local_with (held_after_own a h) walk state) { left = l }) left
 
 -- no room is another one
-pub worked_rooms : (a : Action) (h : Held) → rooms_with (worked a h) ≡ rooms_with h
+pub worked_rooms : (a : Action) (h : Held) → rooms_with (held_after_own a h) ≡ rooms_with h
 worked_rooms (action.Own (own.Print reg form)) h = refl
 worked_rooms _ h = refl
 
 -- a statement of the rank alone asks for no bytes
-pub none_asked : (n : Next Local) → is_going n ≡ true → 0 ≡ length_in n
+pub none_asked : (n : Next Local) → is_going n ≡ true → 0 ≡ length_asked n
 none_asked Ends going = absurd (cc)
 none_asked (Goes next) going = refl
 none_asked (Posts message next) going = absurd (cc)

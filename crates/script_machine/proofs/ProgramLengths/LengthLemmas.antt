@@ -9,7 +9,7 @@ use Rattle.scc_base.specs.declared.communicators.CommRule.{CommRule}
 use Rattle.script_reader.specs.Acceptance.{IsFitting, IsPostable, IsReadable, IsWholeOf, length_before, length_of}
 use Rattle.script_reader.specs.Effects.{effect_of}
 use Rattle.script_reader.specs.Script.{Script, has_rank, rules_of}
-use Rattle.script_reader.specs.Settled.{IsWhole, run_with}
+use Rattle.script_reader.specs.Settled.{IsWholeScript, run_with}
 use Rattle.script_reader.specs.declared.script.Item.{Item}
 use Rattle.script_reader.specs.declared.script.Stmt.{Stmt}
 use Rattle.script_reader.specs.declared.script.Stmt.TheVariants as stmt
@@ -62,7 +62,7 @@ pub at-found : (P : Item → Type 0) (items : List Item) (k : ℕ) (item : Item)
 at-found P items k item all found = subst P (get_or_from_slice_get items k item item found) (all k item (slice_get_within items k item found))
 
 -- what each statement of a script that was read says of the lengths of a rank's registers
-pub reckoned : (script : Script) → IsWhole script.nue script.items → (k : ℕ) (item : Item) (rank : ℕ) → slice_get script.items k ≡ Some item → rank < script.nue → has_rank item.who rank ≡ true
+pub reckoned : (script : Script) → IsWholeScript script.nue script.items → (k : ℕ) (item : Item) (rank : ℕ) → slice_get script.items k ≡ Some item → rank < script.nue → has_rank item.who rank ≡ true
     → Reckons (rules_of script.items) (length_of script rank) rank item.stmt
 reckoned script whole k item rank found below has =
     reckons script.nue (rules_of script.items) (length_before script k rank) (length_of script rank) rank (λ reg n is. stays-law script k rank reg n is) item.stmt

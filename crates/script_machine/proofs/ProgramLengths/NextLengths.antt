@@ -11,8 +11,8 @@ use Rattle.groups.specs.declared.operations.Op.{Op}
 use Rattle.groups.specs.declared.operations.Ty.{Ty}
 use Rattle.groups.proofs.FoldLemmas.{fold_length}
 use Rattle.script_machine.specs.Lengths.{lengths_after, lengths_of, printed_bytes}
-use Rattle.script_machine.specs.Local.{Local, folded, next_by_act, own_registers, register_at}
-use Rattle.script_machine.specs.Moves.{length_in}
+use Rattle.script_machine.specs.Local.{Local, fold_if_fits, next_by_act, own_registers, register_at}
+use Rattle.script_machine.specs.Moves.{length_asked}
 use Rattle.script_machine.specs.Next.{Next}
 use Rattle.script_machine.specs.Next.Next.{Ends, Goes, Posts, Sends, Recvs, Bars}
 use Rattle.script_machine.specs.Program.{Act}
@@ -20,7 +20,7 @@ use Rattle.script_machine.specs.Program.Act.{Set, Own, Send, Post, Recv, Gather,
 use Rattle.script_machine.proofs.Choices as choices
 
 -- a fold is as long as what it is folded into
-pub folded_length : (op : Op) (ty : Ty) (acc more : List ℕ) → length (folded op ty acc more) ≡ length acc
+pub folded_length : (op : Op) (ty : Ty) (acc more : List ℕ) → length (fold_if_fits op ty acc more) ≡ length acc
 folded_length op ty acc more = by ((length acc == length more) && (length acc % bytes_in ty == 0)) refl
   where
     by : (b : Bool) → ((length acc == length more) && (length acc % bytes_in ty == 0)) ≡ b → length (cond b (fold_values op ty acc more) acc) ≡ length acc
@@ -49,7 +49,7 @@ length_same u v same reg = length_index v.registers reg ∙ ap (λ (l : List ℕ
 
 -- a statement of the rank's own leaves each register as long as it is
 pub own_even : (u : Local) (o : OwnStmt) → map length (own_registers u o) ≡ map length u.registers
-own_even u (own.Apply op ty dst src) = length_kept u.registers dst (folded op ty (register_at u dst) (register_at u src)) (folded_length op ty (register_at u dst) (register_at u src))
+own_even u (own.Apply op ty dst src) = length_kept u.registers dst (fold_if_fits op ty (register_at u dst) (register_at u src)) (folded_length op ty (register_at u dst) (register_at u src))
 own_even u (own.Print reg form) = refl
 
 pub lengths_unset : (count : ℕ) (empty : List ℕ) → length empty ≡ 0 → map length (replicate count empty) ≡ replicate count 0
@@ -69,7 +69,7 @@ after (Recvs from head take refuse) bytes u = take bytes
 after (Bars comm next) bytes u = next
 
 -- the lengths after a primitive are those that it brings
-pub lengths_next : (u : Local) (line : ℕ) (act : Act) (bytes : List ℕ) → length bytes ≡ length_in (next_by_act u line act) → lengths_of (after (next_by_act u line act) bytes u) ≡ lengths_after (lengths_of u) act
+pub lengths_next : (u : Local) (line : ℕ) (act : Act) (bytes : List ℕ) → length bytes ≡ length_asked (next_by_act u line act) → lengths_of (after (next_by_act u line act) bytes u) ≡ lengths_after (lengths_of u) act
 lengths_next u line (Set reg content) bytes same = ap (λ (l : List ℕ). record (lengths_of u) { registers = l }) (length_put u.registers reg (length content) content refl)
 lengths_next u line (Own (own.Apply op ty dst src)) bytes same = ap (λ (l : List ℕ). record (lengths_of u) { registers = l }) (own_even u (own.Apply op ty dst src))
 lengths_next u line (Own (own.Print reg form)) bytes same =

@@ -13,12 +13,12 @@ use Rattle.script_machine.specs.declared.prims.Standing.TheVariants as standing
 use Rattle.script_machine.specs.declared.prints.Entry.{Entry}
 use Rattle.script_reader.specs.Script.{Script}
 use Rattle.scc_base.specs.Heads.{MessageHead}
-use Rattle.script_machine.specs.Lengths.{Lengths, length_at, lengths_after, lengths_of, with_register}
+use Rattle.script_machine.specs.Lengths.{Lengths, length_of_register, lengths_after, lengths_of, with_register}
 use Rattle.script_machine.specs.Local.{Local, local_next, local_start, next_by_act, next_by_prim, next_prim, prim_by_standing}
-use Rattle.script_machine.specs.Moves.{length_in}
+use Rattle.script_machine.specs.Moves.{length_asked}
 use Rattle.script_machine.specs.Program.{Prim}
 use Rattle.script_machine.specs.Program.Act.{Gather}
-use Rattle.script_machine.specs.Rooms.{AreBelow, AreCut, AreWithin, IsWider, IsWithin, RoomView, Rooms, cut, greater, nothing_held, spare_length}
+use Rattle.script_machine.specs.Rooms.{AreBelow, AreCut, AreWithin, IsWider, IsWithin, RoomView, Rooms, printed_of_entry, greater, nothing_held, spare_length}
 use Rattle.script_machine.specs.Walk.{act_meant, prim_meant}
 use Rattle.script_machine.proofs.ProgramLengths.NextLengths.{after, lengths_next, lengths_unset}
 
@@ -109,7 +109,7 @@ wider_wider one two three first second =
     }
 
 -- a register is reckoned with, and its room
-pub raised_within : (l m : Lengths) (reg len : ℕ) → IsWithin l m → IsWithin (with_register l reg len) (with_register m reg (greater (length_at m reg) len))
+pub raised_within : (l m : Lengths) (reg len : ℕ) → IsWithin l m → IsWithin (with_register l reg len) (with_register m reg (greater (length_of_register m reg) len))
 raised_within l m reg len within =
     record {
       registers = below_raised l.registers m.registers reg len within.registers;
@@ -119,7 +119,7 @@ raised_within l m reg len within =
       printed = within.printed;
     }
 
-pub raised_wider : (m : Lengths) (spare reg len : ℕ) → IsWider (record { lengths = m; spare = spare }) (record { lengths = with_register m reg (greater (length_at m reg) len); spare = spare })
+pub raised_wider : (m : Lengths) (spare reg len : ℕ) → IsWider (record { lengths = m; spare = spare }) (record { lengths = with_register m reg (greater (length_of_register m reg) len); spare = spare })
 raised_wider m spare reg len =
     record {
       lengths = record {
@@ -217,7 +217,7 @@ pub prim_left : (u : Local) (prim : Prim) → next_prim u ≡ Some prim → slic
 prim_left u prim is = standing_by u.standing u.left prim is
 
 -- so the rooms hold what a rank comes to
-pub rooms_next : (room : Rooms) (u : Local) (prim : Prim) (bytes : List ℕ) → next_prim u ≡ Some prim → length bytes ≡ length_in (next_by_act u prim.line prim.act) → AreWithin room (lengths_of u) u.left
+pub rooms_next : (room : Rooms) (u : Local) (prim : Prim) (bytes : List ℕ) → next_prim u ≡ Some prim → length bytes ≡ length_asked (next_by_act u prim.line prim.act) → AreWithin room (lengths_of u) u.left
     → AreWithin room (lengths_of (after (next_by_act u prim.line prim.act) bytes u)) (drop 1 u.left)
 rooms_next room u prim bytes here same within =
     let P : Lengths → Type 0 = λ l. AreWithin room l (drop 1 u.left) in
@@ -235,7 +235,7 @@ pub start_held : (script : Script) (rank : ℕ) → lengths_of (local_start scri
 start_held script rank = ap (λ (l : List ℕ). record (nothing_held (length script.names)) { registers = l }) (lengths_unset (length script.names) [] refl)
 
 -- printed items stay as they are when bytes come behind theirs
-pub cut_same : (bytes more : List ℕ) (table : List Entry) → AreCut (length bytes) table → map (cut (bytes ++ more)) table ≡ map (cut bytes) table
+pub cut_same : (bytes more : List ℕ) (table : List Entry) → AreCut (length bytes) table → map (printed_of_entry (bytes ++ more)) table ≡ map (printed_of_entry bytes) table
 cut_same bytes more [] within = refl
 cut_same bytes more (entry ∷ table) within =
     let front : take entry.len (drop entry.start (bytes ++ more)) ≡ take entry.len (drop entry.start bytes) =
@@ -253,11 +253,11 @@ cut_push room (x ∷ table) entry within last = (within.0, cut_push room table e
 
 -- the item that is printed last
 pub cut_last : (bytes more : List ℕ) (table : List Entry) (entry : Entry) → AreCut (length bytes) table → entry.start ≡ length bytes → entry.len ≡ length more
-    → map (cut (bytes ++ more)) (table ++ entry ∷ []) ≡ map (cut bytes) table ++ record { reg = entry.reg; form = entry.form; bytes = more } ∷ []
+    → map (printed_of_entry (bytes ++ more)) (table ++ entry ∷ []) ≡ map (printed_of_entry bytes) table ++ record { reg = entry.reg; form = entry.form; bytes = more } ∷ []
 cut_last bytes more table entry within start len =
     let last : take entry.len (drop entry.start (bytes ++ more)) ≡ more =
     ap (λ (n : ℕ). take entry.len (drop n (bytes ++ more))) start ∙ ap (take entry.len) (drop-append_seam bytes more) ∙ ap (λ (n : ℕ). take n more) len ∙ take-length more in
-    map-append (cut (bytes ++ more)) table (entry ∷ [])
+    map-append (printed_of_entry (bytes ++ more)) table (entry ∷ [])
     ∙ (λ i. cut_same bytes more table within i ++ record { reg = entry.reg; form = entry.form; bytes = last i } ∷ [])
 
 -- where an item stands, its bytes are within the printed ones
@@ -277,12 +277,12 @@ piece l start len within =
     (ap (take len) all, sym (ap (λ (m : List ℕ). length (take len m)) all ∙ length-take-le len (drop start l) (omega (arith, within, length-drop start l))))
 
 -- an item that was printed
-pub item_there : (bytes : List ℕ) (table : List Entry) (items : List Printed) (i : ℕ) (entry : Entry) → map (cut bytes) table ≡ items → i < length items → AreCut (length bytes) table → entry ≡ slice_index_or table i entry
-    → (slice_get items i ≡ Some (cut bytes entry)) × (entry.start + entry.len ≤ length bytes)
+pub item_there : (bytes : List ℕ) (table : List Entry) (items : List Printed) (i : ℕ) (entry : Entry) → map (printed_of_entry bytes) table ≡ items → i < length items → AreCut (length bytes) table → entry ≡ slice_index_or table i entry
+    → (slice_get items i ≡ Some (printed_of_entry bytes entry)) × (entry.start + entry.len ≤ length bytes)
 item_there bytes table items i entry same within cuts read =
-    let there : i < length table = omega (arith, within, ap length same, length-map table (cut bytes)) in
+    let there : i < length table = omega (arith, within, ap length same, length-map table (printed_of_entry bytes)) in
     let here = slice_get_read table (length table) i entry refl there read in
-    (ap (λ (l : List Printed). slice_get l i) (sym same) ∙ slice_get-map (cut bytes) table i ∙ ap (option_map (cut bytes)) here, cut_at (length bytes) table i entry cuts here)
+    (ap (λ (l : List Printed). slice_get l i) (sym same) ∙ slice_get-map (printed_of_entry bytes) table i ∙ ap (option_map (printed_of_entry bytes)) here, cut_at (length bytes) table i entry cuts here)
 
 -- the primitive at which the rank of a machine stands, which was lent and copied
 pub prim_here : (m u : Local) (found : Option (Bor Primitive)) (lent : Bor Primitive) (prim : Primitive) (action : Action) → m ≡ u → option_map (λ p. prim_meant p.now) found ≡ next_prim m → found ≡ Some lent → prim ≡ lent.now → prim.action ≡ action
@@ -299,13 +299,13 @@ put_fits room u prim reg n here sets within there =
     below_put (map length u.registers) room.lengths.registers reg n (subst P sets (fits_next room u prim here within).1.registers) there
 
 -- how many bytes the receive at which it stands asks for
-pub asked_here : (m u : Local) (prim : Prim) (n : ℕ) → m ≡ u → next_prim u ≡ Some prim → n ≡ length_in (local_next m) → n ≡ length_in (next_by_act u prim.line prim.act)
+pub asked_here : (m u : Local) (prim : Prim) (n : ℕ) → m ≡ u → next_prim u ≡ Some prim → n ≡ length_asked (local_next m) → n ≡ length_asked (next_by_act u prim.line prim.act)
 unfolding local_next
-asked_here m u prim n same here is = is ∙ ap (λ (x : Local). length_in (local_next x)) same ∙ ap (λ (o : Option Prim). length_in (next_by_prim u o)) here
+asked_here m u prim n same here is = is ∙ ap (λ (x : Local). length_asked (local_next x)) same ∙ ap (λ (o : Option Prim). length_asked (next_by_prim u o)) here
 
 -- and the buffer of received bytes has room for them
 pub got_fits : (room : Rooms) (u : Local) (line from : ℕ) (head : MessageHead) (sized : Option ℕ) (bytes : List ℕ) → next_prim u ≡ Some (record { line = line; act = Gather from head sized })
-    → length bytes ≡ length_in (next_by_act u line (Gather from head sized)) → AreWithin room (lengths_of u) u.left → length bytes ≤ room.lengths.received
+    → length bytes ≡ length_asked (next_by_act u line (Gather from head sized)) → AreWithin room (lengths_of u) u.left → length bytes ≤ room.lengths.received
 got_fits room u line from head sized bytes here same within =
     let fits = (fits_next room u (record { line = line; act = Gather from head sized }) here within).1.received in
     let long = ap (λ (l : Lengths). l.received) (lengths_next u line (Gather from head sized) bytes same) in

@@ -13,7 +13,7 @@ use Rattle.script_machine.specs.declared.prims.Source.TheVariants as source_of
 use Rattle.script_machine.specs.declared.prims.Standing.{Standing}
 use Rattle.script_machine.specs.declared.prims.Standing.TheVariants as standing
 use Rattle.script_machine.specs.Lengths.{Lengths}
-use Rattle.script_machine.specs.Local.{Local, asked_head, gone_on_alone, local_next, next_by_act, next_by_prim, prim_by_standing, register_at, source_bytes, with_length}
+use Rattle.script_machine.specs.Local.{Local, asked_head, gone_on_alone, local_next, next_by_act, next_by_prim, prim_by_standing, register_at, source_bytes, head_with_length}
 use Rattle.script_machine.specs.Next.{Next}
 use Rattle.script_machine.specs.Next.Next.{Ends, Goes, Posts, Sends, Recvs, Bars}
 use Rattle.script_machine.specs.Program.{Act, Prim}
@@ -36,7 +36,7 @@ short_set registers reg bytes new all r =
         (cases_lt reg (length registers))
 
 -- a head with another length
-head_sized : (head : MessageHead) (len : ℕ) → IsHead head → len ≤ 65536 → IsHead (with_length head len)
+head_sized : (head : MessageHead) (len : ℕ) → IsHead head → len ≤ 65536 → IsHead (head_with_length head len)
 head_sized head len valid short = record { kind_below = valid.kind_below; comm_below = valid.comm_below; len_within = short; plain_in_world = valid.plain_in_world }
 
 module _ (script : Script) (rank : ℕ) where

@@ -3,7 +3,7 @@ use Rattle.std.proofs.Common.{◌≡◌, ℕ, zero, suc, ◌<◌, ◌≤◌, tru
 use Rattle.std.proofs.lemmas.List.{append-nil, length-append, map-append, set-get_or}
 use Rattle.std.specs.Option.{option_map}
 use Rattle.script_machine.specs.declared.prims.Primitive.{Primitive}
-use Rattle.script_machine.specs.Lengths.{Lengths, length_at, lengths_after, with_register}
+use Rattle.script_machine.specs.Lengths.{Lengths, length_of_register, lengths_after, with_register}
 use Rattle.script_machine.specs.Passes.{HasPasses, HoldsBefore, IsStretch, KeepsRegisters, LeavesOut, flat_pass}
 use Rattle.script_machine.specs.Program.{Prim, copies, prims_in}
 use Rattle.script_machine.specs.Rooms.{AreWithin, IsWider, IsWithin, Rooms, spare_length}
@@ -13,7 +13,7 @@ use Rattle.script_machine.proofs.Walks.FlatLaws.{flat_first, pass_walked}
 use Rattle.script_machine.proofs.Walks.MarkLaws.{both_prims, copied_prims, same_prims, some_prims}
 
 -- a register that becomes as long as it is
-pub kept_register : (l : Lengths) (reg len : ℕ) → length_at l reg ≡ len → KeepsRegisters l (with_register l reg len)
+pub kept_register : (l : Lengths) (reg len : ℕ) → length_of_register l reg ≡ len → KeepsRegisters l (with_register l reg len)
 kept_register l reg len is =
     ap (λ (n : ℕ). with_register l reg n) (sym is) ∙ ap (λ (r : List ℕ). record l { registers = r }) (set-get_or l.registers reg 0)
 

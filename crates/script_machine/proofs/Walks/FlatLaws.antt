@@ -9,8 +9,8 @@ use Rattle.script_reader.specs.declared.effect.Nesting.TheVariants as nesting
 use Rattle.script_machine.specs.declared.course.Open.{Open}
 use Rattle.script_machine.specs.Depths.{IsDeep}
 use Rattle.script_machine.specs.Passes.{HasPasses, IsFlat, IsFlatFront, LeavesOut, flat_pass, last_pass}
-use Rattle.script_machine.specs.Program.{Prim, Unrolled, copies, in_front, marked, marks_by, nesting_at, prims_of}
-use Rattle.script_machine.specs.Walk.{AreOpen, AreOpenAt, StandsAt, again, is_end, left_at, left_of, prim_of}
+use Rattle.script_machine.specs.Program.{Prim, Unrolled, copies, in_front, unrolled_marks, marks_by, nesting_at, prims_of}
+use Rattle.script_machine.specs.Walk.{AreOpen, AreOpenAt, HasMoreMarks, again, is_end, left_at, left_of, prim_of}
 use Rattle.script_machine.proofs.Walks.WalkLaws.{at_end, closes_by, closing, marked-at, nothing_past, stands_there}
 
 -- the item at a place ends a pass, and no mark of it was passed
@@ -24,10 +24,10 @@ pub record EndsAt (rank : ℕ) (items : List Item) (at step : ℕ) : Type 0 wher
 -- what is left behind the end of a pass
 abbrev pub behind_end : SetupView → ℕ → List Item → ℕ → List Open → List (Option Prim)
 behind_end s rank items at [] = []
-behind_end s rank items at (o ∷ repeats) = again s rank items o ++ left_of (marked s rank (drop (at + 1) items)) (map (again s rank items) repeats)
+behind_end s rank items at (o ∷ repeats) = again s rank items o ++ left_of (unrolled_marks s rank (drop (at + 1) items)) (map (again s rank items) repeats)
 
 -- that is so where the end of a pass comes next
-pub ends_at : (s : SetupView) (rank : ℕ) (items : List Item) (at step : ℕ) (repeats : List Open) → StandsAt s rank items at step
+pub ends_at : (s : SetupView) (rank : ℕ) (items : List Item) (at step : ℕ) (repeats : List Open) → HasMoreMarks s rank items at step
     → is_end (slice_get (drop step (left_at s rank items at repeats)) 0) ≡ true → EndsAt rank items at step
 ends_at s rank items at step repeats stands ends = by (slice_get_cases items at).1
   where
@@ -49,9 +49,9 @@ ends_within rank items at step ends = let inside = slice_get_within items at end
 
 -- what items make from the end of a pass on
 one_end : (s : SetupView) (rank : ℕ) (items : List Item) (at step : ℕ) → EndsAt rank items at step
-    → marked s rank (drop at items) ≡ record { here = None ∷ []; behind = (marked s rank (drop (at + 1) items)).here ∷ (marked s rank (drop (at + 1) items)).behind }
+    → unrolled_marks s rank (drop at items) ≡ record { here = None ∷ []; behind = (unrolled_marks s rank (drop (at + 1) items)).here ∷ (unrolled_marks s rank (drop (at + 1) items)).behind }
 one_end s rank items at step ends =
-    let u = marked s rank (drop (at + 1) items) in
+    let u = unrolled_marks s rank (drop (at + 1) items) in
     let prims = prims_of s rank ends.item in
     marked-at s rank items at ends.item ends.here ∙ ap (λ (n : Nesting). in_front n (marks_by n prims) u) ends.closes
 
@@ -73,9 +73,9 @@ flat_start s rank items at = record { prims = []; same = refl }
 pub flat_more : (s : SetupView) (rank : ℕ) (items : List Item) (start at : ℕ) (item : Item) → slice_get items at ≡ Some item → nesting_at rank item ≡ nesting.Stays
     → IsFlat s rank items start at → IsFlat s rank items start (at + 1)
 flat_more s rank items start at item here stays so_far =
-    let u = marked s rank (drop (at + 1) items) in
+    let u = unrolled_marks s rank (drop (at + 1) items) in
     let own = prims_of s rank item in
-    let next : (marked s rank (drop at items)).here ≡ map Some own ++ u.here =
+    let next : (unrolled_marks s rank (drop at items)).here ≡ map Some own ++ u.here =
     ap (λ (v : Unrolled (Option Prim)). v.here) (marked-at s rank items at item here ∙ ap (λ (n : Nesting). in_front n (marks_by n own) u) stays) in
     record {
       prims = so_far.prims ++ own;
@@ -86,13 +86,13 @@ flat_more s rank items start at item here stays so_far =
 
 -- a pass of primitives alone
 flat_body : (s : SetupView) (rank : ℕ) (items : List Item) (start at step : ℕ) (flat : IsFlat s rank items start at) → EndsAt rank items at step
-    → (marked s rank (drop start items)).here ≡ flat_pass flat.prims
+    → (unrolled_marks s rank (drop start items)).here ≡ flat_pass flat.prims
 flat_body s rank items start at step flat ends =
     flat.same ∙ ap (λ (u : Unrolled (Option Prim)). map Some flat.prims ++ u.here) (one_end s rank items at step ends)
 
 -- what is left behind the passes of the innermost open repeat
 abbrev pub behind_passes : SetupView → ℕ → List Item → ℕ → List Open → List (Option Prim)
-behind_passes s rank items at around = left_of (marked s rank (drop (at + 1) items)) (map (again s rank items) around)
+behind_passes s rank items at around = left_of (unrolled_marks s rank (drop (at + 1) items)) (map (again s rank items) around)
 
 flat_left : (s : SetupView) (rank : ℕ) (items : List Item) (at step : ℕ) (repeats : List Open) (passes : ℕ) → EndsAt rank items at step → (front : IsFlatFront rank items at repeats passes)
     → drop step (left_at s rank items at repeats) ≡ None ∷ (copies passes (flat_pass (front.flat s).prims) ++ behind_passes s rank items at front.around)
@@ -138,7 +138,7 @@ pub open_last : (s : SetupView) (rank : ℕ) (items : List Item) (at : ℕ) (bef
     → AreOpenAt s rank items at before → AreOpenAt s rank items at after
 open_last s rank items at before after passes front is opens =
     let P : List Open → Type 0 = λ r. AreOpenAt s rank items at r in
-    subst P (sym (is ∙ ap last_pass front.front)) (open_last_by s rank items (marked s rank (drop at items)).behind front.start passes front.around (subst P front.front opens))
+    subst P (sym (is ∙ ap last_pass front.front)) (open_last_by s rank items (unrolled_marks s rank (drop at items)).behind front.start passes front.around (subst P front.front opens))
 
 deep_last_by : (rank : ℕ) (items : List Item) (at start passes : ℕ) (around : List Open)
     → IsDeep rank items at (record { start = start; left = passes } ∷ around) → IsDeep rank items at (record { start = start; left = 0 } ∷ around)

@@ -7,7 +7,7 @@ use Rattle.script_reader.specs.Effects.{effect_of}
 use Rattle.script_reader.specs.Script.{Script, has_rank}
 use Rattle.script_reader.specs.declared.effect.Nesting.{Nesting}
 use Rattle.script_reader.specs.declared.effect.Nesting.TheVariants as nesting
-use Rattle.script_machine.specs.Program.{Act, Prim, Unrolled, acts_of, copies, in_front, marked, marks_by, marks_in, marks_of, nesting_at, prims_in, prims_of, program_of, repeated, setup_of, unrolled}
+use Rattle.script_machine.specs.Program.{Act, Prim, Unrolled, acts_of, copies, in_front, unrolled_marks, marks_by, marks_in, marks_of, nesting_at, prims_in, prims_of, program_of, unrolled_repeat, setup_of, unrolled_items}
 use Rattle.script_machine.specs.Walk.{is_end, prim_of}
 use Rattle.script_machine.proofs.Walks.WalkLaws.{end_prim}
 
@@ -39,7 +39,7 @@ item_prims s rank item nesting.Stays is = some_prims (prims_of s rank item)
 abbrev without : Unrolled (Option Prim) → Unrolled Prim
 without u = record { here = prims_in u.here; behind = map prims_in u.behind }
 
-without_repeated : (times : ℕ) (here : List (Option Prim)) (behind : List (List (Option Prim))) → without (repeated times here behind) ≡ repeated times (prims_in here) (map prims_in behind)
+without_repeated : (times : ℕ) (here : List (Option Prim)) (behind : List (List (Option Prim))) → without (unrolled_repeat times here behind) ≡ unrolled_repeat times (prims_in here) (map prims_in behind)
 without_repeated times here [] = refl
 without_repeated times here (next ∷ behind) =
     let all = both_prims here (copies (times - 1) here ++ next) ∙ ap (λ (l : List Prim). prims_in here ++ l)
@@ -51,12 +51,12 @@ without_front (nesting.Opens times) marks u = without_repeated times u.here u.be
 without_front (nesting.Closes start) marks u = refl
 without_front nesting.Stays marks u = ap (λ (l : List Prim). record { here = l; behind = map prims_in u.behind }) (both_prims marks u.here)
 
-without_marks : (s : SetupView) (rank : ℕ) (items : List Item) → without (marked s rank items) ≡ unrolled s rank items
-unfolding marked unrolled
+without_marks : (s : SetupView) (rank : ℕ) (items : List Item) → without (unrolled_marks s rank items) ≡ unrolled_items s rank items
+unfolding unrolled_marks unrolled_items
 without_marks s rank [] = refl
 without_marks s rank (item ∷ items) =
-    without_front (nesting_at rank item) (marks_of s rank item) (marked s rank items)
-    ∙ ap (λ (l : List Prim). in_front (nesting_at rank item) l (without (marked s rank items))) (item_prims s rank item (nesting_at rank item) refl)
+    without_front (nesting_at rank item) (marks_of s rank item) (unrolled_marks s rank items)
+    ∙ ap (λ (l : List Prim). in_front (nesting_at rank item) l (without (unrolled_marks s rank items))) (item_prims s rank item (nesting_at rank item) refl)
     ∙ ap (in_front (nesting_at rank item) (prims_of s rank item)) (without_marks s rank items)
 
 pub program_is : (script : Script) (rank : ℕ) → prims_in (marks_in script rank) ≡ program_of script rank

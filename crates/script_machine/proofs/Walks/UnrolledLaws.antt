@@ -4,7 +4,7 @@ use Rattle.scc_base.specs.Setups.{SetupView}
 use Rattle.script_reader.specs.declared.effect.Nesting.{Nesting}
 use Rattle.script_reader.specs.declared.effect.Nesting.TheVariants as nesting
 use Rattle.script_reader.specs.declared.script.Item.{Item}
-use Rattle.script_machine.specs.Program.{Prim, Unrolled, copies, in_front, nesting_at, prims_of, repeated, unrolled}
+use Rattle.script_machine.specs.Program.{Prim, Unrolled, copies, in_front, nesting_at, prims_of, unrolled_repeat, unrolled_items}
 
 module _ (Holds : List Prim → Type 0) (empty : Holds []) (both : (one two : List Prim) → Holds one → Holds two → Holds (one ++ two)) where
   hold_copies : (n : ℕ) (prims : List Prim) → Holds prims → Holds (copies n prims)
@@ -19,7 +19,7 @@ module _ (Holds : List Prim → Type 0) (empty : Holds []) (both : (one two : Li
     here : Holds u.here
     behind : AllHold u.behind
 
-  hold_repeated : (times : ℕ) (body : List Prim) (behind : List (List Prim)) → Holds body → AllHold behind → HoldsIn (repeated times body behind)
+  hold_repeated : (times : ℕ) (body : List Prim) (behind : List (List Prim)) → Holds body → AllHold behind → HoldsIn (unrolled_repeat times body behind)
   hold_repeated times body [] one rest = record { here = one; behind = tt }
   hold_repeated times body (next ∷ behind) one rest = record {
     here = both body (copies (times - 1) body ++ next) one (both (copies (times - 1) body) next (hold_copies (times - 1) body one) rest.0);
@@ -31,12 +31,12 @@ module _ (Holds : List Prim → Type 0) (empty : Holds []) (both : (one two : Li
   hold_front (nesting.Closes start) prims u each all = record { here = each; behind = (all.here, all.behind) }
   hold_front nesting.Stays prims u each all = record { here = both prims u.here each all.here; behind = all.behind }
 
-  hold_unrolled : (s : SetupView) (rank : ℕ) (items : List Item) → ((k : ℕ) (item : Item) → slice_get items k ≡ Some item → Holds (prims_of s rank item)) → HoldsIn (unrolled s rank items)
-  unfolding unrolled
+  hold_unrolled : (s : SetupView) (rank : ℕ) (items : List Item) → ((k : ℕ) (item : Item) → slice_get items k ≡ Some item → Holds (prims_of s rank item)) → HoldsIn (unrolled_items s rank items)
+  unfolding unrolled_items
   hold_unrolled s rank [] each = record { here = empty; behind = tt }
   hold_unrolled s rank (item ∷ items) each =
-      hold_front (nesting_at rank item) (prims_of s rank item) (unrolled s rank items) (each 0 item refl) (hold_unrolled s rank items (λ k other found. each (suc k) other found))
+      hold_front (nesting_at rank item) (prims_of s rank item) (unrolled_items s rank items) (each 0 item refl) (hold_unrolled s rank items (λ k other found. each (suc k) other found))
 
   -- what comes before the end of the repeat that is open, if one is, and else all of it
-  pub hold_program : (s : SetupView) (rank : ℕ) (items : List Item) → ((k : ℕ) (item : Item) → slice_get items k ≡ Some item → Holds (prims_of s rank item)) → Holds (unrolled s rank items).here
+  pub hold_program : (s : SetupView) (rank : ℕ) (items : List Item) → ((k : ℕ) (item : Item) → slice_get items k ≡ Some item → Holds (prims_of s rank item)) → Holds (unrolled_items s rank items).here
   hold_program s rank items each = (hold_unrolled s rank items each).here

@@ -21,8 +21,8 @@ use Rattle.script_reader.specs.declared.effect.Nesting.{Nesting}
 use Rattle.script_reader.specs.declared.effect.Nesting.TheVariants as nesting
 use Rattle.script_machine.specs.declared.prims.Operands.{Operands}
 use Rattle.script_machine.specs.declared.course.Open.{Open}
-use Rattle.script_machine.specs.Program.{Act, Prim, Unrolled, acts_of, begins, call_steps, can_call, copies, in_front, marked, marks_by, marks_in, marks_of, nesting_at, part_of, parts_of, prims_of, repeated, setup_of}
-use Rattle.script_machine.specs.Walk.{AreOpen, AreOpenAt, HasMore, is_closing, is_end, StandsAt, again, closed_by, left_at, left_of, next_pass, opened, passed, passed_to, woven}
+use Rattle.script_machine.specs.Program.{Act, Prim, Unrolled, acts_of, begins, call_steps, can_call, copies, in_front, unrolled_marks, marks_by, marks_in, marks_of, nesting_at, part_of, parts_of, prims_of, unrolled_repeat, setup_of}
+use Rattle.script_machine.specs.Walk.{AreOpen, AreOpenAt, HasMore, is_closing, is_end, HasMoreMarks, again, closed_by, left_at, left_of, next_pass, repeats_behind_begin, repeats_behind_marks, passed_to, woven}
 
 -- the k-th of the parts of a collective call
 pub part_at : (o : Operands) (steps : List Step) (k : ℕ) (step : Step) → slice_get steps k ≡ Some step → slice_get (parts_of o steps) k ≡ Some (part_of o (begins steps) step)
@@ -38,16 +38,16 @@ part_called s rank c o k step there at_k = called_by o (steps_of s rank c) k ste
 
 module _ (s : SetupView) (rank : ℕ) where
   -- what items make from a place on, by the item that stands there
-  pub marked-at : (items : List Item) (at : ℕ) (item : Item) → slice_get items at ≡ Some item → marked s rank (drop at items) ≡ in_front (nesting_at rank item) (marks_of s rank item) (marked s rank (drop (at + 1) items))
-  unfolding marked
+  pub marked-at : (items : List Item) (at : ℕ) (item : Item) → slice_get items at ≡ Some item → unrolled_marks s rank (drop at items) ≡ in_front (nesting_at rank item) (marks_of s rank item) (unrolled_marks s rank (drop (at + 1) items))
+  unfolding unrolled_marks
   marked-at items at item here =
-      at_drop_more (marked s rank) items at item (slice_get_within items at item here)
-      ∙ ap (λ (x : Item). in_front (nesting_at rank x) (marks_of s rank x) (marked s rank (drop (at + 1) items))) (get_or_from_slice_get items at item item here)
+      at_drop_more (unrolled_marks s rank) items at item (slice_get_within items at item here)
+      ∙ ap (λ (x : Item). in_front (nesting_at rank x) (marks_of s rank x) (unrolled_marks s rank (drop (at + 1) items))) (get_or_from_slice_get items at item item here)
 
   -- past the last item nothing is made
-  pub marked-past : (items : List Item) (at : ℕ) → length items ≤ at → marked s rank (drop at items) ≡ record { here = []; behind = [] }
-  unfolding marked
-  marked-past items at past = at_drop_all (marked s rank) items at past
+  pub marked-past : (items : List Item) (at : ℕ) → length items ≤ at → unrolled_marks s rank (drop at items) ≡ record { here = []; behind = [] }
+  unfolding unrolled_marks
+  marked-past items at past = at_drop_all (unrolled_marks s rank) items at past
 
 -- what is left goes on behind what comes first
 woven-append : (marks here : List (Option Prim)) (behind more : List (List (Option Prim))) → woven (marks ++ here) behind more ≡ marks ++ woven here behind more
@@ -56,7 +56,7 @@ woven-append marks here (next ∷ behind) [] = refl
 woven-append marks here (next ∷ behind) (passes ∷ more) = append_assoc marks here _
 
 -- a repeat is one pass, and then the further ones
-woven-repeated : (times : ℕ) (here : List (Option Prim)) (behind more : List (List (Option Prim))) → left_of (repeated times here behind) more ≡ woven here behind (copies (times - 1) here ∷ more)
+woven-repeated : (times : ℕ) (here : List (Option Prim)) (behind more : List (List (Option Prim))) → left_of (unrolled_repeat times here behind) more ≡ woven here behind (copies (times - 1) here ∷ more)
 woven-repeated times here [] more = refl
 woven-repeated times here (next ∷ behind) more =
     woven-append here (copies (times - 1) here ++ next) behind more
@@ -113,22 +113,22 @@ empty [] none = refl
 empty (x ∷ marks) none = absurd (omega (arith, none))
 
 -- the repeats that stand open in a repeat
-entered : (s : SetupView) (rank : ℕ) (items : List Item) (start times : ℕ) (repeats : List Open) (here : List (Option Prim)) (behind : List (List (Option Prim))) → marked s rank (drop start items) ≡ record { here = here; behind = behind } → AreOpen s rank items (repeated times here behind).behind repeats → AreOpen s rank items behind (record { start = start; left = times - 1 } ∷ repeats)
+entered : (s : SetupView) (rank : ℕ) (items : List Item) (start times : ℕ) (repeats : List Open) (here : List (Option Prim)) (behind : List (List (Option Prim))) → unrolled_marks s rank (drop start items) ≡ record { here = here; behind = behind } → AreOpen s rank items (unrolled_repeat times here behind).behind repeats → AreOpen s rank items behind (record { start = start; left = times - 1 } ∷ repeats)
 entered s rank items start times repeats here [] is opens = tt
 entered s rank items start times repeats here (next ∷ behind) is opens = (ap (λ (u : Unrolled (Option Prim)). u.behind) is, opens)
 
 -- over an item that has no primitives
 over_by : (s : SetupView) (rank : ℕ) (items : List Item) (at : ℕ) (item : Item) (repeats : List Open) (n : Nesting) → slice_get items at ≡ Some item → nesting_at rank item ≡ n → length (marks_of s rank item) ≡ 0
-    → (left_at s rank items (at + 1) (opened n at repeats) ≡ left_at s rank items at repeats) × (AreOpenAt s rank items at repeats → AreOpenAt s rank items (at + 1) (opened n at repeats))
+    → (left_at s rank items (at + 1) (repeats_behind_begin n at repeats) ≡ left_at s rank items at repeats) × (AreOpenAt s rank items at repeats → AreOpenAt s rank items (at + 1) (repeats_behind_begin n at repeats))
 over_by s rank items at item repeats nesting.Stays here is none =
-    let u = marked s rank (drop (at + 1) items) in
-    let now : marked s rank (drop at items) ≡ u =
+    let u = unrolled_marks s rank (drop (at + 1) items) in
+    let now : unrolled_marks s rank (drop at items) ≡ u =
     marked-at s rank items at item here ∙ ap (λ (n : Nesting). in_front n (marks_of s rank item) u) is ∙ ap (λ (l : List (Option Prim)). in_front nesting.Stays l u) (empty (marks_of s rank item) none) in
     let P : Unrolled (Option Prim) → Type 0 = λ v. AreOpen s rank items v.behind repeats in
     (ap (λ (v : Unrolled (Option Prim)). left_of v (map (again s rank items) repeats)) (sym now), λ opens. subst P now opens)
 over_by s rank items at item repeats (nesting.Opens times) here is none =
-    let u = marked s rank (drop (at + 1) items) in
-    let now : marked s rank (drop at items) ≡ repeated times u.here u.behind =
+    let u = unrolled_marks s rank (drop (at + 1) items) in
+    let now : unrolled_marks s rank (drop at items) ≡ unrolled_repeat times u.here u.behind =
     marked-at s rank items at item here ∙ ap (λ (n : Nesting). in_front n (marks_of s rank item) u) is in
     let P : Unrolled (Option Prim) → Type 0 = λ v. AreOpen s rank items v.behind repeats in (
       sym (ap (λ (v : Unrolled (Option Prim)). left_of v (map (again s rank items) repeats)) now ∙ woven-repeated times u.here u.behind (map (again s rank items) repeats)),
@@ -137,11 +137,11 @@ over_by s rank items at item repeats (nesting.Opens times) here is none =
 over_by s rank items at item repeats (nesting.Closes start) here is none =
     absurd (omega (arith, none, closes_by s rank item start is))
 
-pub over_same : (s : SetupView) (rank : ℕ) (items : List Item) (at : ℕ) (item : Item) (before after : List Open) → slice_get items at ≡ Some item → length (marks_of s rank item) ≡ 0 → after ≡ opened (nesting_at rank item) at before → left_at s rank items (at + 1) after ≡ left_at s rank items at before
+pub over_same : (s : SetupView) (rank : ℕ) (items : List Item) (at : ℕ) (item : Item) (before after : List Open) → slice_get items at ≡ Some item → length (marks_of s rank item) ≡ 0 → after ≡ repeats_behind_begin (nesting_at rank item) at before → left_at s rank items (at + 1) after ≡ left_at s rank items at before
 over_same s rank items at item before after here none now =
     ap (left_at s rank items (at + 1)) now ∙ (over_by s rank items at item before (nesting_at rank item) here refl none).0
 
-pub over_open : (s : SetupView) (rank : ℕ) (items : List Item) (at : ℕ) (item : Item) (before after : List Open) → slice_get items at ≡ Some item → length (marks_of s rank item) ≡ 0 → after ≡ opened (nesting_at rank item) at before → AreOpenAt s rank items at before → AreOpenAt s rank items (at + 1) after
+pub over_open : (s : SetupView) (rank : ℕ) (items : List Item) (at : ℕ) (item : Item) (before after : List Open) → slice_get items at ≡ Some item → length (marks_of s rank item) ≡ 0 → after ≡ repeats_behind_begin (nesting_at rank item) at before → AreOpenAt s rank items at before → AreOpenAt s rank items (at + 1) after
 over_open s rank items at item before after here none now opens =
     let P : List Open → Type 0 = λ r. AreOpenAt s rank items (at + 1) r in
     subst P (sym now) ((over_by s rank items at item before (nesting_at rank item) here refl none).1 opens)
@@ -149,8 +149,8 @@ over_open s rank items at item before after here none now opens =
 -- what an item makes stands in front of what is left behind it
 front_by : (s : SetupView) (rank : ℕ) (items : List Item) (at : ℕ) (item : Item) (repeats : List Open) (n : Nesting) → slice_get items at ≡ Some item → nesting_at rank item ≡ n → 0 < length (marks_of s rank item) → (rest : List (Option Prim)) × (left_at s rank items at repeats ≡ marks_of s rank item ++ rest)
 front_by s rank items at item repeats nesting.Stays here is some =
-    let u = marked s rank (drop (at + 1) items) in
-    let now : marked s rank (drop at items) ≡ in_front nesting.Stays (marks_of s rank item) u =
+    let u = unrolled_marks s rank (drop (at + 1) items) in
+    let now : unrolled_marks s rank (drop at items) ≡ in_front nesting.Stays (marks_of s rank item) u =
     marked-at s rank items at item here ∙ ap (λ (n : Nesting). in_front n (marks_of s rank item) u) is in (
       left_of u (map (again s rank items) repeats),
       ap (λ (v : Unrolled (Option Prim)). left_of v (map (again s rank items) repeats)) now ∙ woven-append (marks_of s rank item) u.here u.behind (map (again s rank items) repeats),
@@ -158,13 +158,13 @@ front_by s rank items at item repeats nesting.Stays here is some =
 front_by s rank items at item repeats (nesting.Opens times) here is some =
     absurd (omega (arith, some, opens_by s rank item times is))
 front_by s rank items at item [] (nesting.Closes start) here is some =
-    let u = marked s rank (drop (at + 1) items) in
-    let now : marked s rank (drop at items) ≡ in_front (nesting.Closes start) (marks_of s rank item) u =
+    let u = unrolled_marks s rank (drop (at + 1) items) in
+    let now : unrolled_marks s rank (drop at items) ≡ in_front (nesting.Closes start) (marks_of s rank item) u =
     marked-at s rank items at item here ∙ ap (λ (n : Nesting). in_front n (marks_of s rank item) u) is in
     ([], ap (λ (v : Unrolled (Option Prim)). left_of v []) now ∙ sym (append-nil (marks_of s rank item)))
 front_by s rank items at item (o ∷ repeats) (nesting.Closes start) here is some =
-    let u = marked s rank (drop (at + 1) items) in
-    let now : marked s rank (drop at items) ≡ in_front (nesting.Closes start) (marks_of s rank item) u =
+    let u = unrolled_marks s rank (drop (at + 1) items) in
+    let now : unrolled_marks s rank (drop at items) ≡ in_front (nesting.Closes start) (marks_of s rank item) u =
     marked-at s rank items at item here ∙ ap (λ (n : Nesting). in_front n (marks_of s rank item) u) is in
     (again s rank items o ++ woven u.here u.behind (map (again s rank items) repeats), ap (λ (v : Unrolled (Option Prim)). left_of v (map (again s rank items) (o ∷ repeats))) now)
 
@@ -261,13 +261,13 @@ at_end s rank items at step item repeats here there = by (is_closing (nesting_at
         ∙ slice_get-map Some prims step ∙ ap (option_map Some) found.1))
 
 -- more marks than were passed stand at the item
-pub stands_there : (s : SetupView) (rank : ℕ) (items : List Item) (at step : ℕ) (item : Item) → slice_get items at ≡ Some item → StandsAt s rank items at step → step < length (marks_of s rank item)
+pub stands_there : (s : SetupView) (rank : ℕ) (items : List Item) (at step : ℕ) (item : Item) → slice_get items at ≡ Some item → HasMoreMarks s rank items at step → step < length (marks_of s rank item)
 stands_there s rank items at step item here stands = let P : Option Item → Type 0 = λ o. HasMore s rank o step in subst P here stands
 
-pub none_there : (s : SetupView) (rank : ℕ) (items : List Item) (at step : ℕ) → length items ≤ at → StandsAt s rank items at step
+pub none_there : (s : SetupView) (rank : ℕ) (items : List Item) (at step : ℕ) → length items ≤ at → HasMoreMarks s rank items at step
 none_there s rank items at step past = let P : Option Item → Type 0 = λ o. HasMore s rank o step in subst P (sym (slice_get_past items at past)) tt
 
-pub some_there : (s : SetupView) (rank : ℕ) (items : List Item) (at step : ℕ) (item : Item) → slice_get items at ≡ Some item → step < length (marks_of s rank item) → StandsAt s rank items at step
+pub some_there : (s : SetupView) (rank : ℕ) (items : List Item) (at step : ℕ) (item : Item) → slice_get items at ≡ Some item → step < length (marks_of s rank item) → HasMoreMarks s rank items at step
 some_there s rank items at step item here there = let P : Option Item → Type 0 = λ o. HasMore s rank o step in subst P (sym here) there
 
 -- nothing is left past the end, whatever was done there
@@ -275,15 +275,15 @@ pub nothing_past : (s : SetupView) (rank : ℕ) (items : List Item) (at step : �
 nothing_past s rank items at step repeats past = ap (drop step) (left-past s rank items at repeats past) ∙ drop_of_length-le [] (omega arith)
 
 -- behind the end of a pass
-next_by : (s : SetupView) (rank : ℕ) (items : List Item) (at end start left : ℕ) (repeats : List Open) (u : Unrolled (Option Prim)) → marked s rank (drop (at + 1) items) ≡ u
-    → ((marked s rank (drop start items)).behind ≡ u.here ∷ u.behind) × AreOpen s rank items u.behind repeats
-    → (left_at s rank items (next_pass at start left) (closed_by start left repeats) ≡ copies left (marked s rank (drop start items)).here ++ left_of u (map (again s rank items) repeats))
+next_by : (s : SetupView) (rank : ℕ) (items : List Item) (at end start left : ℕ) (repeats : List Open) (u : Unrolled (Option Prim)) → unrolled_marks s rank (drop (at + 1) items) ≡ u
+    → ((unrolled_marks s rank (drop start items)).behind ≡ u.here ∷ u.behind) × AreOpen s rank items u.behind repeats
+    → (left_at s rank items (next_pass at start left) (closed_by start left repeats) ≡ copies left (unrolled_marks s rank (drop start items)).here ++ left_of u (map (again s rank items) repeats))
     × AreOpenAt s rank items (next_pass at start left) (closed_by start left repeats)
 next_by s rank items at end start zero repeats u is opens =
     let P : Unrolled (Option Prim) → Type 0 = λ v. AreOpen s rank items v.behind repeats in
     (ap (λ (v : Unrolled (Option Prim)). left_of v (map (again s rank items) repeats)) is, subst P (sym is) opens.1)
 next_by s rank items at end start (suc left) repeats u is opens =
-    let body = marked s rank (drop start items) in
+    let body = unrolled_marks s rank (drop start items) in
     let more = map (again s rank items) repeats in
     let P : List (List (Option Prim)) → Type 0 = λ b. AreOpen s rank items b (record { start = start; left = left } ∷ repeats) in (
       ap (λ (b : List (List (Option Prim))). woven body.here b (copies left body.here ∷ more)) opens.0 ∙ sym (append_assoc body.here (copies left body.here) (left_of u more)),
@@ -292,11 +292,11 @@ next_by s rank items at end start (suc left) repeats u is opens =
 
 -- the place behind an item that has primitives
 behind_by : (s : SetupView) (rank : ℕ) (items : List Item) (at end : ℕ) (item : Item) (repeats : List Open) (n : Nesting) → slice_get items at ≡ Some item → nesting_at rank item ≡ n → 0 < length (marks_of s rank item) → length items ≤ end → AreOpenAt s rank items at repeats
-    → (left_at s rank items (passed_to n at end repeats) (passed n repeats) ≡ drop (length (marks_of s rank item)) (left_at s rank items at repeats)) × AreOpenAt s rank items (passed_to n at end repeats) (passed n repeats)
+    → (left_at s rank items (passed_to n at end repeats) (repeats_behind_marks n repeats) ≡ drop (length (marks_of s rank item)) (left_at s rank items at repeats)) × AreOpenAt s rank items (passed_to n at end repeats) (repeats_behind_marks n repeats)
 behind_by s rank items at end item repeats nesting.Stays here is some past opens =
-    let u = marked s rank (drop (at + 1) items) in
+    let u = unrolled_marks s rank (drop (at + 1) items) in
     let marks = marks_of s rank item in
-    let now : marked s rank (drop at items) ≡ in_front nesting.Stays marks u =
+    let now : unrolled_marks s rank (drop at items) ≡ in_front nesting.Stays marks u =
     marked-at s rank items at item here ∙ ap (λ (n : Nesting). in_front n marks u) is in
     let P : Unrolled (Option Prim) → Type 0 = λ v. AreOpen s rank items v.behind repeats in (
       sym (ap (λ (v : Unrolled (Option Prim)). drop (length marks) (left_of v (map (again s rank items) repeats))) now
@@ -307,15 +307,15 @@ behind_by s rank items at end item repeats nesting.Stays here is some past opens
 behind_by s rank items at end item repeats (nesting.Opens times) here is some past opens =
     absurd (omega (arith, some, opens_by s rank item times is))
 behind_by s rank items at end item [] (nesting.Closes start) here is some past opens =
-    let u = marked s rank (drop (at + 1) items) in
+    let u = unrolled_marks s rank (drop (at + 1) items) in
     let marks = marks_of s rank item in
-    let now : marked s rank (drop at items) ≡ in_front (nesting.Closes start) marks u =
+    let now : unrolled_marks s rank (drop at items) ≡ in_front (nesting.Closes start) marks u =
     marked-at s rank items at item here ∙ ap (λ (n : Nesting). in_front n marks u) is in
     (left-past s rank items end [] past ∙ sym (ap (λ (v : Unrolled (Option Prim)). drop (length marks) (left_of v [])) now ∙ drop_of_length-le marks (omega arith)), open-past s rank items end [] past)
 behind_by s rank items at end item (o ∷ repeats) (nesting.Closes start) here is some past opens =
-    let u = marked s rank (drop (at + 1) items) in
+    let u = unrolled_marks s rank (drop (at + 1) items) in
     let marks = marks_of s rank item in
-    let now : marked s rank (drop at items) ≡ in_front (nesting.Closes start) marks u =
+    let now : unrolled_marks s rank (drop at items) ≡ in_front (nesting.Closes start) marks u =
     marked-at s rank items at item here ∙ ap (λ (n : Nesting). in_front n marks u) is in
     let P : Unrolled (Option Prim) → Type 0 = λ v. AreOpen s rank items v.behind (o ∷ repeats) in
     let was : drop (length marks) (left_at s rank items at (o ∷ repeats)) ≡ again s rank items o ++ left_of u (map (again s rank items) repeats) =
@@ -323,13 +323,13 @@ behind_by s rank items at end item (o ∷ repeats) (nesting.Closes start) here i
     let next = next_by s rank items at end o.start o.left repeats u refl (subst P now opens) in
     (next.0 ∙ sym was, next.1)
 
-pub behind_same : (s : SetupView) (rank : ℕ) (items : List Item) (at end to : ℕ) (item : Item) (before after : List Open) → slice_get items at ≡ Some item → 0 < length (marks_of s rank item) → length items ≤ end → AreOpenAt s rank items at before → to ≡ passed_to (nesting_at rank item) at end before → after ≡ passed (nesting_at rank item) before
+pub behind_same : (s : SetupView) (rank : ℕ) (items : List Item) (at end to : ℕ) (item : Item) (before after : List Open) → slice_get items at ≡ Some item → 0 < length (marks_of s rank item) → length items ≤ end → AreOpenAt s rank items at before → to ≡ passed_to (nesting_at rank item) at end before → after ≡ repeats_behind_marks (nesting_at rank item) before
     → left_at s rank items to after ≡ drop (length (marks_of s rank item)) (left_at s rank items at before)
 behind_same s rank items at end to item before after here some past opens goes now =
     ap (λ (n : ℕ). left_at s rank items n after) goes ∙ ap (left_at s rank items (passed_to (nesting_at rank item) at end before)) now
     ∙ (behind_by s rank items at end item before (nesting_at rank item) here refl some past opens).0
 
-pub behind_open : (s : SetupView) (rank : ℕ) (items : List Item) (at end to : ℕ) (item : Item) (before after : List Open) → slice_get items at ≡ Some item → 0 < length (marks_of s rank item) → length items ≤ end → AreOpenAt s rank items at before → to ≡ passed_to (nesting_at rank item) at end before → after ≡ passed (nesting_at rank item) before
+pub behind_open : (s : SetupView) (rank : ℕ) (items : List Item) (at end to : ℕ) (item : Item) (before after : List Open) → slice_get items at ≡ Some item → 0 < length (marks_of s rank item) → length items ≤ end → AreOpenAt s rank items at before → to ≡ passed_to (nesting_at rank item) at end before → after ≡ repeats_behind_marks (nesting_at rank item) before
     → AreOpenAt s rank items to after
 behind_open s rank items at end to item before after here some past opens goes now =
     let P : ℕ → Type 0 = λ n. AreOpenAt s rank items n after in
@@ -341,8 +341,8 @@ pub past_same : (s : SetupView) (rank : ℕ) (items : List Item) (at to : ℕ) (
 past_same s rank items at to repeats here there = left-past s rank items to repeats there ∙ sym (left-past s rank items at repeats here)
 
 -- before the first item everything is left
-pub all_left : (s : SetupView) (rank : ℕ) (items : List Item) → left_at s rank items 0 [] ≡ (marked s rank items).here
-all_left s rank items = no_more (marked s rank items)
+pub all_left : (s : SetupView) (rank : ℕ) (items : List Item) → left_at s rank items 0 [] ≡ (unrolled_marks s rank items).here
+all_left s rank items = no_more (unrolled_marks s rank items)
   where
     no_more : (u : Unrolled (Option Prim)) → left_of u [] ≡ u.here
     no_more u = none u.here u.behind
@@ -352,7 +352,7 @@ all_left s rank items = no_more (marked s rank items)
         none here (next ∷ behind) = refl
 
 pub none_open : (s : SetupView) (rank : ℕ) (items : List Item) (at : ℕ) → AreOpenAt s rank items at []
-none_open s rank items at = none (marked s rank (drop at items)).behind
+none_open s rank items at = none (unrolled_marks s rank (drop at items)).behind
   where
     none : (behind : List (List (Option Prim))) → AreOpen s rank items behind []
     none [] = tt
@@ -366,18 +366,18 @@ last_done l step count there done = ap (λ (n : ℕ). drop n l) (omega (arith, t
 made_by : (s : SetupView) → SetupView
 made_by s = record { nue = s.nue; layout = LineFlags; hosts = range_with_len 0 48; comms = s.comms }
 
-marked-made_by : (s : SetupView) (rank : ℕ) (items : List Item) → marked s rank items ≡ marked (made_by s) rank items
-unfolding marked made_by
+marked-made_by : (s : SetupView) (rank : ℕ) (items : List Item) → unrolled_marks s rank items ≡ unrolled_marks (made_by s) rank items
+unfolding unrolled_marks made_by
 marked-made_by s rank [] = refl
 marked-made_by s rank (item ∷ items) = ap (in_front (nesting_at rank item) (marks_of s rank item)) (marked-made_by s rank items)
 
-pub marked_by_script : (s : SetupView) (rank : ℕ) (script : Script) → s.nue ≡ script.nue → s.comms ≡ rules_of script.items → (marked s rank script.items).here ≡ marks_in script rank
+pub marked_by_script : (s : SetupView) (rank : ℕ) (script : Script) → s.nue ≡ script.nue → s.comms ≡ rules_of script.items → (unrolled_marks s rank script.items).here ≡ marks_in script rank
 unfolding made_by
 marked_by_script s rank script ranks communicators =
     let made : made_by s ≡ setup_of script =
     ap (λ (n : ℕ). record { nue = n; layout = LineFlags; hosts = range_with_len 0 48; comms = s.comms }) ranks
     ∙ ap (λ (comms : List CommRule). record { nue = script.nue; layout = LineFlags; hosts = range_with_len 0 48; comms = comms }) communicators in
-    ap (λ (u : Unrolled (Option Prim)). u.here) (marked-made_by s rank script.items ∙ ap (λ (t : SetupView). marked t rank script.items) made)
+    ap (λ (u : Unrolled (Option Prim)). u.here) (marked-made_by s rank script.items ∙ ap (λ (t : SetupView). unrolled_marks t rank script.items) made)
 
 -- an item that ends a pass is one mark
 pub one_mark : (s : SetupView) (rank : ℕ) (item : Item) → is_closing (nesting_at rank item) ≡ true → length (marks_of s rank item) ≡ 1

@@ -5,7 +5,7 @@ use Rattle.std.proofs.lemmas.Bool.{eq-eqb, eqb-true}
 use Rattle.scc_base.specs.Heads.{MessageHead, kind_number}
 use Rattle.scc_base.specs.Setups.{SetupView, members_of, place_of}
 use Rattle.scc_base.specs.declared.kinds.Kind.TheVariants as kind_of
-use Rattle.groups.specs.Collectives.{fold_each, head_of, others_of, root_steps, send_each}
+use Rattle.groups.specs.Collectives.{fold_each, head_of_kind, others_of, root_steps, send_each}
 use Rattle.groups.specs.declared.collectives.Coll.TheVariants as coll
 use Rattle.groups.specs.declared.collectives.Step.TheVariants as step
 use Rattle.groups.specs.declared.operations.Op.{Op}
@@ -17,8 +17,8 @@ use Rattle.script_machine.specs.declared.prims.Operands.{Operands}
 use Rattle.script_machine.specs.declared.prims.Source.{Source}
 use Rattle.script_machine.specs.declared.prims.Source.TheVariants as source_of
 use Rattle.script_machine.specs.declared.prims.Standing.TheVariants as standing
-use Rattle.script_plain.specs.Collectives.{AreCountedAlike, IsOther, Made, StandsAt, gone_by, gone_through, started}
-use Rattle.script_plain.specs.Collectives.Made.{Done, Then}
+use Rattle.script_plain.specs.Collectives.{AreCountedAlike, IsOther, MadeByItems, StandsAtStatement, gone_by, gone_through, start_of_rank}
+use Rattle.script_plain.specs.Collectives.MadeByItems.{Done, Then}
 use Rattle.script_plain.specs.Meaning.{State, next_of}
 use Rattle.script_machine.specs.Program.{Act, Prim, acts_of, parts_of, program_of, setup_of}
 use Rattle.script_machine.specs.Program.Act.{Send, Begin, Finish}
@@ -63,7 +63,7 @@ conserved measure adds counts (bytes ∷ path) u running = conserved_by measure 
 
 -- two counts to which each statement of a rank adds the same are equal wherever it stands at one
 module _ (script : Script) (rank : ℕ) (f g : State → ℕ) (a b : Act → ℕ) (by_f : Counts f a) (by_g : Counts g b) (same : (statement : Stmt) → total_of a (acts_of (setup_of script) rank statement) ≡ total_of b (acts_of (setup_of script) rank statement)) where
-  made_alike : (prims : List Prim) → Made (setup_of script) rank script.items prims → total_left a prims ≡ total_left b prims
+  made_alike : (prims : List Prim) → MadeByItems (setup_of script) rank script.items prims → total_left a prims ≡ total_left b prims
   made_alike prims Done = refl
   made_alike prims (Then item is rest more) =
       let one = same item.stmt in
@@ -72,17 +72,17 @@ module _ (script : Script) (rank : ℕ) (f g : State → ℕ) (a b : Act → ℕ
       let second = left_both b item.line (acts_of (setup_of script) rank item.stmt) rest in
       first ∙ (omega (arith, one, others)) ∙ sym second
 
-  alike : f (started script rank) ≡ g (started script rank) → (statement : Stmt) (u : State) → StandsAt script rank statement u → f u ≡ g u
+  alike : f (start_of_rank script rank) ≡ g (start_of_rank script rank) → (statement : Stmt) (u : State) → StandsAtStatement script rank statement u → f u ≡ g u
   alike start statement u stood =
-      let one = conserved f a by_f stood.way (started script rank) refl in
-      let two = conserved g b by_g stood.way (started script rank) refl in
+      let one = conserved f a by_f stood.way (start_of_rank script rank) refl in
+      let two = conserved g b by_g stood.way (start_of_rank script rank) refl in
       let all = made_alike (program_of script rank) (program_made script rank) in
       let rest = made_alike stood.rest stood.behind in
       let here = same statement in
       let first : total_left a u.local.left ≡ total_of a (acts_of (setup_of script) rank statement) + total_left a stood.rest = ap (total_left a) stood.next ∙ left_both a stood.item.line (acts_of (setup_of script) rank statement) stood.rest in
       let second : total_left b u.local.left ≡ total_of b (acts_of (setup_of script) rank statement) + total_left b stood.rest = ap (total_left b) stood.next ∙ left_both b stood.item.line (acts_of (setup_of script) rank statement) stood.rest in
-      let now_f : f u + total_left a u.local.left ≡ f (started script rank) + total_left a (program_of script rank) = ap (λ (v : State). f v + total_left a v.local.left) stood.reached ∙ one in
-      let now_g : g u + total_left b u.local.left ≡ g (started script rank) + total_left b (program_of script rank) = ap (λ (v : State). g v + total_left b v.local.left) stood.reached ∙ two in
+      let now_f : f u + total_left a u.local.left ≡ f (start_of_rank script rank) + total_left a (program_of script rank) = ap (λ (v : State). f v + total_left a v.local.left) stood.reached ∙ one in
+      let now_g : g u + total_left b u.local.left ≡ g (start_of_rank script rank) + total_left b (program_of script rank) = ap (λ (v : State). g v + total_left b v.local.left) stood.reached ∙ two in
       omega (arith, start, all, rest, here, first, second, now_f, now_g)
 
 -- one of a list with no two equal
@@ -146,11 +146,11 @@ module _ (adds : Act → ℕ) (op : Op) (ty : Ty) (dst src : ℕ) (begins : adds
 
   all_root_adds : (other : ℕ) (list : List ℕ)
       → total_of adds (parts_of (fold_operands op ty dst src) (root_steps (coll.Allreduce other 0) list))
-      ≡ total_of adds (gathers (fold_operands op ty dst src) (head_of kind_of.AllUp other 0) list) + total_of adds (map (λ x. Send x (head_of kind_of.AllDown other 0) source_of.Accumulator) list)
+      ≡ total_of adds (gathers (fold_operands op ty dst src) (head_of_kind kind_of.AllUp other 0) list) + total_of adds (map (λ x. Send x (head_of_kind kind_of.AllDown other 0) source_of.Accumulator) list)
   all_root_adds other list =
       ap (λ (l : List Act). total_of adds (Begin src ∷ l)) (all_down_parts other dst src op ty list)
-      ∙ (let both = total_both adds (gathers (fold_operands op ty dst src) (head_of kind_of.AllUp other 0) list) (down_sends other dst list) in
-      let more = total_both adds (map (λ (x : ℕ). Send x (head_of kind_of.AllDown other 0) source_of.Accumulator) list) (Finish dst ∷ []) in
+      ∙ (let both = total_both adds (gathers (fold_operands op ty dst src) (head_of_kind kind_of.AllUp other 0) list) (down_sends other dst list) in
+      let more = total_both adds (map (λ (x : ℕ). Send x (head_of_kind kind_of.AllDown other 0) source_of.Accumulator) list) (Finish dst ∷ []) in
       omega (arith, both, more, begins, finishes))
 
 -- one of the others is one of those to whom the root sends
@@ -161,20 +161,20 @@ in_root_others s comm place root to other at is same here =
 
 -- nothing is received of a broadcast but its own messages
 module _ (s : SetupView) (kind comm from rank : ℕ) where
-  gets_no_bcast : (other place reg len : ℕ) → has_kind kind comm (head_of kind_of.Bcast other len) ≡ false → total_of (got_in kind comm from) (acts_of s rank (stmt.Bcast other place reg len)) ≡ 0
+  gets_no_bcast : (other place reg len : ℕ) → has_kind kind comm (head_of_kind kind_of.Bcast other len) ≡ false → total_of (got_in kind comm from) (acts_of s rank (stmt.Bcast other place reg len)) ≡ 0
   gets_no_bcast other place reg len odd =
       by_part s rank (coll.Bcast other place len) (bcast_operands reg) (λ acts. total_of (got_in kind comm from) acts ≡ 0) refl
-      (λ can at. ap (total_of (got_in kind comm from)) (bcast_parts (bcast_operands reg) (head_of kind_of.Bcast other len) (others_of s other rank place))
-      ∙ sends_get_none kind comm (head_of kind_of.Bcast other len) from (source_of.Own reg) (others_of s other rank place))
-      (λ can. let one : one_if (has_kind kind comm (head_of kind_of.Bcast other len) && (slice_index (members_of s other rank) place == from)) ≡ 0 =
+      (λ can at. ap (total_of (got_in kind comm from)) (bcast_parts (bcast_operands reg) (head_of_kind kind_of.Bcast other len) (others_of s other rank place))
+      ∙ sends_get_none kind comm (head_of_kind kind_of.Bcast other len) from (source_of.Own reg) (others_of s other rank place))
+      (λ can. let one : one_if (has_kind kind comm (head_of_kind kind_of.Bcast other len) && (slice_index (members_of s other rank) place == from)) ≡ 0 =
       ap (λ (b : Bool). one_if (b && (slice_index (members_of s other rank) place == from))) odd in
       omega (arith, one))
 
-  gets_no_reduce : (other place dst src : ℕ) (op : Op) (ty : Ty) → has_kind kind comm (head_of kind_of.Reduce other 0) ≡ false → total_of (got_in kind comm from) (acts_of s rank (stmt.Reduce other place op ty dst src)) ≡ 0
+  gets_no_reduce : (other place dst src : ℕ) (op : Op) (ty : Ty) → has_kind kind comm (head_of_kind kind_of.Reduce other 0) ≡ false → total_of (got_in kind comm from) (acts_of s rank (stmt.Reduce other place op ty dst src)) ≡ 0
   gets_no_reduce other place dst src op ty odd =
       by_part s rank (coll.Reduce other place 0) (fold_operands op ty dst src) (λ acts. total_of (got_in kind comm from) acts ≡ 0) refl
-      (λ can at. reduce_root_adds (got_in kind comm from) op ty dst src refl refl (head_of kind_of.Reduce other 0) (others_of s other rank place)
-      ∙ gets_other kind comm (head_of kind_of.Reduce other 0) (fold_operands op ty dst src) from odd (others_of s other rank place))
+      (λ can at. reduce_root_adds (got_in kind comm from) op ty dst src refl refl (head_of_kind kind_of.Reduce other 0) (others_of s other rank place)
+      ∙ gets_other kind comm (head_of_kind kind_of.Reduce other 0) (fold_operands op ty dst src) from odd (others_of s other rank place))
       (λ can. refl)
 
 -- broadcasts: the root sends to each of the others
@@ -185,10 +185,10 @@ module _ (s : SetupView) (comm place root one two : ℕ) (first : IsOther s comm
       K : ℕ
       K = kind_number kind_of.Bcast
 
-      each : (to : ℕ) → IsOther s comm place root to → (other == comm) ≡ true → place_of s other root ≡ at → total_of (sent_in K comm to) (parts_of (bcast_operands reg) (send_each (head_of kind_of.Bcast other len) (others_of s other root at))) ≡ 1
+      each : (to : ℕ) → IsOther s comm place root to → (other == comm) ≡ true → place_of s other root ≡ at → total_of (sent_in K comm to) (parts_of (bcast_operands reg) (send_each (head_of_kind kind_of.Bcast other len) (others_of s other root at))) ≡ 1
       each to is same here =
-          ap (total_of (sent_in K comm to)) (bcast_parts (bcast_operands reg) (head_of kind_of.Bcast other len) (others_of s other root at))
-          ∙ sends_exactly K comm (head_of kind_of.Bcast other len) to (source_of.Own reg) same (others_of s other root at) (others_apart s other at root)
+          ap (total_of (sent_in K comm to)) (bcast_parts (bcast_operands reg) (head_of_kind kind_of.Bcast other len) (others_of s other root at))
+          ∙ sends_exactly K comm (head_of_kind kind_of.Bcast other len) to (source_of.Own reg) same (others_of s other root at) (others_apart s other at root)
           (in_root_others s comm place root to other at is (eqb-true other comm same) here)
 
       by : (same : Bool) → (other == comm) ≡ same → total_of (sent_in K comm one) (acts_of s root (stmt.Bcast other at reg len)) ≡ total_of (sent_in K comm two) (acts_of s root (stmt.Bcast other at reg len))
@@ -209,8 +209,8 @@ module _ (s : SetupView) (comm place root one two : ℕ) (first : IsOther s comm
 
       each : (from : ℕ) → IsOther s comm place root from → (other == comm) ≡ true → place_of s other root ≡ at → total_of (got_in K comm from) (parts_of (fold_operands op ty dst src) (root_steps (coll.Reduce other at 0) (others_of s other root at))) ≡ 1
       each from is same here =
-          reduce_root_adds (got_in K comm from) op ty dst src refl refl (head_of kind_of.Reduce other 0) (others_of s other root at)
-          ∙ gets_exactly K comm (head_of kind_of.Reduce other 0) (fold_operands op ty dst src) from same (others_of s other root at) (others_apart s other at root)
+          reduce_root_adds (got_in K comm from) op ty dst src refl refl (head_of_kind kind_of.Reduce other 0) (others_of s other root at)
+          ∙ gets_exactly K comm (head_of_kind kind_of.Reduce other 0) (fold_operands op ty dst src) from same (others_of s other root at) (others_apart s other at root)
           (in_root_others s comm place root from other at is (eqb-true other comm same) here)
 
       by : (same : Bool) → (other == comm) ≡ same → total_of (got_in K comm one) (acts_of s root (stmt.Reduce other at op ty dst src)) ≡ total_of (got_in K comm two) (acts_of s root (stmt.Reduce other at op ty dst src))
@@ -228,8 +228,8 @@ module _ (s : SetupView) (comm place root one two : ℕ) (first : IsOther s comm
       none from =
           by_part s root (coll.Allreduce other 0) (fold_operands op ty dst src) (λ acts. total_of (got_in K comm from) acts ≡ 0) refl
           (λ can here. all_root_adds (got_in K comm from) op ty dst src refl refl other (others_of s other root 0)
-          ∙ (let gets = gets_other K comm (head_of kind_of.AllUp other 0) (fold_operands op ty dst src) from refl (others_of s other root 0) in
-          let sends = sends_get_none K comm (head_of kind_of.AllDown other 0) from source_of.Accumulator (others_of s other root 0) in
+          ∙ (let gets = gets_other K comm (head_of_kind kind_of.AllUp other 0) (fold_operands op ty dst src) from refl (others_of s other root 0) in
+          let sends = sends_get_none K comm (head_of_kind kind_of.AllDown other 0) from source_of.Accumulator (others_of s other root 0) in
           omega (arith, gets, sends)))
           (λ can. refl)
   reduces_alike _ = refl
@@ -240,8 +240,8 @@ module _ (s : SetupView) (comm root one two : ℕ) (first : IsOther s comm 0 roo
   all_alike (stmt.Allreduce other op ty dst src) =
       by_part s root (coll.Allreduce other 0) (fold_operands op ty dst src) (λ acts. total_of (got_in U comm one) acts ≡ total_of (sent_in D comm two) acts) refl
       (λ can here. all_root_adds (got_in U comm one) op ty dst src refl refl other others
-      ∙ (let sends = sends_get_none U comm (head_of kind_of.AllDown other 0) one source_of.Accumulator others in
-      let gets = gathers_send_none D comm o (head_of kind_of.AllUp other 0) two others in
+      ∙ (let sends = sends_get_none U comm (head_of_kind kind_of.AllDown other 0) one source_of.Accumulator others in
+      let gets = gathers_send_none D comm o (head_of_kind kind_of.AllUp other 0) two others in
       let both = by (other == comm) refl here in
       omega (arith, sends, gets, both))
       ∙ sym (all_root_adds (sent_in D comm two) op ty dst src refl refl other others))
@@ -260,13 +260,13 @@ module _ (s : SetupView) (comm root one two : ℕ) (first : IsOther s comm 0 roo
       others = others_of s other root 0
 
       by : (same : Bool) → (other == comm) ≡ same → place_of s other root ≡ 0
-          → total_of (got_in U comm one) (gathers o (head_of kind_of.AllUp other 0) others) ≡ total_of (sent_in D comm two) (map (λ x. Send x (head_of kind_of.AllDown other 0) source_of.Accumulator) others)
+          → total_of (got_in U comm one) (gathers o (head_of_kind kind_of.AllUp other 0) others) ≡ total_of (sent_in D comm two) (map (λ x. Send x (head_of_kind kind_of.AllDown other 0) source_of.Accumulator) others)
       by false odd here =
-          gets_other U comm (head_of kind_of.AllUp other 0) o one odd others
-          ∙ sym (sends_other D comm two (head_of kind_of.AllDown other 0) source_of.Accumulator odd others)
+          gets_other U comm (head_of_kind kind_of.AllUp other 0) o one odd others
+          ∙ sym (sends_other D comm two (head_of_kind kind_of.AllDown other 0) source_of.Accumulator odd others)
       by true same here =
-          gets_exactly U comm (head_of kind_of.AllUp other 0) o one same others (others_apart s other 0 root) (in_root_others s comm 0 root one other 0 first (eqb-true other comm same) here)
-          ∙ sym (sends_exactly D comm (head_of kind_of.AllDown other 0) two source_of.Accumulator same others (others_apart s other 0 root) (in_root_others s comm 0 root two other 0 second (eqb-true other comm same) here))
+          gets_exactly U comm (head_of_kind kind_of.AllUp other 0) o one same others (others_apart s other 0 root) (in_root_others s comm 0 root one other 0 first (eqb-true other comm same) here)
+          ∙ sym (sends_exactly D comm (head_of_kind kind_of.AllDown other 0) two source_of.Accumulator same others (others_apart s other 0 root) (in_root_others s comm 0 root two other 0 second (eqb-true other comm same) here))
   all_alike (stmt.Bcast other at reg len) = gets_no_bcast s (kind_number kind_of.AllUp) comm one root other at reg len refl ∙ sym (quiet_bcast s (kind_number kind_of.AllDown) comm two root other at reg len refl)
   all_alike (stmt.Reduce other at op ty dst src) = gets_no_reduce s (kind_number kind_of.AllUp) comm one root other at dst src op ty refl ∙ sym (quiet_reduce s (kind_number kind_of.AllDown) comm two root other at dst src op ty refl)
   all_alike _ = refl
@@ -276,10 +276,10 @@ told_alike : (s : SetupView) (comm root rank : ℕ) (statement : Stmt) → total
 told_alike s comm root rank (stmt.Allreduce other op ty dst src) =
     by_part s rank (coll.Allreduce other 0) o (λ acts. total_of (sent_in U comm root) acts ≡ total_of (got_in D comm root) acts) refl
     (λ can here. all_root_adds (sent_in U comm root) op ty dst src refl refl other others
-    ∙ (let one = gathers_send_none U comm o (head_of kind_of.AllUp other 0) root others in
-    let two = sends_other U comm root (head_of kind_of.AllDown other 0) source_of.Accumulator refl others in
-    let three = gets_other D comm (head_of kind_of.AllUp other 0) o root refl others in
-    let four = sends_get_none D comm (head_of kind_of.AllDown other 0) root source_of.Accumulator others in
+    ∙ (let one = gathers_send_none U comm o (head_of_kind kind_of.AllUp other 0) root others in
+    let two = sends_other U comm root (head_of_kind kind_of.AllDown other 0) source_of.Accumulator refl others in
+    let three = gets_other D comm (head_of_kind kind_of.AllUp other 0) o root refl others in
+    let four = sends_get_none D comm (head_of_kind kind_of.AllDown other 0) root source_of.Accumulator others in
     omega (arith, one, two, three, four))
     ∙ sym (all_root_adds (got_in D comm root) op ty dst src refl refl other others))
     (λ can. omega arith)

@@ -7,7 +7,7 @@ use Rattle.scc_base.specs.Calls.{DataCall, Message}
 use Rattle.script_reader.specs.declared.script.Item.{Item}
 use Rattle.script_reader.specs.declared.script.Stmt.{Stmt}
 use Rattle.script_reader.specs.Script.{Script}
-use Rattle.script_plain.specs.Collectives.{AreOwnWays, CameTo, IsOfRank, Made, StandsAt, gone_through, started}
+use Rattle.script_plain.specs.Collectives.{AreOwnWays, CameTo, IsOfRank, MadeByItems, StandsAtStatement, gone_through, start_of_rank}
 use Rattle.script_plain.specs.Meaning.{State}
 use Rattle.script_plain.specs.Messages.{is_of, sent_by}
 use Rattle.script_machine.specs.Program.{Act, Prim, acts_of, setup_of}
@@ -24,7 +24,7 @@ module _ (script : Script) (rank : ℕ) (measure : State → ℕ) (adds : Act �
     pub statement : Stmt
     pub such : Such statement
     pub begun : State
-    pub stood : StandsAt script rank statement begun
+    pub stood : StandsAtStatement script rank statement begun
     pub later : List (List ℕ)
     pub since : now ≡ gone_through later begun
     pub number : measure begun ≡ n
@@ -32,14 +32,14 @@ module _ (script : Script) (rank : ℕ) (measure : State → ℕ) (adds : Act �
   -- it is on its own way, and has either not come so far or has come there
   record Sought (now : State) : Type 0 where
     way : List (List ℕ)
-    reached : now ≡ gone_through way (started script rank)
+    reached : now ≡ gone_through way (start_of_rank script rank)
     found : (measure now ≤ n) ⊎ Found now
 
-  goes_on : (item : Item) (rest : List Prim) (u : State) (path : List (List ℕ)) → IsOfRank script.items rank item → Made (setup_of script) rank script.items rest → Facing item.line (acts_of (setup_of script) rank item.stmt) rest u
+  goes_on : (item : Item) (rest : List Prim) (u : State) (path : List (List ℕ)) → IsOfRank script.items rank item → MadeByItems (setup_of script) rank script.items rest → Facing item.line (acts_of (setup_of script) rank item.stmt) rest u
       → length path ≤ length (acts_of (setup_of script) rank item.stmt) → Sought u → Sought (gone_through path u)
   goes_on item rest u path is behind facing low sought = record {
     way = sought.way ++ path;
-    reached = ap (gone_through path) sought.reached ∙ sym (through_both sought.way path (started script rank));
+    reached = ap (gone_through path) sought.reached ∙ sym (through_both sought.way path (start_of_rank script rank));
     found = ⊎_elim (λ (few : measure u ≤ n). by few (makes item.stmt)) (λ (f : Found u). inr (more f)) sought.found;
   }
     where
@@ -78,10 +78,10 @@ module _ (script : Script) (rank : ℕ) (measure : State → ℕ) (adds : Act �
           (λ (still : measure (gone_through path u) ≤ n). inl still)
           (cases_lt n (measure (gone_through path u)))
 
-  pub finds : (path : List (List ℕ)) → measure (started script rank) ≤ n → n < measure (gone_through path (started script rank)) → Found (gone_through path (started script rank))
+  pub finds : (path : List (List ℕ)) → measure (start_of_rank script rank) ≤ n → n < measure (gone_through path (start_of_rank script rank)) → Found (gone_through path (start_of_rank script rank))
   finds path none past =
       let sought = along_made_way script rank Sought goes_on (record { way = []; reached = refl; found = inl none }) path in
-      ⊎_elim (λ (few : measure (gone_through path (started script rank)) ≤ n). absurd (omega (arith, few, past))) (λ (f : Found (gone_through path (started script rank))). f) sought.found
+      ⊎_elim (λ (few : measure (gone_through path (start_of_rank script rank)) ≤ n). absurd (omega (arith, few, past))) (λ (f : Found (gone_through path (start_of_rank script rank))). f) sought.found
 
 -- the rank made the n-th message of a kind in a communicator to another at such a statement
 pub record CameToSend (script : Script) (kind comm to rank n : ℕ) (Such : Stmt → Type 0) (now : State) : Type 0 where
@@ -98,7 +98,7 @@ pub sender_came : (script : Script) (c : Configuration State) (kind comm to rank
 sender_came script c kind comm to rank n Such now m apart makes own at found =
     let (path, same) = own rank now at in
     let there = slice_get_within (chosen (is_of kind comm) (sent_by to) now.matched) n m found in
-    let even : sent_so_far kind comm to now ≡ sent_so_far kind comm to (gone_through path (started script rank)) = ap (λ (l : List DataCall). length (chosen (is_of kind comm) (sent_by to) l)) same in
+    let even : sent_so_far kind comm to now ≡ sent_so_far kind comm to (gone_through path (start_of_rank script rank)) = ap (λ (l : List DataCall). length (chosen (is_of kind comm) (sent_by to) l)) same in
     let f = finds script rank (sent_so_far kind comm to) (sent_in kind comm to) (sends_counted kind comm to apart) Such makes n path (omega arith) (omega (arith, there, even)) in
     record {
       statement = f.statement;

@@ -9,8 +9,8 @@ use Rattle.scc_base.specs.Heads.{MessageHead}
 use Rattle.script_machine.specs.declared.prims.Operands.{Operands}
 use Rattle.script_machine.specs.declared.prims.Source.{Source}
 use Rattle.script_plain.specs.Collectives.{gone_by, gone_through}
-use Rattle.script_machine.specs.Local.{asked_head, message_of, next_by_act, source_bytes, with_length}
-use Rattle.script_plain.specs.Meaning.{State, next_of, recorded}
+use Rattle.script_machine.specs.Local.{asked_head, message_posted, next_by_act, source_bytes, head_with_length}
+use Rattle.script_plain.specs.Meaning.{State, next_of, next_with_calls}
 use Rattle.script_plain.specs.Messages.{is_of, received_by, sent_by}
 use Rattle.script_machine.specs.Next.{Next}
 use Rattle.script_machine.specs.Program.{Act, Prim}
@@ -22,7 +22,7 @@ use Rattle.script_machine.proofs.Choices as choices
 
 -- a count of what a rank has done, and what each act adds to it
 pub record Counts (measure : State → ℕ) (adds : Act → ℕ) : Type 0 where
-  pub by_act : (bytes : List ℕ) (u : State) (line : ℕ) (a : Act) → measure (gone_by bytes u (recorded u.matched (next_by_act u.local line a))) ≡ measure u + adds a
+  pub by_act : (bytes : List ℕ) (u : State) (line : ℕ) (a : Act) → measure (gone_by bytes u (next_with_calls u.matched (next_by_act u.local line a))) ≡ measure u + adds a
 
 -- what acts add together
 abbrev pub total_of : (Act → ℕ) → List Act → ℕ
@@ -99,12 +99,12 @@ module _ (kind comm to : ℕ) (apart : (0 == kind) ≡ false) where
   pub sends_counted : Counts (sent_so_far kind comm to) (sent_in kind comm to)
   sends_counted = record { by_act = by }
     where
-      by : (bytes : List ℕ) (u : State) (line : ℕ) (a : Act) → sent_so_far kind comm to (gone_by bytes u (recorded u.matched (next_by_act u.local line a))) ≡ sent_so_far kind comm to u + sent_in kind comm to a
+      by : (bytes : List ℕ) (u : State) (line : ℕ) (a : Act) → sent_so_far kind comm to (gone_by bytes u (next_with_calls u.matched (next_by_act u.local line a))) ≡ sent_so_far kind comm to u + sent_in kind comm to a
       by bytes u line (Act.Send peer head source) =
-          let sent : Message = record { head = with_length head (length (source_bytes u.local source)); bytes = source_bytes u.local source } in
+          let sent : Message = record { head = head_with_length head (length (source_bytes u.local source)); bytes = source_bytes u.local source } in
           one_more (is_of kind comm) (sent_by to) u.matched (Send peer sent.head sent.bytes) _ (one_chosen (is_of kind comm) sent (has_kind kind comm head) (peer == to) refl)
       by bytes u line (Act.Post peer reg) =
-          let posted = message_of u.local line peer reg in
+          let posted = message_posted u.local line peer reg in
           one_more (is_of kind comm) (sent_by to) u.matched (Post peer posted.head posted.bytes) 0
           (one_chosen (is_of kind comm) (record { head = posted.head; bytes = posted.bytes }) false (peer == to) (ap (λ (b : Bool). b && (0 == comm)) apart))
       by bytes u line (Act.Recv peer reg head) = one_more (is_of kind comm) (sent_by to) u.matched (Recv peer head bytes) 0 refl
@@ -122,10 +122,10 @@ module _ (kind comm from : ℕ) where
       gathered bytes u peer head (Some reg) =
           one_more (is_of kind comm) (received_by from) u.matched (Recv peer (asked_head u.local head (Some reg)) bytes) _ (one_chosen (is_of kind comm) (record { head = asked_head u.local head (Some reg); bytes = bytes }) (has_kind kind comm head) (peer == from) refl)
 
-      by : (bytes : List ℕ) (u : State) (line : ℕ) (a : Act) → got_so_far kind comm from (gone_by bytes u (recorded u.matched (next_by_act u.local line a))) ≡ got_so_far kind comm from u + got_in kind comm from a
+      by : (bytes : List ℕ) (u : State) (line : ℕ) (a : Act) → got_so_far kind comm from (gone_by bytes u (next_with_calls u.matched (next_by_act u.local line a))) ≡ got_so_far kind comm from u + got_in kind comm from a
       by bytes u line (Act.Send peer head source) =
-          one_more (is_of kind comm) (received_by from) u.matched (Send peer (with_length head (length (source_bytes u.local source))) (source_bytes u.local source)) 0 refl
-      by bytes u line (Act.Post peer reg) = let posted = message_of u.local line peer reg in one_more (is_of kind comm) (received_by from) u.matched (Post peer posted.head posted.bytes) 0 refl
+          one_more (is_of kind comm) (received_by from) u.matched (Send peer (head_with_length head (length (source_bytes u.local source))) (source_bytes u.local source)) 0 refl
+      by bytes u line (Act.Post peer reg) = let posted = message_posted u.local line peer reg in one_more (is_of kind comm) (received_by from) u.matched (Post peer posted.head posted.bytes) 0 refl
       by bytes u line (Act.Recv peer reg head) =
           one_more (is_of kind comm) (received_by from) u.matched (Recv peer head bytes) _ (one_chosen (is_of kind comm) (record { head = head; bytes = bytes }) (has_kind kind comm head) (peer == from) refl)
       by bytes u line (Act.Gather peer head sized) = gathered bytes u peer head sized

@@ -8,7 +8,7 @@ use Rattle.scc_base.specs.Heads.{kind_number}
 use Rattle.scc_base.specs.Setups.{SetupView}
 use Rattle.scc_base.specs.declared.kinds.Kind.{Kind}
 use Rattle.scc_base.specs.declared.kinds.Kind.TheVariants as kind_of
-use Rattle.groups.specs.Collectives.{head_of, others_of}
+use Rattle.groups.specs.Collectives.{head_of_kind, others_of}
 use Rattle.groups.specs.declared.collectives.Coll.{Coll}
 use Rattle.groups.specs.declared.collectives.Coll.TheVariants as coll
 use Rattle.groups.specs.declared.operations.Op.{Op}
@@ -18,7 +18,7 @@ use Rattle.script_reader.specs.declared.script.Stmt.{Stmt}
 use Rattle.script_reader.specs.declared.script.Stmt.TheVariants as stmt
 use Rattle.script_machine.specs.declared.prims.Operands.{Operands}
 use Rattle.script_machine.specs.declared.prims.Source.TheVariants as source_of
-use Rattle.script_plain.specs.Collectives.{AllCame, AllGive, AreOwnWays, CameTo, Casts, Gives, IsOther, OthersGave, OthersGaveToAll, RootCame, Tells, gone_through}
+use Rattle.script_plain.specs.Collectives.{AllCame, AllGive, AreOwnWays, CameTo, Casts, GivesPart, IsOther, OthersGave, OthersGaveToAll, RootCame, TellsFold, gone_through}
 use Rattle.script_machine.specs.Local.{register_at}
 use Rattle.script_plain.specs.Meaning.{State}
 use Rattle.script_plain.specs.Messages.{AreDelivered, is_of, received_by, sent_by}
@@ -42,7 +42,7 @@ module _ (script : Script) (c : Configuration State) (delivered : AreDelivered c
   -- each of the others gave the bytes that came to the root
   module _ (call : Op → Ty → ℕ → ℕ → Stmt) (coll : Coll) (kind : Kind) (comm place root : ℕ) (u begun : State) (at_root : slice_get c.cells root ≡ Some u) (apart : (0 == kind_number kind) ≡ false)
       (tail : ℕ → ℕ → List Act)
-      (gives : (rank : ℕ) (op : Op) (ty : Ty) (dst src : ℕ) → can_call (setup_of script) rank coll ≡ true → IsOther (setup_of script) comm place root rank → acts_of (setup_of script) rank (call op ty dst src) ≡ Send root (head_of kind comm 0) (source_of.Own src) ∷ tail dst src)
+      (gives : (rank : ℕ) (op : Op) (ty : Ty) (dst src : ℕ) → can_call (setup_of script) rank coll ≡ true → IsOther (setup_of script) comm place root rank → acts_of (setup_of script) rank (call op ty dst src) ≡ Send root (head_of_kind kind comm 0) (source_of.Own src) ∷ tail dst src)
       (makes : (rank : ℕ) → IsOther (setup_of script) comm place root rank → (statement : Stmt) → MakesOne (total_of (sent_in (kind_number kind) comm root) (acts_of (setup_of script) rank statement)) (IsCallOf (setup_of script) rank call coll statement))
       (may : (rank : ℕ) (op : Op) (ty : Ty) (dst src : ℕ) (now before : State) → slice_get c.cells rank ≡ Some now → CameTo script rank (call op ty dst src) now before → can_call (setup_of script) rank coll ≡ true) where
     abbrev bytes_in_message : Option Message → List ℕ
@@ -61,7 +61,7 @@ module _ (script : Script) (c : Configuration State) (delivered : AreDelivered c
         n : ℕ
         n = got_so_far K comm rank begun
 
-        by : (o : Option Message) → slice_get (chosen (is_of K comm) (received_by rank) u.matched) n ≡ o → Gives script c call kind comm root begun rank (bytes_in_message o)
+        by : (o : Option Message) → slice_get (chosen (is_of K comm) (received_by rank) u.matched) n ≡ o → GivesPart script c call kind comm root begun rank (bytes_in_message o)
         by None none = absurd (message_at (chosen (is_of K comm) (received_by rank) u.matched) n (got rank is) none)
         by (Some m) found = record {
           op = f.such.op;
@@ -104,7 +104,7 @@ module _ (script : Script) (c : Configuration State) (delivered : AreDelivered c
 
     -- what one of them gave is what came to the root
     gives_once : (rank : ℕ) (x y : List ℕ) → IsOther (setup_of script) comm place root rank → got_so_far (kind_number kind) comm rank begun < got_so_far (kind_number kind) comm rank u
-        → Gives script c call kind comm root begun rank x → Gives script c call kind comm root begun rank y → x ≡ y
+        → GivesPart script c call kind comm root begun rank x → GivesPart script c call kind comm root begun rank y → x ≡ y
     gives_once rank x y is got one two = by (slice_get (chosen (is_of (kind_number kind) comm) (received_by rank) u.matched) (got_so_far (kind_number kind) comm rank begun)) refl
       where
         by : (o : Option Message) → slice_get (chosen (is_of (kind_number kind) comm) (received_by rank) u.matched) (got_so_far (kind_number kind) comm rank begun) ≡ o → x ≡ y
@@ -167,17 +167,17 @@ module _ (script : Script) (c : Configuration State) (delivered : AreDelivered c
       o : Operands
       o = fold_operands op ty dst src
 
-      acts : acts_of s root (stmt.Reduce comm place op ty dst src) ≡ Begin src ∷ gathers o (head_of kind_of.Reduce comm 0) others ++ Finish dst ∷ []
+      acts : acts_of s root (stmt.Reduce comm place op ty dst src) ≡ Begin src ∷ gathers o (head_of_kind kind_of.Reduce comm 0) others ++ Finish dst ∷ []
       acts = reduce_at_root s comm place root dst src op ty (fit.reduces root u begun comm place dst src op ty at_root done.stood) at
 
       count : length done.taken ≡ suc (2 * length others + 1)
       count = done.each ∙ ap length acts
-          ∙ ap suc (length-append (gathers o (head_of kind_of.Reduce comm 0) others) (Finish dst ∷ [])
-          ∙ ap (λ (n : ℕ). n + 1) (gathers_length o (head_of kind_of.Reduce comm 0) others))
+          ∙ ap suc (length-append (gathers o (head_of_kind kind_of.Reduce comm 0) others) (Finish dst ∷ [])
+          ∙ ap (λ (n : ℕ). n + 1) (gathers_length o (head_of_kind kind_of.Reduce comm 0) others))
 
       got : (rank : ℕ) → IsOther s comm place root rank → got_so_far K comm rank begun < got_so_far K comm rank u
       got rank is =
-          let more = gets_each K comm done.stood.item.line src o (head_of kind_of.Reduce comm 0) (Finish dst ∷ []) done.stood.rest others begun (faces script root (stmt.Reduce comm place op ty dst src) begun done.stood _ acts)
+          let more = gets_each K comm done.stood.item.line src o (head_of_kind kind_of.Reduce comm 0) (Finish dst ∷ []) done.stood.rest others begun (faces script root (stmt.Reduce comm place op ty dst src) begun done.stood _ acts)
           rank done.taken (own_kind kind_of.Reduce comm 0) (is_in_others s comm place root rank is) (omega (arith, count)) in
           let kept = still_got K comm rank done.later after in
           let here : got_so_far K comm rank after ≡ got_so_far K comm rank (gone_through done.taken begun) = ap (got_so_far K comm rank) done.came in
@@ -202,27 +202,27 @@ module _ (script : Script) (c : Configuration State) (delivered : AreDelivered c
     may_up rank p t d r now before there came = fit.reduces_to_all rank now before comm d r p t there came.stood
 
     abbrev bytes_up : ℕ → List ℕ
-    bytes_up = bytes_from (stmt.Allreduce comm) (coll.Allreduce comm 0) kind_of.AllUp comm 0 root u begun at_root refl (λ d r. Gather root (head_of kind_of.AllDown comm 0) (Some r) ∷ Accept d ∷ [])
+    bytes_up = bytes_from (stmt.Allreduce comm) (coll.Allreduce comm 0) kind_of.AllUp comm 0 root u begun at_root refl (λ d r. Gather root (head_of_kind kind_of.AllDown comm 0) (Some r) ∷ Accept d ∷ [])
         (λ j p t d r can is. allreduce_at_other (setup_of script) comm root j d r p t can is) (λ j is. all_up_makes (setup_of script) j comm root) may_up
 
     gave_up : ((rank : ℕ) → IsOther (setup_of script) comm 0 root rank → got_so_far (kind_number kind_of.AllUp) comm rank begun < got_so_far (kind_number kind_of.AllUp) comm rank u)
         → AllGive script c (stmt.Allreduce comm) kind_of.AllUp comm 0 root begun bytes_up
-    gave_up got = gave (stmt.Allreduce comm) (coll.Allreduce comm 0) kind_of.AllUp comm 0 root u begun at_root refl (λ d r. Gather root (head_of kind_of.AllDown comm 0) (Some r) ∷ Accept d ∷ [])
+    gave_up got = gave (stmt.Allreduce comm) (coll.Allreduce comm 0) kind_of.AllUp comm 0 root u begun at_root refl (λ d r. Gather root (head_of_kind kind_of.AllDown comm 0) (Some r) ∷ Accept d ∷ [])
         (λ j p t d r can is. allreduce_at_other (setup_of script) comm root j d r p t can is) (λ j is. all_up_makes (setup_of script) j comm root) may_up got
 
     up_once : (rank : ℕ) (x y : List ℕ) → IsOther (setup_of script) comm 0 root rank → got_so_far (kind_number kind_of.AllUp) comm rank begun < got_so_far (kind_number kind_of.AllUp) comm rank u
-        → Gives script c (stmt.Allreduce comm) kind_of.AllUp comm root begun rank x → Gives script c (stmt.Allreduce comm) kind_of.AllUp comm root begun rank y → x ≡ y
-    up_once = gives_once (stmt.Allreduce comm) (coll.Allreduce comm 0) kind_of.AllUp comm 0 root u begun at_root refl (λ d r. Gather root (head_of kind_of.AllDown comm 0) (Some r) ∷ Accept d ∷ [])
+        → GivesPart script c (stmt.Allreduce comm) kind_of.AllUp comm root begun rank x → GivesPart script c (stmt.Allreduce comm) kind_of.AllUp comm root begun rank y → x ≡ y
+    up_once = gives_once (stmt.Allreduce comm) (coll.Allreduce comm 0) kind_of.AllUp comm 0 root u begun at_root refl (λ d r. Gather root (head_of_kind kind_of.AllDown comm 0) (Some r) ∷ Accept d ∷ [])
         (λ j p t d r can is. allreduce_at_other (setup_of script) comm root j d r p t can is) (λ j is. all_up_makes (setup_of script) j comm root) may_up
 
     module _ (dst src : ℕ) (op : Op) (ty : Ty) (line : ℕ) (rest : List Prim)
-        (facing : Facing line (Begin src ∷ gathers (fold_operands op ty dst src) (head_of kind_of.AllUp comm 0) (others_of (setup_of script) comm root 0) ++ down_sends comm dst (others_of (setup_of script) comm root 0)) rest begun) where
+        (facing : Facing line (Begin src ∷ gathers (fold_operands op ty dst src) (head_of_kind kind_of.AllUp comm 0) (others_of (setup_of script) comm root 0) ++ down_sends comm dst (others_of (setup_of script) comm root 0)) rest begun) where
       -- a member 0 that has gone past its folds
       past_got : (path : List (List ℕ)) → u.matched ≡ (gone_through path begun).matched → suc (2 * length (others_of (setup_of script) comm root 0)) ≤ length path
           → (rank : ℕ) → IsOther (setup_of script) comm 0 root rank → got_so_far (kind_number kind_of.AllUp) comm rank begun < got_so_far (kind_number kind_of.AllUp) comm rank u
       past_got path since low rank is =
           let U = kind_number kind_of.AllUp in
-          let more = gets_each U comm line src (fold_operands op ty dst src) (head_of kind_of.AllUp comm 0) (down_sends comm dst (others_of (setup_of script) comm root 0)) rest (others_of (setup_of script) comm root 0) begun facing
+          let more = gets_each U comm line src (fold_operands op ty dst src) (head_of_kind kind_of.AllUp comm 0) (down_sends comm dst (others_of (setup_of script) comm root 0)) rest (others_of (setup_of script) comm root 0) begun facing
           rank path (own_kind kind_of.AllUp comm 0) (is_in_others (setup_of script) comm 0 root rank is) low in
           let now : got_so_far U comm rank u ≡ got_so_far U comm rank (gone_through path begun) = ap (λ (l : List DataCall). length (chosen (is_of U comm) (received_by rank) l)) since in
           omega (arith, more, now)
@@ -233,7 +233,7 @@ module _ (script : Script) (c : Configuration State) (delivered : AreDelivered c
       past_folds_by rank path sent =
           ⊎_elim
           (λ (short : length path < suc (2 * length (others_of (setup_of script) comm root 0))).
-          let none = sends_none (kind_number kind_of.AllDown) comm line src (fold_operands op ty dst src) (head_of kind_of.AllUp comm 0) (down_sends comm dst (others_of (setup_of script) comm root 0)) rest (others_of (setup_of script) comm root 0) begun facing
+          let none = sends_none (kind_number kind_of.AllDown) comm line src (fold_operands op ty dst src) (head_of_kind kind_of.AllUp comm 0) (down_sends comm dst (others_of (setup_of script) comm root 0)) rest (others_of (setup_of script) comm root 0) begun facing
           rank path refl (omega (arith, short)) in
           absurd (omega (arith, none, sent)))
           (λ (long : suc (2 * length (others_of (setup_of script) comm root 0)) ≤ length path). long)
@@ -253,13 +253,13 @@ module _ (script : Script) (c : Configuration State) (delivered : AreDelivered c
       o : Operands
       o = fold_operands op ty dst src
 
-      acts : acts_of s root (stmt.Allreduce comm op ty dst src) ≡ Begin src ∷ gathers o (head_of kind_of.AllUp comm 0) others ++ down_sends comm dst others
+      acts : acts_of s root (stmt.Allreduce comm op ty dst src) ≡ Begin src ∷ gathers o (head_of_kind kind_of.AllUp comm 0) others ++ down_sends comm dst others
       acts = allreduce_at_root s comm root dst src op ty (fit.reduces_to_all root u begun comm dst src op ty at_root done.stood) at
 
       long : suc (2 * length others) ≤ length (done.taken ++ done.later)
       long =
-          let all = done.each ∙ ap length acts ∙ ap suc (length-append (gathers o (head_of kind_of.AllUp comm 0) others) (down_sends comm dst others)) in
-          let folds = gathers_length o (head_of kind_of.AllUp comm 0) others in
+          let all = done.each ∙ ap length acts ∙ ap suc (length-append (gathers o (head_of_kind kind_of.AllUp comm 0) others) (down_sends comm dst others)) in
+          let folds = gathers_length o (head_of_kind kind_of.AllUp comm 0) others in
           let both = length-append done.taken done.later in
           omega (arith, all, folds, both)
 
@@ -293,7 +293,7 @@ module _ (script : Script) (c : Configuration State) (delivered : AreDelivered c
       came : CameTo script root (stmt.Allreduce comm f.such.op f.such.ty f.such.dst f.such.src) u.0 f.begun
       came = subst (λ (x : Stmt). CameTo script root x u.0 f.begun) f.such.is f.came
 
-      facing : Facing came.stood.item.line (Begin f.such.src ∷ gathers (fold_operands f.such.op f.such.ty f.such.dst f.such.src) (head_of kind_of.AllUp comm 0) (others_of s comm root 0) ++ down_sends comm f.such.dst (others_of s comm root 0)) came.stood.rest f.begun
+      facing : Facing came.stood.item.line (Begin f.such.src ∷ gathers (fold_operands f.such.op f.such.ty f.such.dst f.such.src) (head_of_kind kind_of.AllUp comm 0) (others_of s comm root 0) ++ down_sends comm f.such.dst (others_of s comm root 0)) came.stood.rest f.begun
       facing = faces script root (stmt.Allreduce comm f.such.op f.such.ty f.such.dst f.such.src) f.begun came.stood _ (allreduce_at_root s comm root f.such.dst f.such.src f.such.op f.such.ty f.such.callable other.placed.placed)
 
       more : sent_so_far D comm rank f.begun < sent_so_far D comm rank (gone_through came.later f.begun)
@@ -334,7 +334,7 @@ module _ (script : Script) (c : Configuration State) (delivered : AreDelivered c
             given = refl;
           })
 
-      told : Tells script c comm root rank before (register_at before.local from) accepted.0.bytes
+      told : TellsFold script c comm root rank before (register_at before.local from) accepted.0.bytes
       told = record {
         op = f.such.op;
         ty = f.such.ty;

@@ -5,7 +5,7 @@ use Rattle.std.proofs.lemmas.Bool.{eqb-true}
 use Rattle.scc_base.specs.Heads.{MessageHead, kind_number}
 use Rattle.scc_base.specs.Setups.{SetupView, members_of, place_of}
 use Rattle.scc_base.specs.declared.kinds.Kind.TheVariants as kind_of
-use Rattle.groups.specs.Collectives.{comm_of, fold_each, head_of, other_steps, others_of, root_place, root_steps}
+use Rattle.groups.specs.Collectives.{comm_of, fold_each, head_of_kind, other_steps, others_of, root_place, root_steps}
 use Rattle.groups.specs.declared.collectives.Coll.{Coll}
 use Rattle.groups.specs.declared.collectives.Coll.TheVariants as coll
 use Rattle.groups.specs.declared.collectives.Step.TheVariants as step
@@ -56,35 +56,35 @@ module _ (kind comm to : ℕ) (op : Op) (ty : Ty) (dst src : ℕ) where
 
   all_root_sends : (other : ℕ) (list : List ℕ)
       → total_of (sent_in kind comm to) (parts_of (fold_operands op ty dst src) (root_steps (coll.Allreduce other 0) list))
-      ≡ total_of (sent_in kind comm to) (map (λ x. Send x (head_of kind_of.AllDown other 0) source_of.Accumulator) list)
+      ≡ total_of (sent_in kind comm to) (map (λ x. Send x (head_of_kind kind_of.AllDown other 0) source_of.Accumulator) list)
   all_root_sends other list =
       ap (λ (l : List Act). total_of (sent_in kind comm to) (Begin src ∷ l)) (all_down_parts other dst src op ty list)
-      ∙ (let both = total_both (sent_in kind comm to) (gathers (fold_operands op ty dst src) (head_of kind_of.AllUp other 0) list) (down_sends other dst list) in
-      let none = gathers_send_none kind comm (fold_operands op ty dst src) (head_of kind_of.AllUp other 0) to list in
-      let more = total_both (sent_in kind comm to) (map (λ (x : ℕ). Send x (head_of kind_of.AllDown other 0) source_of.Accumulator) list) (Finish dst ∷ []) in
+      ∙ (let both = total_both (sent_in kind comm to) (gathers (fold_operands op ty dst src) (head_of_kind kind_of.AllUp other 0) list) (down_sends other dst list) in
+      let none = gathers_send_none kind comm (fold_operands op ty dst src) (head_of_kind kind_of.AllUp other 0) to list in
+      let more = total_both (sent_in kind comm to) (map (λ (x : ℕ). Send x (head_of_kind kind_of.AllDown other 0) source_of.Accumulator) list) (Finish dst ∷ []) in
       omega (arith, both, none, more))
 
 -- messages of other kinds, or of other communicators
 module _ (s : SetupView) (kind comm to rank : ℕ) where
-  pub quiet_bcast : (other place reg len : ℕ) → has_kind kind comm (head_of kind_of.Bcast other len) ≡ false → total_of (sent_in kind comm to) (acts_of s rank (stmt.Bcast other place reg len)) ≡ 0
+  pub quiet_bcast : (other place reg len : ℕ) → has_kind kind comm (head_of_kind kind_of.Bcast other len) ≡ false → total_of (sent_in kind comm to) (acts_of s rank (stmt.Bcast other place reg len)) ≡ 0
   quiet_bcast other place reg len odd =
       by_part s rank (coll.Bcast other place len) (bcast_operands reg) (λ acts. total_of (sent_in kind comm to) acts ≡ 0) refl
-      (λ can at. ap (total_of (sent_in kind comm to)) (bcast_parts (bcast_operands reg) (head_of kind_of.Bcast other len) (others_of s other rank place))
-      ∙ sends_other kind comm to (head_of kind_of.Bcast other len) (source_of.Own reg) odd (others_of s other rank place))
+      (λ can at. ap (total_of (sent_in kind comm to)) (bcast_parts (bcast_operands reg) (head_of_kind kind_of.Bcast other len) (others_of s other rank place))
+      ∙ sends_other kind comm to (head_of_kind kind_of.Bcast other len) (source_of.Own reg) odd (others_of s other rank place))
       (λ can. refl)
 
-  pub quiet_reduce : (other place dst src : ℕ) (op : Op) (ty : Ty) → has_kind kind comm (head_of kind_of.Reduce other 0) ≡ false → total_of (sent_in kind comm to) (acts_of s rank (stmt.Reduce other place op ty dst src)) ≡ 0
+  pub quiet_reduce : (other place dst src : ℕ) (op : Op) (ty : Ty) → has_kind kind comm (head_of_kind kind_of.Reduce other 0) ≡ false → total_of (sent_in kind comm to) (acts_of s rank (stmt.Reduce other place op ty dst src)) ≡ 0
   quiet_reduce other place dst src op ty odd =
       by_part s rank (coll.Reduce other place 0) (fold_operands op ty dst src) (λ acts. total_of (sent_in kind comm to) acts ≡ 0) refl
-      (λ can at. reduce_root_none kind comm to op ty dst src (head_of kind_of.Reduce other 0) (others_of s other rank place))
-      (λ can. sends_other kind comm to (head_of kind_of.Reduce other 0) (source_of.Own src) odd (slice_index (members_of s other rank) place ∷ []))
+      (λ can at. reduce_root_none kind comm to op ty dst src (head_of_kind kind_of.Reduce other 0) (others_of s other rank place))
+      (λ can. sends_other kind comm to (head_of_kind kind_of.Reduce other 0) (source_of.Own src) odd (slice_index (members_of s other rank) place ∷ []))
 
-  pub quiet_allreduce : (other dst src : ℕ) (op : Op) (ty : Ty) → has_kind kind comm (head_of kind_of.AllUp other 0) ≡ false → has_kind kind comm (head_of kind_of.AllDown other 0) ≡ false → total_of (sent_in kind comm to) (acts_of s rank (stmt.Allreduce other op ty dst src)) ≡ 0
+  pub quiet_allreduce : (other dst src : ℕ) (op : Op) (ty : Ty) → has_kind kind comm (head_of_kind kind_of.AllUp other 0) ≡ false → has_kind kind comm (head_of_kind kind_of.AllDown other 0) ≡ false → total_of (sent_in kind comm to) (acts_of s rank (stmt.Allreduce other op ty dst src)) ≡ 0
   quiet_allreduce other dst src op ty odd down =
       by_part s rank (coll.Allreduce other 0) (fold_operands op ty dst src) (λ acts. total_of (sent_in kind comm to) acts ≡ 0) refl
       (λ can at. all_root_sends kind comm to op ty dst src other (others_of s other rank 0)
-      ∙ sends_other kind comm to (head_of kind_of.AllDown other 0) source_of.Accumulator down (others_of s other rank 0))
-      (λ can. sends_other kind comm to (head_of kind_of.AllUp other 0) (source_of.Own src) odd (slice_index (members_of s other rank) 0 ∷ []))
+      ∙ sends_other kind comm to (head_of_kind kind_of.AllDown other 0) source_of.Accumulator down (others_of s other rank 0))
+      (λ can. sends_other kind comm to (head_of_kind kind_of.AllUp other 0) (source_of.Own src) odd (slice_index (members_of s other rank) 0 ∷ []))
 
 -- a rank that is the root of a broadcast of a communicator
 pub record IsBcastOf (s : SetupView) (rank comm : ℕ) (statement : Stmt) : Type 0 where
@@ -134,8 +134,8 @@ module _ (s : SetupView) (rank comm to : ℕ) where
       by true same =
           by_part s rank (coll.Bcast other place len) (bcast_operands reg) (λ acts. MakesOne (total_of (sent_in K comm to) acts) (IsBcastOf s rank comm (stmt.Bcast other place reg len))) (inl refl)
           (λ can at. inr (
-            subst (λ (acts : List Act). total_of (sent_in K comm to) acts ≤ 1) (sym (bcast_parts (bcast_operands reg) (head_of kind_of.Bcast other len) (others_of s other rank place)))
-                (sends_once K comm to (head_of kind_of.Bcast other len) (source_of.Own reg) (others_of s other rank place) (others_apart s other place rank)),
+            subst (λ (acts : List Act). total_of (sent_in K comm to) acts ≤ 1) (sym (bcast_parts (bcast_operands reg) (head_of_kind kind_of.Bcast other len) (others_of s other rank place)))
+                (sends_once K comm to (head_of_kind kind_of.Bcast other len) (source_of.Own reg) (others_of s other rank place) (others_apart s other place rank)),
             subst (λ (x : ℕ). IsBcastOf s rank x (stmt.Bcast other place reg len)) (eqb-true other comm same) (record { place = place; reg = reg; len = len; is = refl; callable = can; at = at }),
           ))
           (λ can. inl refl)
@@ -153,17 +153,17 @@ module _ (s : SetupView) (rank comm to : ℕ) where
       by false there odd at = inl (quiet_reduce s K comm to rank other place dst src op ty odd)
       by true there same at =
           by_part s rank (coll.Reduce other place 0) (fold_operands op ty dst src) (λ acts. MakesOne (total_of (sent_in K comm to) acts) (IsReduceOf s rank comm to (stmt.Reduce other place op ty dst src))) (inl refl)
-          (λ can is_root. inl (reduce_root_none K comm to op ty dst src (head_of kind_of.Reduce other 0) (others_of s other rank place)))
+          (λ can is_root. inl (reduce_root_none K comm to op ty dst src (head_of_kind kind_of.Reduce other 0) (others_of s other rank place)))
           (λ can. to_root there at can)
         where
           to_root : (there : Bool) → (slice_index (members_of s other rank) place == to) ≡ there → can_call s rank (coll.Reduce other place 0) ≡ true
-              → MakesOne (total_of (sent_in K comm to) (Send (slice_index (members_of s other rank) place) (head_of kind_of.Reduce other 0) (source_of.Own src) ∷ [])) (IsReduceOf s rank comm to (stmt.Reduce other place op ty dst src))
+              → MakesOne (total_of (sent_in K comm to) (Send (slice_index (members_of s other rank) place) (head_of_kind kind_of.Reduce other 0) (source_of.Own src) ∷ [])) (IsReduceOf s rank comm to (stmt.Reduce other place op ty dst src))
           to_root true at can = inr (
-            (let one = most_if (has_kind K comm (head_of kind_of.Reduce other 0) && (slice_index (members_of s other rank) place == to)) in omega (arith, one)),
+            (let one = most_if (has_kind K comm (head_of_kind kind_of.Reduce other 0) && (slice_index (members_of s other rank) place == to)) in omega (arith, one)),
             subst (λ (x : ℕ). IsReduceOf s rank x to (stmt.Reduce other place op ty dst src)) (eqb-true other comm same)
                 (record { place = place; op = op; ty = ty; dst = dst; src = src; is = refl; callable = can; at = eqb-true (slice_index (members_of s other rank) place) to at }),
           )
-          to_root false at can = inl (let none = none_if (has_kind K comm (head_of kind_of.Reduce other 0)) (slice_index (members_of s other rank) place == to) at in omega (arith, none))
+          to_root false at can = inl (let none = none_if (has_kind K comm (head_of_kind kind_of.Reduce other 0)) (slice_index (members_of s other rank) place == to) at in omega (arith, none))
   reduce_makes (stmt.Bcast other place reg len) = inl (quiet_bcast s (kind_number kind_of.Reduce) comm to rank other place reg len refl)
   reduce_makes (stmt.Allreduce other op ty dst src) = inl (quiet_allreduce s (kind_number kind_of.Reduce) comm to rank other dst src op ty refl refl)
   reduce_makes _ = inl refl
@@ -179,9 +179,9 @@ module _ (s : SetupView) (rank comm to : ℕ) where
       by true same =
           by_part s rank (coll.Allreduce other 0) (fold_operands op ty dst src) (λ acts. MakesOne (total_of (sent_in K comm to) acts) (IsAllreduceOf s rank comm (stmt.Allreduce other op ty dst src))) (inl refl)
           (λ can at. inl (all_root_sends K comm to op ty dst src other (others_of s other rank 0)
-          ∙ sends_other K comm to (head_of kind_of.AllDown other 0) source_of.Accumulator refl (others_of s other rank 0)))
+          ∙ sends_other K comm to (head_of_kind kind_of.AllDown other 0) source_of.Accumulator refl (others_of s other rank 0)))
           (λ can. inr (
-            (let one = most_if (has_kind K comm (head_of kind_of.AllUp other 0) && (slice_index (members_of s other rank) 0 == to)) in omega (arith, one)),
+            (let one = most_if (has_kind K comm (head_of_kind kind_of.AllUp other 0) && (slice_index (members_of s other rank) 0 == to)) in omega (arith, one)),
             subst (λ (x : ℕ). IsAllreduceOf s rank x (stmt.Allreduce other op ty dst src)) (eqb-true other comm same) (record { op = op; ty = ty; dst = dst; src = src; is = refl; callable = can }),
           ))
   all_up_makes (stmt.Bcast other place reg len) = inl (quiet_bcast s (kind_number kind_of.AllUp) comm to rank other place reg len refl)
@@ -200,7 +200,7 @@ module _ (s : SetupView) (rank comm to : ℕ) where
           by_part s rank (coll.Allreduce other 0) (fold_operands op ty dst src) (λ acts. MakesOne (total_of (sent_in K comm to) acts) (IsAllreduceOf s rank comm (stmt.Allreduce other op ty dst src))) (inl refl)
           (λ can at. inr (
             subst (λ (n : ℕ). n ≤ 1) (sym (all_root_sends K comm to op ty dst src other (others_of s other rank 0)))
-                (sends_once K comm to (head_of kind_of.AllDown other 0) source_of.Accumulator (others_of s other rank 0) (others_apart s other 0 rank)),
+                (sends_once K comm to (head_of_kind kind_of.AllDown other 0) source_of.Accumulator (others_of s other rank 0) (others_apart s other 0 rank)),
             subst (λ (x : ℕ). IsAllreduceOf s rank x (stmt.Allreduce other op ty dst src)) (eqb-true other comm same) (record { op = op; ty = ty; dst = dst; src = src; is = refl; callable = can }),
           ))
           (λ can. inl refl)

@@ -9,7 +9,7 @@ use Rattle.script_machine.specs.declared.posts.Posted.{Posted}
 use Rattle.script_plain.specs.declared.steps.Step.TheVariants as step
 use Rattle.script_plain.specs.Code.{HasTaken, call_decision, config, decision, match_decision, post_decision, receive_decision}
 use Rattle.script_machine.specs.Local.{Local, local_next}
-use Rattle.script_machine.specs.Next.{Next, call_of, is_going}
+use Rattle.script_machine.specs.Next.{Next, call_next, is_going}
 use Rattle.script_machine.specs.Next.Next.{Ends, Goes, Posts, Sends, Recvs, Bars}
 use Rattle.script_plain.specs.Step.{next_at, same_head, slot_at, step_of}
 use Rattle.script_plain.proofs.Runs.RunLaws.{there}
@@ -55,7 +55,7 @@ module _ (ues : List Local) (slots : List (Option Posted)) (i j : ℕ) where
   no_pass true comm is = cc
   no_pass false comm is = cc
 
-  by_slot : (from : ℕ) (asked : MessageHead) (take : List ℕ → Local) (refuse : MessageHead → Local) (o : Option Posted) (n : Next Local) → next_at local_next (config ues slots) i ≡ Recvs from asked take refuse → slot_at (config ues slots) from ≡ o → receive_decision i from asked o (call_of n) ≡ step.Takes j → IsFetch ues slots i j
+  by_slot : (from : ℕ) (asked : MessageHead) (take : List ℕ → Local) (refuse : MessageHead → Local) (o : Option Posted) (n : Next Local) → next_at local_next (config ues slots) i ≡ Recvs from asked take refuse → slot_at (config ues slots) from ≡ o → receive_decision i from asked o (call_next n) ≡ step.Takes j → IsFetch ues slots i j
   by_slot from asked take refuse (Some message) n stands slot is =
       by_tests from asked take refuse message (message.to == i) (same_head message.head asked) stands slot refl refl is
   by_slot from asked take refuse None Ends stands slot is = absurd (cc)
@@ -69,7 +69,7 @@ module _ (ues : List Local) (slots : List (Option Posted)) (i j : ℕ) where
   by_post None is = cc
   by_post (Some message) is = cc
 
-  by_match : (to : ℕ) (head : MessageHead) (o : Option Posted) (n : Next Local) → match_decision i to head o (call_of n) ≡ step.Takes j → ⊥
+  by_match : (to : ℕ) (head : MessageHead) (o : Option Posted) (n : Next Local) → match_decision i to head o (call_next n) ≡ step.Takes j → ⊥
   by_match to head (Some message) n is = cc
   by_match to head None Ends is = cc
   by_match to head None (Goes after) is = cc
@@ -78,7 +78,7 @@ module _ (ues : List Local) (slots : List (Option Posted)) (i j : ℕ) where
   by_match to head None (Recvs from asked take refuse) is = no_match _ to is
   by_match to head None (Bars comm after) is = cc
 
-  by_next : (keys : ℕ → ℕ → ℕ) (n : Next Local) → next_at local_next (config ues slots) i ≡ n → cond (is_going n) step.Goes (call_decision keys ues slots i (call_of n)) ≡ step.Takes j → IsFetch ues slots i j
+  by_next : (keys : ℕ → ℕ → ℕ) (n : Next Local) → next_at local_next (config ues slots) i ≡ n → cond (is_going n) step.Goes (call_decision keys ues slots i (call_next n)) ≡ step.Takes j → IsFetch ues slots i j
   by_next keys Ends stands is = absurd (cc)
   by_next keys (Goes after) stands is = absurd (cc)
   by_next keys (Posts message after) stands is = absurd (by_post (slot_at (config ues slots) i) is)

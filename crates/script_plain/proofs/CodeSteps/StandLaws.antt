@@ -12,8 +12,8 @@ use Rattle.script_plain.specs.declared.steps.Step.{Step}
 use Rattle.script_plain.specs.declared.steps.Step.TheVariants as step
 use Rattle.script_plain.specs.Code.{HasLength, HasPosted, HasRefused, HasSent, HasTaken, IsAtPost, IsAtReceive, IsAtSend, call_decision, config, decision, match_decision, post_decision, receive_decision}
 use Rattle.script_machine.specs.Local.{Local, local_next}
-use Rattle.script_machine.specs.Moves.{length_in}
-use Rattle.script_machine.specs.Next.{Next, call_of, is_going}
+use Rattle.script_machine.specs.Moves.{length_asked}
+use Rattle.script_machine.specs.Next.{Next, call_next, is_going}
 use Rattle.script_machine.specs.Next.Next.{Ends, Goes, Posts, Sends, Recvs, Bars}
 use Rattle.script_plain.specs.Step.{all_at_barrier, by_rank, next_at, past_if, same_head, slot_at, step_of}
 use Rattle.script_plain.proofs.CodeSteps.CodeLaws.{fetches}
@@ -90,7 +90,7 @@ module _ (keys : ℕ → ℕ → ℕ) (ues : List Local) (slots : List (Option P
         same = tests.1;
       }
 
-  of_send : (to : ℕ) (head : MessageHead) (bytes : List ℕ) (after : Local) (o : Option Posted) (m : Next Local) → next_at local_next (config ues slots) i ≡ Sends to head bytes after → slot_at (config ues slots) i ≡ o → next_at local_next (config ues slots) to ≡ m → Stands (match_decision i to head o (call_of m))
+  of_send : (to : ℕ) (head : MessageHead) (bytes : List ℕ) (after : Local) (o : Option Posted) (m : Next Local) → next_at local_next (config ues slots) i ≡ Sends to head bytes after → slot_at (config ues slots) i ≡ o → next_at local_next (config ues slots) to ≡ m → Stands (match_decision i to head o (call_next m))
   of_send to head bytes after (Some earlier) m stands slot met = tt
   of_send to head bytes after None Ends stands slot met = tt
   of_send to head bytes after None (Goes on) stands slot met = tt
@@ -128,7 +128,7 @@ module _ (keys : ℕ → ℕ → ℕ) (ues : List Local) (slots : List (Option P
             (steps.Takes.RefusedSend from asked take refuse sent bytes after stands slot (met ∙ ap (λ (r : ℕ). Sends r sent bytes after) (eqb-true to i tests.0)) (choices.not_true (same_head sent asked) tests.1) refl);
       }
 
-  of_receive : (from : ℕ) (asked : MessageHead) (take : List ℕ → Local) (refuse : MessageHead → Local) (o : Option Posted) (m : Next Local) → next_at local_next (config ues slots) i ≡ Recvs from asked take refuse → slot_at (config ues slots) from ≡ o → next_at local_next (config ues slots) from ≡ m → Stands (receive_decision i from asked o (call_of m))
+  of_receive : (from : ℕ) (asked : MessageHead) (take : List ℕ → Local) (refuse : MessageHead → Local) (o : Option Posted) (m : Next Local) → next_at local_next (config ues slots) i ≡ Recvs from asked take refuse → slot_at (config ues slots) from ≡ o → next_at local_next (config ues slots) from ≡ m → Stands (receive_decision i from asked o (call_next m))
   of_receive from asked take refuse (Some message) m stands slot met =
       of_tests from asked take refuse message (message.to == i) (same_head message.head asked) stands slot refl refl
   of_receive from asked take refuse None Ends stands slot met = tt
@@ -145,7 +145,7 @@ module _ (keys : ℕ → ℕ → ℕ) (ues : List Local) (slots : List (Option P
       let tests = choices.both_true (root_in (keys comm) i == i) (all_at_barrier local_next comm (is_with (keys comm) i) ues) is in
       record { after = after; stands = stands; root = eqb-true (root_in (keys comm) i) i tests.0; all = tests.1 }
 
-  of_next : (n : Next Local) → next_at local_next (config ues slots) i ≡ n → Stands (cond (is_going n) step.Goes (call_decision keys ues slots i (call_of n)))
+  of_next : (n : Next Local) → next_at local_next (config ues slots) i ≡ n → Stands (cond (is_going n) step.Goes (call_decision keys ues slots i (call_next n)))
   of_next Ends stands = tt
   of_next (Goes after) stands = ap is_going stands
   of_next (Posts message after) stands = of_post message after (slot_at (config ues slots) i) stands refl
@@ -239,18 +239,18 @@ module _ (keys : ℕ → ℕ → ℕ) (ues : List Local) (slots : List (Option P
       (steps.Takes.Passed comm m.after m.stands m.root m.all (ap (λ (us : List Local). config us slots) now))
 
   -- what the code decides for a rank that does not stand at a statement of its own
-  pub decided : (u : Local) (met : Option Call) (s : Step) → slice_get ues i ≡ Some u → is_going (local_next u) ≡ false → call_of (local_next u) ≡ met → s ≡ call_decision keys ues slots i met → s ≡ decision keys ues slots i
+  pub decided : (u : Local) (met : Option Call) (s : Step) → slice_get ues i ≡ Some u → is_going (local_next u) ≡ false → call_next (local_next u) ≡ met → s ≡ call_decision keys ues slots i met → s ≡ decision keys ues slots i
   decided u met s here still call is =
       let found : decision keys ues slots i ≡ call_decision keys ues slots i met =
-      ap (λ (o : Option Local). cond (is_going (option_map_or local_next o Ends)) step.Goes (call_decision keys ues slots i (call_of (option_map_or local_next o Ends)))) here
-      ∙ choices.other (is_going (local_next u)) step.Goes (call_decision keys ues slots i (call_of (local_next u))) still
+      ap (λ (o : Option Local). cond (is_going (option_map_or local_next o Ends)) step.Goes (call_decision keys ues slots i (call_next (option_map_or local_next o Ends)))) here
+      ∙ choices.other (is_going (local_next u)) step.Goes (call_decision keys ues slots i (call_next (local_next u))) still
       ∙ ap (call_decision keys ues slots i) call in
       is ∙ sym found
 
   pub decided_going : (u : Local) → slice_get ues i ≡ Some u → is_going (local_next u) ≡ true → step.Goes ≡ decision keys ues slots i
   decided_going u here going =
-      sym (ap (λ (o : Option Local). cond (is_going (option_map_or local_next o Ends)) step.Goes (call_decision keys ues slots i (call_of (option_map_or local_next o Ends)))) here
-      ∙ choices.chosen (is_going (local_next u)) step.Goes (call_decision keys ues slots i (call_of (local_next u))) going)
+      sym (ap (λ (o : Option Local). cond (is_going (option_map_or local_next o Ends)) step.Goes (call_decision keys ues slots i (call_next (option_map_or local_next o Ends)))) here
+      ∙ choices.chosen (is_going (local_next u)) step.Goes (call_decision keys ues slots i (call_next (local_next u))) going)
 
 module _ (keys : ℕ → ℕ → ℕ) (ues : List Local) (slots : List (Option Posted)) (i j : ℕ) where
   pub delivers : decision keys ues slots i ≡ step.Matches j → IsDelivery ues slots i j
@@ -280,11 +280,11 @@ module _ (keys : ℕ → ℕ → ℕ) (ues : List Local) (slots : List (Option P
 
   -- it asks for as many bytes
   pub delivered_long : (u after v : Local) (bytes : List ℕ) → decision keys ues slots i ≡ step.Matches j → slice_get ues i ≡ Some u → HasLength (local_next u) bytes → v ≡ get_or (set ues i after) j v
-      → length bytes ≡ length_in (local_next v)
+      → length bytes ≡ length_asked (local_next v)
   delivered_long u after v bytes is here long read =
       let d = delivers is in
       let sent : length bytes ≡ d.head.len = subst (λ (n : Next Local). HasLength n bytes) (at_cell ues slots i u (Sends j d.head d.bytes d.after) here d.stands) long in
-      sent ∙ same_long d.head d.asked d.same ∙ sym (ap length_in (receiver_read d after v read))
+      sent ∙ same_long d.head d.asked d.same ∙ sym (ap length_asked (receiver_read d after v read))
 
   -- and both go on
   pub delivered : (u after v last : Local) (bytes : List ℕ) → decision keys ues slots i ≡ step.Matches j → slice_get ues i ≡ Some u → HasSent (local_next u) bytes after → v ≡ get_or (set ues i after) j v → HasTaken (local_next v) bytes last

@@ -11,7 +11,7 @@ use Rattle.script_plain.specs.Code.{HasLength, HasPosted, HasRefused, HasSent, H
 use Rattle.script_plain.specs.Kept.{Fits, FitsNext}
 use Rattle.script_machine.specs.Local.{Local, local_next}
 use Rattle.script_machine.specs.Machine.{on_its_way}
-use Rattle.script_machine.specs.Moves.{bytes_out, is_passable, is_receiving, length_in, passed, post_of, refused, taken, went}
+use Rattle.script_machine.specs.Moves.{bytes_out, is_passable, is_receiving, length_asked, after_pass, post_of, after_refusal, after_take, went}
 use Rattle.script_machine.specs.Next.{Next, is_at_barrier, is_going, past_barrier}
 use Rattle.script_machine.specs.Next.Next.{Ends, Goes, Posts, Sends, Recvs, Bars}
 use Rattle.script_plain.specs.Step.{same_head, slot_at}
@@ -27,7 +27,7 @@ module _ (had : ℕ → Option ℕ) where
   fits_went (Recvs from head take refuse) u fits is = absurd (cc)
   fits_went (Bars comm after) u fits is = absurd (cc)
 
-  pub fits_passed : (n : Next Local) (u : Local) → FitsNext had n → is_passable n ≡ true → Fits had (passed n u)
+  pub fits_passed : (n : Next Local) (u : Local) → FitsNext had n → is_passable n ≡ true → Fits had (after_pass n u)
   fits_passed Ends u fits is = absurd (cc)
   fits_passed (Goes after) u fits is = absurd (cc)
   fits_passed (Posts message after) u fits is = fits.0
@@ -35,7 +35,7 @@ module _ (had : ℕ → Option ℕ) where
   fits_passed (Recvs from head take refuse) u fits is = absurd (cc)
   fits_passed (Bars comm after) u fits is = fits
 
-  pub fits_taken : (n : Next Local) (u : Local) (bytes : List ℕ) → FitsNext had n → is_receiving n ≡ true → length bytes ≡ length_in n → Fits had (taken n bytes u)
+  pub fits_taken : (n : Next Local) (u : Local) (bytes : List ℕ) → FitsNext had n → is_receiving n ≡ true → length bytes ≡ length_asked n → Fits had (after_take n bytes u)
   fits_taken Ends u bytes fits is long = absurd (cc)
   fits_taken (Goes after) u bytes fits is long = absurd (cc)
   fits_taken (Posts message after) u bytes fits is long = absurd (cc)
@@ -43,7 +43,7 @@ module _ (had : ℕ → Option ℕ) where
   fits_taken (Recvs from head take refuse) u bytes fits is long = fits.0 bytes long
   fits_taken (Bars comm after) u bytes fits is long = absurd (cc)
 
-  pub fits_refused : (n : Next Local) (u : Local) (sent : MessageHead) → FitsNext had n → is_receiving n ≡ true → Fits had (refused n sent u)
+  pub fits_refused : (n : Next Local) (u : Local) (sent : MessageHead) → FitsNext had n → is_receiving n ≡ true → Fits had (after_refusal n sent u)
   fits_refused Ends u sent fits is = absurd (cc)
   fits_refused (Goes after) u sent fits is = absurd (cc)
   fits_refused (Posts message after) u sent fits is = absurd (cc)
@@ -93,7 +93,7 @@ post_passable (Recvs from head take refuse) at = absurd at
 post_passable (Bars comm after) at = absurd at
 
 pub posted_as : (n : Next Local) (u : Local) (p : OnItsWay) (bytes : List ℕ) → post_of n ≡ Some p → bytes ≡ bytes_out n
-    → HasPosted n (record { to = p.to; head = p.head; bytes = bytes; line = p.line }) (passed n u)
+    → HasPosted n (record { to = p.to; head = p.head; bytes = bytes; line = p.line }) (after_pass n u)
 posted_as Ends u p bytes is same = absurd (cc)
 posted_as (Goes after) u p bytes is same = absurd (cc)
 posted_as (Posts message after) u p bytes is same =
@@ -112,7 +112,7 @@ send_passable (Sends to head bytes after) at = refl
 send_passable (Recvs from head take refuse) at = absurd at
 send_passable (Bars comm after) at = absurd at
 
-pub sent_as : (n : Next Local) (u : Local) (bytes : List ℕ) → IsAtSend n → bytes ≡ bytes_out n → HasSent n bytes (passed n u)
+pub sent_as : (n : Next Local) (u : Local) (bytes : List ℕ) → IsAtSend n → bytes ≡ bytes_out n → HasSent n bytes (after_pass n u)
 sent_as Ends u bytes at same = absurd at
 sent_as (Goes after) u bytes at same = absurd at
 sent_as (Posts message after) u bytes at same = absurd at
@@ -129,7 +129,7 @@ receiving (Sends to head bytes after) at = absurd at
 receiving (Recvs from head take refuse) at = refl
 receiving (Bars comm after) at = absurd at
 
-pub taken_as : (n : Next Local) (u : Local) (bytes : List ℕ) → IsAtReceive n → HasTaken n bytes (taken n bytes u)
+pub taken_as : (n : Next Local) (u : Local) (bytes : List ℕ) → IsAtReceive n → HasTaken n bytes (after_take n bytes u)
 taken_as Ends u bytes at = absurd at
 taken_as (Goes after) u bytes at = absurd at
 taken_as (Posts message after) u bytes at = absurd at
@@ -137,7 +137,7 @@ taken_as (Sends to head sent after) u bytes at = absurd at
 taken_as (Recvs from head take refuse) u bytes at = refl
 taken_as (Bars comm after) u bytes at = absurd at
 
-pub refused_as : (n : Next Local) (u : Local) (sent : MessageHead) → IsAtReceive n → HasRefused n sent (refused n sent u)
+pub refused_as : (n : Next Local) (u : Local) (sent : MessageHead) → IsAtReceive n → HasRefused n sent (after_refusal n sent u)
 refused_as Ends u sent at = absurd at
 refused_as (Goes after) u sent at = absurd at
 refused_as (Posts message after) u sent at = absurd at
@@ -154,7 +154,7 @@ barrier_passable comm (Sends to head bytes after) at = absurd (cc)
 barrier_passable comm (Recvs from head take refuse) at = absurd (cc)
 barrier_passable comm (Bars asked after) at = refl
 
-pub barrier_past : (comm : ℕ) (n : Next Local) (u : Local) → is_at_barrier comm n ≡ true → passed n u ≡ past_barrier n u
+pub barrier_past : (comm : ℕ) (n : Next Local) (u : Local) → is_at_barrier comm n ≡ true → after_pass n u ≡ past_barrier n u
 barrier_past comm Ends u at = absurd (cc)
 barrier_past comm (Goes after) u at = absurd (cc)
 barrier_past comm (Posts message after) u at = absurd (cc)
@@ -179,9 +179,9 @@ same_long sent asked same =
 module _ (keys : ℕ → ℕ → ℕ) (ues : List Local) (slots : List (Option Posted)) (i j : ℕ) where
   -- a rank that takes a message from a slot asks for as many bytes
   pub fetched_long : (u : Local) (message : Posted) → decision keys ues slots i ≡ step.Takes j → slice_get ues i ≡ Some u → slot_at (config ues slots) j ≡ Some message → length message.bytes ≡ message.head.len
-      → length message.bytes ≡ length_in (local_next u)
+      → length message.bytes ≡ length_asked (local_next u)
   fetched_long u message is here slot even =
       let fetch = fetches ues slots i j keys is in
       let stands : local_next u ≡ Recvs j fetch.asked fetch.take fetch.refuse = sym (ap (λ (o : Option Local). option_map_or local_next o Ends) here) ∙ fetch.stands in
       let same : fetch.message ≡ message = same_Some fetch.message message (sym fetch.slot ∙ slot) in
-      even ∙ ap (λ (m : Posted). m.head.len) (sym same) ∙ same_long fetch.message.head fetch.asked fetch.same ∙ sym (ap length_in stands)
+      even ∙ ap (λ (m : Posted). m.head.len) (sym same) ∙ same_long fetch.message.head fetch.asked fetch.same ∙ sym (ap length_asked stands)

@@ -3,7 +3,7 @@ use Rattle.std.proofs.Common.{◌≡◌, true, subst, sym}
 use Rattle.script_plain.specs.Kept.{Fits, reckoned_at}
 use Rattle.script_machine.specs.Local.{Local, local_next}
 use Rattle.script_machine.specs.Machine.{MachineView}
-use Rattle.script_machine.specs.Moves.{is_passable, passed}
+use Rattle.script_machine.specs.Moves.{is_passable, after_pass}
 use Rattle.script_machine.specs.Next.{Next}
 use Rattle.script_plain.proofs.CodeSteps.UeLaws.{fits_passed}
 use Rattle.script_plain.proofs.ProgramLengths.LengthPaths.{fits_next}
@@ -20,8 +20,8 @@ pub fits_behind : (m new : MachineView) (u : Local) → new ≡ record m { local
 fits_behind m new u is fits = subst (λ (v : MachineView). Fits (reckoned_at v.script v.rank) v.local) (sym is) fits
 
 -- so it is where the machine goes past its next step
-pub passed_fits : (m new : MachineView) → Fits (reckoned_at m.script m.rank) m.local → is_passable (local_next m.local) ≡ true → new ≡ record m { local = passed (local_next m.local) m.local } → Fits (reckoned_at new.script new.rank) new.local
+pub passed_fits : (m new : MachineView) → Fits (reckoned_at m.script m.rank) m.local → is_passable (local_next m.local) ≡ true → new ≡ record m { local = after_pass (local_next m.local) m.local } → Fits (reckoned_at new.script new.rank) new.local
 passed_fits m new fits passable is =
     let had = reckoned_at m.script m.rank in
     let n = local_next m.local in
-    fits_behind m new (passed n m.local) is (fits_passed had n m.local (fits_next had m.local fits) passable)
+    fits_behind m new (after_pass n m.local) is (fits_passed had n m.local (fits_next had m.local fits) passable)

@@ -8,7 +8,7 @@ use Rattle.scc_base.specs.Heads.{MessageHead, kind_number}
 use Rattle.scc_base.specs.Setups.{SetupView, place_of}
 use Rattle.scc_base.specs.declared.kinds.Kind.{Kind}
 use Rattle.scc_base.specs.declared.kinds.Kind.TheVariants as kind_of
-use Rattle.groups.specs.Collectives.{head_of, others_of}
+use Rattle.groups.specs.Collectives.{head_of_kind, others_of}
 use Rattle.groups.specs.declared.collectives.Coll.TheVariants as coll
 use Rattle.groups.specs.declared.operations.Op.TheVariants as op
 use Rattle.groups.specs.declared.operations.Ty.TheVariants as ty
@@ -18,7 +18,7 @@ use Rattle.script_reader.specs.declared.script.Stmt.TheVariants as stmt
 use Rattle.script_machine.specs.declared.prims.Operands.{Operands}
 use Rattle.script_machine.specs.declared.prims.Source.{Source}
 use Rattle.script_machine.specs.declared.prims.Source.TheVariants as source_of
-use Rattle.script_plain.specs.Collectives.{AreBroadcast, HasDone, IsOther, StandsAt, gone_by, gone_through}
+use Rattle.script_plain.specs.Collectives.{AreBroadcast, HasDone, IsOther, StandsAtStatement, gone_by, gone_through}
 use Rattle.script_machine.specs.Local.{Local, asked_head, gone_on_gathering, gone_on_with, register_at}
 use Rattle.script_plain.specs.Meaning.{State, next_of}
 use Rattle.script_plain.specs.Messages.{AreDelivered, is_of, received_by, sent_by}
@@ -32,14 +32,14 @@ use Rattle.script_plain.proofs.Messages.MessageLaws.{received_as_sent}
 use Rattle.script_machine.proofs.Choices as choices
 
 -- a rank at a statement faces what the statement makes
-pub faces : (script : Script) (rank : ℕ) (statement : Stmt) (u : State) (stood : StandsAt script rank statement u) (acts : List Act) → acts_of (setup_of script) rank statement ≡ acts → Facing stood.item.line acts stood.rest u
+pub faces : (script : Script) (rank : ℕ) (statement : Stmt) (u : State) (stood : StandsAtStatement script rank statement u) (acts : List Act) → acts_of (setup_of script) rank statement ≡ acts → Facing stood.item.line acts stood.rest u
 faces script rank statement u stood acts is = record {
   running = stood.running;
   left = stood.next ∙ ap (λ (l : List Act). map (λ a. record { line = stood.item.line; act = a }) l ++ stood.rest) is;
 }
 
 -- a message of this kind in this communicator
-pub own_kind : (kind : Kind) (comm len : ℕ) → (((head_of kind comm len).kind == kind_number kind) && ((head_of kind comm len).comm == comm)) ≡ true
+pub own_kind : (kind : Kind) (comm len : ℕ) → (((head_of_kind kind comm len).kind == kind_number kind) && ((head_of_kind kind comm len).comm == comm)) ≡ true
 own_kind kind comm len = choices.and_of (kind_number kind == kind_number kind) (comm == comm) (eq-eqb (kind_number kind) (kind_number kind) refl) (eq-eqb comm comm refl)
 
 pub asked_kind : (u : Local) (head : MessageHead) (sized : Option ℕ) (kind comm : ℕ) → ((head.kind == kind) && (head.comm == comm)) ≡ true → (((asked_head u head sized).kind == kind) && ((asked_head u head sized).comm == comm)) ≡ true
@@ -107,13 +107,13 @@ abbrev pub bcast_operands : ℕ → Operands
 bcast_operands reg = record { op = op.Sum; ty = ty.Int; dst = reg; src = reg; sized = None }
 
 pub bcast_at_root : (s : SetupView) (comm place reg len root : ℕ) → can_call s root (coll.Bcast comm place len) ≡ true → place_of s comm root ≡ place
-    → acts_of s root (stmt.Bcast comm place reg len) ≡ map (λ to. Send to (head_of kind_of.Bcast comm len) (source_of.Own reg)) (others_of s comm root place)
+    → acts_of s root (stmt.Bcast comm place reg len) ≡ map (λ to. Send to (head_of_kind kind_of.Bcast comm len) (source_of.Own reg)) (others_of s comm root place)
 bcast_at_root s comm place reg len root callable at =
     ap (parts_of (bcast_operands reg)) (root_has s (coll.Bcast comm place len) root callable at)
-    ∙ bcast_parts (bcast_operands reg) (head_of kind_of.Bcast comm len) (others_of s comm root place)
+    ∙ bcast_parts (bcast_operands reg) (head_of_kind kind_of.Bcast comm len) (others_of s comm root place)
 
 bcast_at_other : (s : SetupView) (comm place reg len root rank : ℕ) → can_call s rank (coll.Bcast comm place len) ≡ true → IsOther s comm place root rank
-    → acts_of s rank (stmt.Bcast comm place reg len) ≡ Gather root (head_of kind_of.Bcast comm len) None ∷ Accept reg ∷ []
+    → acts_of s rank (stmt.Bcast comm place reg len) ≡ Gather root (head_of_kind kind_of.Bcast comm len) None ∷ Accept reg ∷ []
 bcast_at_other s comm place reg len root rank callable is = ap (parts_of (bcast_operands reg)) (other_has s (coll.Bcast comm place len) root rank callable is)
 
 -- what came to one of the others that has done a broadcast
@@ -122,7 +122,7 @@ pub bcast_accepts : (script : Script) (comm place size dst root rank : ℕ) (v b
     → (m : Message) × (after.local.registers ≡ slice_set before.local.registers dst m.bytes)
     × (slice_get (chosen (is_of (kind_number kind_of.Bcast) comm) (received_by root) v.matched) (length (chosen (is_of (kind_number kind_of.Bcast) comm) (received_by root) before.matched)) ≡ Some m)
 bcast_accepts script comm place size dst root rank v before after other can_rank done =
-    let (m, registers, found) = accepts K comm done.stood.item.line root dst (head_of kind_of.Bcast comm size) None done.stood.rest before done.taken (own_kind kind_of.Bcast comm size) (done.each ∙ ap length at_other)
+    let (m, registers, found) = accepts K comm done.stood.item.line root dst (head_of_kind kind_of.Bcast comm size) None done.stood.rest before done.taken (own_kind kind_of.Bcast comm size) (done.each ∙ ap length at_other)
     (faces script rank (stmt.Bcast comm place dst size) before done.stood _ at_other) in (
       m,
       ap (λ (x : State). x.local.registers) done.came ∙ registers,
@@ -134,7 +134,7 @@ bcast_accepts script comm place size dst root rank v before after other can_rank
     K : ℕ
     K = kind_number kind_of.Bcast
 
-    at_other : acts_of (setup_of script) rank (stmt.Bcast comm place dst size) ≡ Gather root (head_of kind_of.Bcast comm size) None ∷ Accept dst ∷ []
+    at_other : acts_of (setup_of script) rank (stmt.Bcast comm place dst size) ≡ Gather root (head_of_kind kind_of.Bcast comm size) None ∷ Accept dst ∷ []
     at_other = bcast_at_other (setup_of script) comm place dst size root rank can_rank other
 
 pub broadcast : (script : Script) (c : Configuration State) → AreDelivered c → AreFit script c → AreBroadcast script c
@@ -165,6 +165,6 @@ broadcast script c delivered fit comm place len size reg dst root rank u v begun
 
     given : accepted.0.bytes ≡ register_at begun.local reg
     given =
-        ap (λ (x : Message). x.bytes) (first_sent K comm came.stood.item.line rank (head_of kind_of.Bcast comm len) (source_of.Own reg) (register_at begun.local reg) [] came.stood.rest (others_of s comm root place) begun came.later accepted.0 (own_kind kind_of.Bcast comm len)
-        (faces script root (stmt.Bcast comm place reg len) begun came.stood _ (bcast_at_root s comm place reg len root can_root other.placed.placed ∙ sym (append-nil (map (λ to. Send to (head_of kind_of.Bcast comm len) (source_of.Own reg)) (others_of s comm root place)))))
+        ap (λ (x : Message). x.bytes) (first_sent K comm came.stood.item.line rank (head_of_kind kind_of.Bcast comm len) (source_of.Own reg) (register_at begun.local reg) [] came.stood.rest (others_of s comm root place) begun came.later accepted.0 (own_kind kind_of.Bcast comm len)
+        (faces script root (stmt.Bcast comm place reg len) begun came.stood _ (bcast_at_root s comm place reg len root can_root other.placed.placed ∙ sym (append-nil (map (λ to. Send to (head_of_kind kind_of.Bcast comm len) (source_of.Own reg)) (others_of s comm root place)))))
         refl (is_in_others s comm place root rank other) sent)

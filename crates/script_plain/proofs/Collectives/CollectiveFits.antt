@@ -9,11 +9,11 @@ use Rattle.groups.specs.declared.operations.Op.TheVariants as op_of
 use Rattle.groups.specs.declared.operations.Ty.{Ty}
 use Rattle.groups.specs.declared.operations.Ty.TheVariants as ty_of
 use Rattle.script_reader.specs.Script.{Script}
-use Rattle.script_reader.specs.Settled.{IsWhole}
+use Rattle.script_reader.specs.Settled.{IsWholeScript}
 use Rattle.script_reader.specs.declared.script.Stmt.{Stmt}
 use Rattle.script_reader.specs.declared.script.Stmt.TheVariants as stmt
 use Rattle.script_machine.specs.declared.prims.Collective.{Collective}
-use Rattle.script_plain.specs.Collectives.{CameTo, HasDone, StandsAt, gone_through}
+use Rattle.script_plain.specs.Collectives.{CameTo, HasDone, StandsAtStatement, gone_through}
 use Rattle.script_machine.specs.Local.{register_at}
 use Rattle.script_plain.specs.Meaning.{IsPlainStep, State, keys_of, start_of}
 use Rattle.script_machine.specs.Program.{can_call, collective_of, setup_of}
@@ -23,8 +23,8 @@ use Rattle.script_plain.proofs.Collectives.CollectivePaths.{through_both}
 use Rattle.script_plain.proofs.ProgramLengths.LengthLaws.{rank_within, reduced_to_all_whole, reduced_whole}
 
 -- a rank that stands at a collective call may make it
-module _ (script : Script) (whole : IsWhole script.nue script.items) (rank : ℕ) (below : rank < script.nue) (u : State) where
-  may_call : (statement : Stmt) (call : Collective) → collective_of statement ≡ Some call → StandsAt script rank statement u → can_call (setup_of script) rank call.coll ≡ true
+module _ (script : Script) (whole : IsWholeScript script.nue script.items) (rank : ℕ) (below : rank < script.nue) (u : State) where
+  may_call : (statement : Stmt) (call : Collective) → collective_of statement ≡ Some call → StandsAtStatement script rank statement u → can_call (setup_of script) rank call.coll ≡ true
   may_call statement call is stood =
       callable script whole stood.listed.place stood.item rank stood.listed.listed below stood.listed.own call (ap collective_of stood.says ∙ is)
 
@@ -35,13 +35,13 @@ module _ (script : Script) (whole : IsWhole script.nue script.items) (rank : ℕ
   abbrev reduce_call : Coll → Op → Ty → ℕ → ℕ → Collective
   reduce_call c op ty dst src = record { coll = c; operands = record { op = op; ty = ty; dst = dst; src = src; sized = Some src } }
 
-  pub may_cast : (comm place reg len : ℕ) → StandsAt script rank (stmt.Bcast comm place reg len) u → can_call (setup_of script) rank (coll.Bcast comm place len) ≡ true
+  pub may_cast : (comm place reg len : ℕ) → StandsAtStatement script rank (stmt.Bcast comm place reg len) u → can_call (setup_of script) rank (coll.Bcast comm place len) ≡ true
   may_cast comm place reg len stood = may_call (stmt.Bcast comm place reg len) (cast_call comm place reg len) refl stood
 
-  pub may_reduce : (comm place dst src : ℕ) (op : Op) (ty : Ty) → StandsAt script rank (stmt.Reduce comm place op ty dst src) u → can_call (setup_of script) rank (coll.Reduce comm place 0) ≡ true
+  pub may_reduce : (comm place dst src : ℕ) (op : Op) (ty : Ty) → StandsAtStatement script rank (stmt.Reduce comm place op ty dst src) u → can_call (setup_of script) rank (coll.Reduce comm place 0) ≡ true
   may_reduce comm place dst src op ty stood = may_call (stmt.Reduce comm place op ty dst src) (reduce_call (coll.Reduce comm place 0) op ty dst src) refl stood
 
-  pub may_reduce_to_all : (comm dst src : ℕ) (op : Op) (ty : Ty) → StandsAt script rank (stmt.Allreduce comm op ty dst src) u → can_call (setup_of script) rank (coll.Allreduce comm 0) ≡ true
+  pub may_reduce_to_all : (comm dst src : ℕ) (op : Op) (ty : Ty) → StandsAtStatement script rank (stmt.Allreduce comm op ty dst src) u → can_call (setup_of script) rank (coll.Allreduce comm 0) ≡ true
   may_reduce_to_all comm dst src op ty stood = may_call (stmt.Allreduce comm op ty dst src) (reduce_call (coll.Allreduce comm 0) op ty dst src) refl stood
 
 -- who has done a statement came to it
@@ -54,18 +54,18 @@ came_to script rank statement now before after done = record {
 
 -- what the laws of collective calls need of a script
 pub record AreFit (script : Script) (c : Configuration State) : Type 0 where
-  pub casts : (rank : ℕ) (u begun : State) (comm place reg len : ℕ) → slice_get c.cells rank ≡ Some u → StandsAt script rank (stmt.Bcast comm place reg len) begun
+  pub casts : (rank : ℕ) (u begun : State) (comm place reg len : ℕ) → slice_get c.cells rank ≡ Some u → StandsAtStatement script rank (stmt.Bcast comm place reg len) begun
       → can_call (setup_of script) rank (coll.Bcast comm place len) ≡ true
-  pub reduces : (rank : ℕ) (u begun : State) (comm place dst src : ℕ) (op : Op) (ty : Ty) → slice_get c.cells rank ≡ Some u → StandsAt script rank (stmt.Reduce comm place op ty dst src) begun
+  pub reduces : (rank : ℕ) (u begun : State) (comm place dst src : ℕ) (op : Op) (ty : Ty) → slice_get c.cells rank ≡ Some u → StandsAtStatement script rank (stmt.Reduce comm place op ty dst src) begun
       → can_call (setup_of script) rank (coll.Reduce comm place 0) ≡ true
-  pub reduces_to_all : (rank : ℕ) (u begun : State) (comm dst src : ℕ) (op : Op) (ty : Ty) → slice_get c.cells rank ≡ Some u → StandsAt script rank (stmt.Allreduce comm op ty dst src) begun
+  pub reduces_to_all : (rank : ℕ) (u begun : State) (comm dst src : ℕ) (op : Op) (ty : Ty) → slice_get c.cells rank ≡ Some u → StandsAtStatement script rank (stmt.Allreduce comm op ty dst src) begun
       → can_call (setup_of script) rank (coll.Allreduce comm 0) ≡ true
   pub width : (rank : ℕ) (u begun : State) (comm place dst src : ℕ) (op : Op) (ty : Ty) → slice_get c.cells rank ≡ Some u → CameTo script rank (stmt.Reduce comm place op ty dst src) u begun
       → length (register_at begun.local src) % bytes_in ty ≡ 0
   pub width_to_all : (rank : ℕ) (u begun : State) (comm dst src : ℕ) (op : Op) (ty : Ty) → slice_get c.cells rank ≡ Some u → CameTo script rank (stmt.Allreduce comm op ty dst src) u begun
       → length (register_at begun.local src) % bytes_in ty ≡ 0
 
-pub are_fit : (script : Script) → IsWhole script.nue script.items → (n : ℕ) (c : Configuration State) → Runs (IsPlainStep (keys_of script)) (λ e. e ≡ c) n (start_of script) → AreFit script c
+pub are_fit : (script : Script) → IsWholeScript script.nue script.items → (n : ℕ) (c : Configuration State) → Runs (IsPlainStep (keys_of script)) (λ e. e ≡ c) n (start_of script) → AreFit script c
 are_fit script whole n c run = record {
   casts = λ rank u begun comm place reg len there stood. may_cast script whole rank (rank_within script whole n c run rank u there) begun comm place reg len stood;
   reduces = λ rank u begun comm place dst src op ty there stood. may_reduce script whole rank (rank_within script whole n c run rank u there) begun comm place dst src op ty stood;

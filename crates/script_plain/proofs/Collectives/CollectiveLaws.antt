@@ -5,7 +5,7 @@ use Rattle.script_plain.specs.Collectives.{AreOwnWays, CollectivesHold}
 use Rattle.script_plain.specs.Meaning.{State, plain_end}
 use Rattle.script_plain.specs.Messages.{AreDelivered}
 use Rattle.script_plain.specs.Step.{Configuration}
-use Rattle.script_reader.specs.Settled.{IsWhole}
+use Rattle.script_reader.specs.Settled.{IsWholeScript}
 use Rattle.script_plain.proofs.Collectives.BroadcastLaws.{broadcast}
 use Rattle.script_plain.proofs.Collectives.CollectiveFits.{AreFit, are_fit}
 use Rattle.script_plain.proofs.Arrivals.CountLaws.{counted}
@@ -15,7 +15,7 @@ use Rattle.script_plain.proofs.OwnWays.OwnWayLaws.{own_ways}
 use Rattle.script_plain.proofs.Collectives.ReductionLaws.{all_reduced, all_told, reduced}
 use Rattle.script_plain.proofs.Collectives.UntouchedLaws.{untouched}
 
-pub collectives : (script : Script) (c : Configuration State) → IsWhole script.nue script.items → AreFit script c → AreDelivered c → AreOwnWays script c → length c.cells ≡ script.nue → CollectivesHold script c
+pub collectives : (script : Script) (c : Configuration State) → IsWholeScript script.nue script.items → AreFit script c → AreDelivered c → AreOwnWays script c → length c.cells ≡ script.nue → CollectivesHold script c
 collectives script c whole fit delivered own even = record {
   messages = received_as_sent c delivered;
   broadcasts = broadcast script c delivered fit;
@@ -31,7 +31,7 @@ collectives script c whole fit delivered own even = record {
 }
 
 -- and so at the plain end
-pub plain_end_collectives : (script : Script) → IsWhole script.nue script.items → CollectivesHold script (plain_end script)
+pub plain_end_collectives : (script : Script) → IsWholeScript script.nue script.items → CollectivesHold script (plain_end script)
 plain_end_collectives script whole =
     let (n, run) = to_plain_end script in
     let fit = are_fit script whole n (plain_end script) run in

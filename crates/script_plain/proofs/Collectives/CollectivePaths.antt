@@ -14,8 +14,8 @@ use Rattle.script_machine.specs.declared.prims.Source.{Source}
 use Rattle.script_machine.specs.declared.prims.Source.TheVariants as source_of
 use Rattle.script_machine.specs.declared.prims.Standing.TheVariants as standing
 use Rattle.script_plain.specs.Collectives.{gone_by, gone_through}
-use Rattle.script_machine.specs.Local.{gone_on, local_next, next_by_act, next_by_prim, prim_by_standing, source_bytes, with_length}
-use Rattle.script_plain.specs.Meaning.{State, next_of, recorded}
+use Rattle.script_machine.specs.Local.{gone_on, local_next, next_by_act, next_by_prim, prim_by_standing, source_bytes, head_with_length}
+use Rattle.script_plain.specs.Meaning.{State, next_of, next_with_calls}
 use Rattle.script_plain.specs.Messages.{is_of, sent_by}
 use Rattle.script_machine.specs.Next.{Next}
 use Rattle.script_machine.specs.Next.Next.{Ends, Goes, Posts, Sends, Recvs, Bars}
@@ -82,10 +82,10 @@ pub record Facing (line : ℕ) (acts : List Act) (rest : List Prim) (u : State) 
   pub left : u.local.left ≡ map (λ a. record { line = line; act = a }) acts ++ rest
 
 module _ (line : ℕ) (rest : List Prim) (acts : List Act) (u : State) where
-  pub faced : (a : Act) → Facing line (a ∷ acts) rest u → next_of u ≡ recorded u.matched (next_by_act u.local line a)
+  pub faced : (a : Act) → Facing line (a ∷ acts) rest u → next_of u ≡ next_with_calls u.matched (next_by_act u.local line a)
   unfolding local_next
   faced a facing =
-      ap (recorded u.matched) (ap (next_by_prim u.local)
+      ap (next_with_calls u.matched) (ap (next_by_prim u.local)
       (ap (λ s. prim_by_standing s u.local.left) facing.running ∙ ap (λ (l : List Prim). slice_get l 0) facing.left))
 
   -- past the first of them
@@ -93,7 +93,7 @@ module _ (line : ℕ) (rest : List Prim) (acts : List Act) (u : State) where
   past a facing v same next = record { running = same ∙ facing.running; left = next ∙ ap (λ (l : List Prim). drop 1 l) facing.left }
 
   pub by_send : (bytes : List ℕ) (to : ℕ) (head : MessageHead) (source : Source) → Facing line (Act.Send to head source ∷ acts) rest u
-      → gone_by bytes u (next_of u) ≡ record { local = gone_on u.local; matched = u.matched ++ Send to (with_length head (length (source_bytes u.local source))) (source_bytes u.local source) ∷ [] }
+      → gone_by bytes u (next_of u) ≡ record { local = gone_on u.local; matched = u.matched ++ Send to (head_with_length head (length (source_bytes u.local source))) (source_bytes u.local source) ∷ [] }
   by_send bytes to head source facing = ap (gone_by bytes u) (faced (Act.Send to head source) facing)
 
 -- whether a rank is in a list
@@ -107,7 +107,7 @@ pub first_sent : (kind comm line i : ℕ) (head : MessageHead) (source : Source)
     → ((head.kind == kind) && (head.comm == comm)) ≡ true
     → Facing line (map (λ to. Act.Send to head source) list ++ tail) rest u → source_bytes u.local source ≡ X → IsIn i list
     → slice_get (chosen (is_of kind comm) (sent_by i) (gone_through path u).matched) (length (chosen (is_of kind comm) (sent_by i) u.matched)) ≡ Some m
-    → m ≡ record { head = with_length head (length X); bytes = X }
+    → m ≡ record { head = head_with_length head (length X); bytes = X }
 first_sent kind comm line i head source X tail rest [] u path m mine facing held within found = absurd within
 first_sent kind comm line i head source X tail rest (to ∷ list) u [] m mine facing held within found =
     let none = slice_get_past (chosen (is_of kind comm) (sent_by i) u.matched) (length (chosen (is_of kind comm) (sent_by i) u.matched)) (omega arith) in absurd (cc)
@@ -115,10 +115,10 @@ first_sent kind comm line i head source X tail rest (to ∷ list) u (bytes ∷ p
     ⊎_elim here (λ (apart : to ≢ i). there apart (λ w faces holds inside get. first_sent kind comm line i head source X tail rest list w path m mine faces holds inside get)) (cases_eq to i)
   where
     sent : Message
-    sent = record { head = with_length head (length (source_bytes u.local source)); bytes = source_bytes u.local source }
+    sent = record { head = head_with_length head (length (source_bytes u.local source)); bytes = source_bytes u.local source }
 
     v : State
-    v = record { local = gone_on u.local; matched = u.matched ++ Send to (with_length head (length (source_bytes u.local source))) (source_bytes u.local source) ∷ [] }
+    v = record { local = gone_on u.local; matched = u.matched ++ Send to (head_with_length head (length (source_bytes u.local source))) (source_bytes u.local source) ∷ [] }
 
     moved : gone_by bytes u (next_of u) ≡ v
     moved = by_send line rest (map (λ to. Act.Send to head source) list ++ tail) u bytes to head source facing
@@ -126,19 +126,19 @@ first_sent kind comm line i head source X tail rest (to ∷ list) u (bytes ∷ p
     found_on : slice_get (chosen (is_of kind comm) (sent_by i) (gone_through path v).matched) (length (chosen (is_of kind comm) (sent_by i) u.matched)) ≡ Some m
     found_on = ap (λ (w : State). slice_get (chosen (is_of kind comm) (sent_by i) (gone_through path w).matched) (length (chosen (is_of kind comm) (sent_by i) u.matched))) (sym moved) ∙ found
 
-    here : to ≡ i → m ≡ record { head = with_length head (length X); bytes = X }
+    here : to ≡ i → m ≡ record { head = head_with_length head (length X); bytes = X }
     here is =
         let more = chosen_one (is_of kind comm) (sent_by i) u.matched (Send to sent.head sent.bytes) sent (choices.chosen (to == i) (sent ∷ []) [] (eq-eqb to i is)) mine in
         let stood : slice_get (chosen (is_of kind comm) (sent_by i) v.matched) (length (chosen (is_of kind comm) (sent_by i) u.matched)) ≡ Some sent =
         ap (λ (l : List Message). slice_get l (length (chosen (is_of kind comm) (sent_by i) u.matched))) more ∙ get_last (chosen (is_of kind comm) (sent_by i) u.matched) sent in
         let kept = keeps (is_of kind comm) (sent_by i) path v (length (chosen (is_of kind comm) (sent_by i) u.matched)) sent stood in
         let same : sent ≡ m = same_Some sent m (sym kept ∙ found_on) in
-        sym same ∙ ap (λ (bs : List ℕ). record { head = with_length head (length bs); bytes = bs }) held
+        sym same ∙ ap (λ (bs : List ℕ). record { head = head_with_length head (length bs); bytes = bs }) held
 
     there : to ≢ i
         → ((w : State) → Facing line (map (λ t. Act.Send t head source) list ++ tail) rest w → source_bytes w.local source ≡ X → IsIn i list
-        → slice_get (chosen (is_of kind comm) (sent_by i) (gone_through path w).matched) (length (chosen (is_of kind comm) (sent_by i) w.matched)) ≡ Some m → m ≡ record { head = with_length head (length X); bytes = X })
-        → m ≡ record { head = with_length head (length X); bytes = X }
+        → slice_get (chosen (is_of kind comm) (sent_by i) (gone_through path w).matched) (length (chosen (is_of kind comm) (sent_by i) w.matched)) ≡ Some m → m ≡ record { head = head_with_length head (length X); bytes = X })
+        → m ≡ record { head = head_with_length head (length X); bytes = X }
     there apart again =
         let none : sent_by i (Send to sent.head sent.bytes) ≡ [] = choices.other (to == i) (sent ∷ []) [] (different to i apart) in
         let same = chosen_none (is_of kind comm) (sent_by i) u.matched (Send to sent.head sent.bytes) none in

@@ -9,7 +9,7 @@ use Rattle.scc_base.specs.Heads.{MessageHead, kind_number}
 use Rattle.scc_base.specs.Setups.{SetupView, place_of}
 use Rattle.scc_base.specs.declared.kinds.Kind.{Kind}
 use Rattle.scc_base.specs.declared.kinds.Kind.TheVariants as kind_of
-use Rattle.groups.specs.Collectives.{fold_each, head_of, others_of, send_each}
+use Rattle.groups.specs.Collectives.{fold_each, head_of_kind, others_of, send_each}
 use Rattle.groups.specs.Folds.{bytes_in, fold_of}
 use Rattle.groups.specs.declared.collectives.Coll.{Coll}
 use Rattle.groups.specs.declared.collectives.Coll.TheVariants as coll
@@ -21,8 +21,8 @@ use Rattle.script_reader.specs.declared.script.Stmt.{Stmt}
 use Rattle.script_reader.specs.declared.script.Stmt.TheVariants as stmt
 use Rattle.script_machine.specs.declared.prims.Operands.{Operands}
 use Rattle.script_machine.specs.declared.prims.Source.TheVariants as source_of
-use Rattle.script_plain.specs.Collectives.{AreReduced, AreReducedToAll, AreToldAll, CameTo, Gives, HasDone, IsOther, gone_by, gone_through}
-use Rattle.script_machine.specs.Local.{asked_head, folded, gone_on, gone_on_folding, gone_on_gathering, register_at, with_length}
+use Rattle.script_plain.specs.Collectives.{AreReduced, AreReducedToAll, AreToldAll, CameTo, GivesPart, HasDone, IsOther, gone_by, gone_through}
+use Rattle.script_machine.specs.Local.{asked_head, fold_if_fits, gone_on, gone_on_folding, gone_on_gathering, register_at, head_with_length}
 use Rattle.script_plain.specs.Meaning.{State, next_of}
 use Rattle.script_plain.specs.Messages.{AreDelivered, is_of, received_by, sent_by}
 use Rattle.script_machine.specs.Program.{Act, Prim, acts_of, can_call, part_of, parts_of, setup_of}
@@ -48,7 +48,7 @@ quiet_path test i line tail rest (Begin reg ∷ acts) u (bytes ∷ path) quiet l
 quiet_path test i line tail rest (Fold op ty ∷ acts) u (bytes ∷ path) quiet low facing =
     let moved = ap (gone_by bytes u) (faced line rest (acts ++ tail) u (Fold op ty) facing) in
     ap (λ (v : State). chosen test (sent_by i) (gone_through path v).matched) moved
-    ∙ quiet_path test i line tail rest acts _ path quiet.1 (omega (arith, low)) (past line rest (acts ++ tail) u (Fold op ty) facing (record { local = gone_on_folding u.local (folded op ty u.local.accumulator u.local.received); matched = u.matched }) refl refl)
+    ∙ quiet_path test i line tail rest acts _ path quiet.1 (omega (arith, low)) (past line rest (acts ++ tail) u (Fold op ty) facing (record { local = gone_on_folding u.local (fold_if_fits op ty u.local.accumulator u.local.received); matched = u.matched }) refl refl)
 quiet_path test i line tail rest (Gather from head sized ∷ acts) u (bytes ∷ path) quiet low facing =
     let moved = ap (gone_by bytes u) (faced line rest (acts ++ tail) u (Gather from head sized) facing) in
     ap (λ (v : State). chosen test (sent_by i) (gone_through path v).matched) moved
@@ -108,9 +108,9 @@ finishes line dst rest u (bytes ∷ []) one facing = ap (λ (x : State). x.local
 -- what one of the others gives comes to the root, at its number
 module _ (script : Script) (c : Configuration State) (delivered : AreDelivered c) (call : Op → Ty → ℕ → ℕ → Stmt) (coll : Coll) (kind : Kind) (comm place root : ℕ) (u begun : State) (at_root : slice_get c.cells root ≡ Some u)
     (tail : ℕ → ℕ → List Act)
-    (gives : (rank : ℕ) (op : Op) (ty : Ty) (dst src : ℕ) → can_call (setup_of script) rank coll ≡ true → IsOther (setup_of script) comm place root rank → acts_of (setup_of script) rank (call op ty dst src) ≡ Send root (head_of kind comm 0) (source_of.Own src) ∷ tail dst src)
+    (gives : (rank : ℕ) (op : Op) (ty : Ty) (dst src : ℕ) → can_call (setup_of script) rank coll ≡ true → IsOther (setup_of script) comm place root rank → acts_of (setup_of script) rank (call op ty dst src) ≡ Send root (head_of_kind kind comm 0) (source_of.Own src) ∷ tail dst src)
     (may : (rank : ℕ) (op : Op) (ty : Ty) (dst src : ℕ) (now before : State) → slice_get c.cells rank ≡ Some now → CameTo script rank (call op ty dst src) now before → can_call (setup_of script) rank coll ≡ true) where
-  pub comes_in : (rank : ℕ) (bytes : ℕ → List ℕ) → IsOther (setup_of script) comm place root rank → Gives script c call kind comm root begun rank (bytes rank)
+  pub comes_in : (rank : ℕ) (bytes : ℕ → List ℕ) → IsOther (setup_of script) comm place root rank → GivesPart script c call kind comm root begun rank (bytes rank)
       → Comes (kind_number kind) comm u (λ j. length (chosen (is_of (kind_number kind) comm) (received_by j) begun.matched)) bytes rank
   comes_in rank bytes is_other g m got =
       let acts = gives rank g.op g.ty g.dst g.src (may rank g.op g.ty g.dst g.src g.now g.before g.there g.came) is_other in
@@ -118,45 +118,45 @@ module _ (script : Script) (c : Configuration State) (delivered : AreDelivered c
       let found : slice_get (chosen (is_of (kind_number kind) comm) (sent_by root) (gone_through g.came.later g.before).matched) (length (chosen (is_of (kind_number kind) comm) (sent_by root) g.before.matched)) ≡ Some m =
       ap (λ (l : List DataCall). slice_get (chosen (is_of (kind_number kind) comm) (sent_by root) l) (length (chosen (is_of (kind_number kind) comm) (sent_by root) g.before.matched))) (sym g.came.since)
       ∙ ap (slice_get (chosen (is_of (kind_number kind) comm) (sent_by root) g.now.matched)) g.same ∙ sent in
-      let is = first_sent (kind_number kind) comm g.came.stood.item.line root (head_of kind comm 0) (source_of.Own g.src) (register_at g.before.local g.src) (tail g.dst g.src) g.came.stood.rest (root ∷ []) g.before g.came.later m
+      let is = first_sent (kind_number kind) comm g.came.stood.item.line root (head_of_kind kind comm 0) (source_of.Own g.src) (register_at g.before.local g.src) (tail g.dst g.src) g.came.stood.rest (root ∷ []) g.before g.came.later m
       (own_kind kind comm 0) (faces script rank (call g.op g.ty g.dst g.src) g.before g.came.stood _ acts) refl (inl refl) found in
       (ap (λ (x : Message). x.bytes) is ∙ g.given, ap (λ (x : Message). x.head.len) is ∙ ap length g.given)
 
 -- what a reduction makes for the root, and for each of the others
 pub reduce_at_root : (s : SetupView) (comm place root dst src : ℕ) (op : Op) (ty : Ty) → can_call s root (coll.Reduce comm place 0) ≡ true → place_of s comm root ≡ place
-    → acts_of s root (stmt.Reduce comm place op ty dst src) ≡ Begin src ∷ gathers (fold_operands op ty dst src) (head_of kind_of.Reduce comm 0) (others_of s comm root place) ++ Finish dst ∷ []
+    → acts_of s root (stmt.Reduce comm place op ty dst src) ≡ Begin src ∷ gathers (fold_operands op ty dst src) (head_of_kind kind_of.Reduce comm 0) (others_of s comm root place) ++ Finish dst ∷ []
 reduce_at_root s comm place root dst src op ty callable at =
     ap (parts_of (fold_operands op ty dst src)) (root_has s (coll.Reduce comm place 0) root callable at)
-    ∙ ap (λ (l : List Act). Begin src ∷ l) (folds_parts (fold_operands op ty dst src) true (head_of kind_of.Reduce comm 0) (others_of s comm root place) (step.Finish ∷ []))
+    ∙ ap (λ (l : List Act). Begin src ∷ l) (folds_parts (fold_operands op ty dst src) true (head_of_kind kind_of.Reduce comm 0) (others_of s comm root place) (step.Finish ∷ []))
 
 pub reduce_at_other : (s : SetupView) (comm place root rank dst src : ℕ) (op : Op) (ty : Ty) → can_call s rank (coll.Reduce comm place 0) ≡ true → IsOther s comm place root rank
-    → acts_of s rank (stmt.Reduce comm place op ty dst src) ≡ Send root (head_of kind_of.Reduce comm 0) (source_of.Own src) ∷ []
+    → acts_of s rank (stmt.Reduce comm place op ty dst src) ≡ Send root (head_of_kind kind_of.Reduce comm 0) (source_of.Own src) ∷ []
 reduce_at_other s comm place root rank dst src op ty callable is = ap (parts_of (fold_operands op ty dst src)) (other_has s (coll.Reduce comm place 0) root rank callable is)
 
 -- a reduction to all: the sends to the others, and the end, behind the folds
 abbrev pub down_sends : ℕ → ℕ → List ℕ → List Act
-down_sends comm dst list = map (λ to. Send to (head_of kind_of.AllDown comm 0) source_of.Accumulator) list ++ Finish dst ∷ []
+down_sends comm dst list = map (λ to. Send to (head_of_kind kind_of.AllDown comm 0) source_of.Accumulator) list ++ Finish dst ∷ []
 
 -- what the root makes then
 pub all_down_parts : (comm dst src : ℕ) (op : Op) (ty : Ty) (others : List ℕ)
-    → map (part_of (fold_operands op ty dst src) true) (fold_each (head_of kind_of.AllUp comm 0) others ++ send_each (head_of kind_of.AllDown comm 0) others ++ step.Finish ∷ [])
-    ≡ gathers (fold_operands op ty dst src) (head_of kind_of.AllUp comm 0) others ++ down_sends comm dst others
+    → map (part_of (fold_operands op ty dst src) true) (fold_each (head_of_kind kind_of.AllUp comm 0) others ++ send_each (head_of_kind kind_of.AllDown comm 0) others ++ step.Finish ∷ [])
+    ≡ gathers (fold_operands op ty dst src) (head_of_kind kind_of.AllUp comm 0) others ++ down_sends comm dst others
 all_down_parts comm dst src op ty others =
     let o = fold_operands op ty dst src in
-    ap (map (part_of o true)) (append_assoc (fold_each (head_of kind_of.AllUp comm 0) others) (send_each (head_of kind_of.AllDown comm 0) others) (step.Finish ∷ []))
-    ∙ folds_parts o true (head_of kind_of.AllUp comm 0) others (send_each (head_of kind_of.AllDown comm 0) others ++ step.Finish ∷ [])
-    ∙ ap (λ (l : List Act). gathers o (head_of kind_of.AllUp comm 0) others ++ l)
-    (map-append (part_of o true) (send_each (head_of kind_of.AllDown comm 0) others) (step.Finish ∷ [])
-    ∙ ap (λ (l : List Act). l ++ Finish dst ∷ []) (sends_parts o true (head_of kind_of.AllDown comm 0) others))
+    ap (map (part_of o true)) (append_assoc (fold_each (head_of_kind kind_of.AllUp comm 0) others) (send_each (head_of_kind kind_of.AllDown comm 0) others) (step.Finish ∷ []))
+    ∙ folds_parts o true (head_of_kind kind_of.AllUp comm 0) others (send_each (head_of_kind kind_of.AllDown comm 0) others ++ step.Finish ∷ [])
+    ∙ ap (λ (l : List Act). gathers o (head_of_kind kind_of.AllUp comm 0) others ++ l)
+    (map-append (part_of o true) (send_each (head_of_kind kind_of.AllDown comm 0) others) (step.Finish ∷ [])
+    ∙ ap (λ (l : List Act). l ++ Finish dst ∷ []) (sends_parts o true (head_of_kind kind_of.AllDown comm 0) others))
 
 pub allreduce_at_root : (s : SetupView) (comm root dst src : ℕ) (op : Op) (ty : Ty) → can_call s root (coll.Allreduce comm 0) ≡ true → place_of s comm root ≡ 0
-    → acts_of s root (stmt.Allreduce comm op ty dst src) ≡ Begin src ∷ gathers (fold_operands op ty dst src) (head_of kind_of.AllUp comm 0) (others_of s comm root 0) ++ down_sends comm dst (others_of s comm root 0)
+    → acts_of s root (stmt.Allreduce comm op ty dst src) ≡ Begin src ∷ gathers (fold_operands op ty dst src) (head_of_kind kind_of.AllUp comm 0) (others_of s comm root 0) ++ down_sends comm dst (others_of s comm root 0)
 allreduce_at_root s comm root dst src op ty callable at =
     ap (parts_of (fold_operands op ty dst src)) (root_has s (coll.Allreduce comm 0) root callable at)
     ∙ ap (λ (l : List Act). Begin src ∷ l) (all_down_parts comm dst src op ty (others_of s comm root 0))
 
 pub allreduce_at_other : (s : SetupView) (comm root rank dst src : ℕ) (op : Op) (ty : Ty) → can_call s rank (coll.Allreduce comm 0) ≡ true → IsOther s comm 0 root rank
-    → acts_of s rank (stmt.Allreduce comm op ty dst src) ≡ Send root (head_of kind_of.AllUp comm 0) (source_of.Own src) ∷ Gather root (head_of kind_of.AllDown comm 0) (Some src) ∷ Accept dst ∷ []
+    → acts_of s rank (stmt.Allreduce comm op ty dst src) ≡ Send root (head_of_kind kind_of.AllUp comm 0) (source_of.Own src) ∷ Gather root (head_of_kind kind_of.AllDown comm 0) (Some src) ∷ Accept dst ∷ []
 allreduce_at_other s comm root rank dst src op ty callable is = ap (parts_of (fold_operands op ty dst src)) (other_has s (coll.Allreduce comm 0) root rank callable is)
 
 -- a rank that runs is one of the ranks
@@ -185,13 +185,13 @@ reduced script c delivered fit comm place dst src root op ty u begun after bytes
     others : List ℕ
     others = others_of s comm root place
 
-    acts : acts_of s root (stmt.Reduce comm place op ty dst src) ≡ Begin src ∷ gathers (fold_operands op ty dst src) (head_of kind_of.Reduce comm 0) others ++ Finish dst ∷ []
+    acts : acts_of s root (stmt.Reduce comm place op ty dst src) ≡ Begin src ∷ gathers (fold_operands op ty dst src) (head_of_kind kind_of.Reduce comm 0) others ++ Finish dst ∷ []
     acts = reduce_at_root s comm place root dst src op ty callable at
 
     count : length done.taken ≡ suc (2 * length others + 1)
     count = done.each ∙ ap length acts
-        ∙ ap suc (length-append (gathers (fold_operands op ty dst src) (head_of kind_of.Reduce comm 0) others) (Finish dst ∷ [])
-        ∙ ap (λ (n : ℕ). n + 1) (gathers_length (fold_operands op ty dst src) (head_of kind_of.Reduce comm 0) others))
+        ∙ ap suc (length-append (gathers (fold_operands op ty dst src) (head_of_kind kind_of.Reduce comm 0) others) (Finish dst ∷ [])
+        ∙ ap (λ (n : ℕ). n + 1) (gathers_length (fold_operands op ty dst src) (head_of_kind kind_of.Reduce comm 0) others))
 
     comes : Each (Comes (kind_number kind_of.Reduce) comm u (λ j. length (chosen (is_of (kind_number kind_of.Reduce) comm) (received_by j) begun.matched)) bytes) others
     comes = each_on (IsOther s comm place root) (Comes (kind_number kind_of.Reduce) comm u (λ j. length (chosen (is_of (kind_number kind_of.Reduce) comm) (received_by j) begun.matched)) bytes)
@@ -200,8 +200,8 @@ reduced script c delivered fit comm place dst src root op ty u begun after bytes
         (λ j o t d r now before there came. fit.reduces j now before comm place d r o t there came.stood) rank bytes is (gives rank is))
         others (others_each s comm place root (below_of s (coll.Reduce comm place 0) root callable) at)
 
-    f : AllFolded (kind_number kind_of.Reduce) comm done.stood.item.line dst src op ty (head_of kind_of.Reduce comm 0) (Finish dst ∷ []) done.stood.rest bytes u begun others (own_kind kind_of.Reduce comm 0) done.taken
-    f = all_folded (kind_number kind_of.Reduce) comm done.stood.item.line dst src op ty (head_of kind_of.Reduce comm 0) (Finish dst ∷ []) done.stood.rest bytes u begun others (own_kind kind_of.Reduce comm 0)
+    f : AllFolded (kind_number kind_of.Reduce) comm done.stood.item.line dst src op ty (head_of_kind kind_of.Reduce comm 0) (Finish dst ∷ []) done.stood.rest bytes u begun others (own_kind kind_of.Reduce comm 0) done.taken
+    f = all_folded (kind_number kind_of.Reduce) comm done.stood.item.line dst src op ty (head_of_kind kind_of.Reduce comm 0) (Finish dst ∷ []) done.stood.rest bytes u begun others (own_kind kind_of.Reduce comm 0)
         done.taken done.later (omega (arith, count)) (done.since ∙ ap (λ (x : State). (gone_through done.later x).matched) done.came)
         (others_apart s comm place root) comes width (faces script root (stmt.Reduce comm place op ty dst src) begun done.stood _ acts)
 
@@ -212,10 +212,10 @@ reduced script c delivered fit comm place dst src root op ty u begun after bytes
 module _ (script : Script) (c : Configuration State) (delivered : AreDelivered c) (fit : AreFit script c) (comm dst src root : ℕ) (op : Op) (ty : Ty) (u begun : State) (bytes : ℕ → List ℕ)
     (at_root : slice_get c.cells root ≡ Some u) (at : place_of (setup_of script) comm root ≡ 0) (callable : can_call (setup_of script) root (coll.Allreduce comm 0) ≡ true)
     (width : length (register_at begun.local src) % bytes_in ty ≡ 0)
-    (gives : (rank : ℕ) → IsOther (setup_of script) comm 0 root rank → Gives script c (stmt.Allreduce comm) kind_of.AllUp comm root begun rank (bytes rank)) where
+    (gives : (rank : ℕ) → IsOther (setup_of script) comm 0 root rank → GivesPart script c (stmt.Allreduce comm) kind_of.AllUp comm root begun rank (bytes rank)) where
   comes_up : Each (Comes (kind_number kind_of.AllUp) comm u (λ j. length (chosen (is_of (kind_number kind_of.AllUp) comm) (received_by j) begun.matched)) bytes) (others_of (setup_of script) comm root 0)
   comes_up = each_on (IsOther (setup_of script) comm 0 root) (Comes (kind_number kind_of.AllUp) comm u (λ j. length (chosen (is_of (kind_number kind_of.AllUp) comm) (received_by j) begun.matched)) bytes)
-      (λ rank is. comes_in script c delivered (stmt.Allreduce comm) (coll.Allreduce comm 0) kind_of.AllUp comm 0 root u begun at_root (λ d r. Gather root (head_of kind_of.AllDown comm 0) (Some r) ∷ Accept d ∷ [])
+      (λ rank is. comes_in script c delivered (stmt.Allreduce comm) (coll.Allreduce comm 0) kind_of.AllUp comm 0 root u begun at_root (λ d r. Gather root (head_of_kind kind_of.AllDown comm 0) (Some r) ∷ Accept d ∷ [])
       (λ j o t d r can other. allreduce_at_other (setup_of script) comm root j d r o t can other)
       (λ j o t d r now before there came. fit.reduces_to_all j now before comm d r o t there came.stood) rank bytes is (gives rank is))
       (others_of (setup_of script) comm root 0) (others_each (setup_of script) comm 0 root (below_of (setup_of script) (coll.Allreduce comm 0) root callable) at)
@@ -237,18 +237,18 @@ module _ (script : Script) (c : Configuration State) (delivered : AreDelivered c
       o : Operands
       o = fold_operands op ty dst src
 
-      acts : acts_of s root (stmt.Allreduce comm op ty dst src) ≡ Begin src ∷ gathers o (head_of kind_of.AllUp comm 0) others ++ down_sends comm dst others
+      acts : acts_of s root (stmt.Allreduce comm op ty dst src) ≡ Begin src ∷ gathers o (head_of_kind kind_of.AllUp comm 0) others ++ down_sends comm dst others
       acts = allreduce_at_root s comm root dst src op ty callable at
 
       count : length done.taken ≡ suc (2 * length others + (length others + 1))
       count = done.each ∙ ap length acts
-          ∙ ap suc (length-append (gathers o (head_of kind_of.AllUp comm 0) others) (down_sends comm dst others)
-          ∙ ap (λ (n : ℕ). n + length (down_sends comm dst others)) (gathers_length o (head_of kind_of.AllUp comm 0) others)
-          ∙ ap (λ (n : ℕ). 2 * length others + n) (length-append (map (λ to. Send to (head_of kind_of.AllDown comm 0) source_of.Accumulator) others) (Finish dst ∷ [])
-          ∙ ap (λ (n : ℕ). n + 1) (length-map others (λ (to : ℕ). Send to (head_of kind_of.AllDown comm 0) source_of.Accumulator))))
+          ∙ ap suc (length-append (gathers o (head_of_kind kind_of.AllUp comm 0) others) (down_sends comm dst others)
+          ∙ ap (λ (n : ℕ). n + length (down_sends comm dst others)) (gathers_length o (head_of_kind kind_of.AllUp comm 0) others)
+          ∙ ap (λ (n : ℕ). 2 * length others + n) (length-append (map (λ to. Send to (head_of_kind kind_of.AllDown comm 0) source_of.Accumulator) others) (Finish dst ∷ [])
+          ∙ ap (λ (n : ℕ). n + 1) (length-map others (λ (to : ℕ). Send to (head_of_kind kind_of.AllDown comm 0) source_of.Accumulator))))
 
-      f : AllFolded (kind_number kind_of.AllUp) comm done.stood.item.line dst src op ty (head_of kind_of.AllUp comm 0) (down_sends comm dst others) done.stood.rest bytes u begun others (own_kind kind_of.AllUp comm 0) done.taken
-      f = all_folded (kind_number kind_of.AllUp) comm done.stood.item.line dst src op ty (head_of kind_of.AllUp comm 0) (down_sends comm dst others) done.stood.rest bytes u begun others (own_kind kind_of.AllUp comm 0)
+      f : AllFolded (kind_number kind_of.AllUp) comm done.stood.item.line dst src op ty (head_of_kind kind_of.AllUp comm 0) (down_sends comm dst others) done.stood.rest bytes u begun others (own_kind kind_of.AllUp comm 0) done.taken
+      f = all_folded (kind_number kind_of.AllUp) comm done.stood.item.line dst src op ty (head_of_kind kind_of.AllUp comm 0) (down_sends comm dst others) done.stood.rest bytes u begun others (own_kind kind_of.AllUp comm 0)
           done.taken done.later (omega (arith, count)) (done.since ∙ ap (λ (x : State). (gone_through done.later x).matched) done.came)
           (others_apart s comm 0 root) comes_up width (faces script root (stmt.Allreduce comm op ty dst src) begun done.stood _ acts)
 
@@ -259,7 +259,7 @@ module _ (script : Script) (c : Configuration State) (delivered : AreDelivered c
       parts = split_at (length others) f.end (omega (arith, rest_count))
 
       sent : Unchanged done.stood.item.line (Finish dst ∷ []) done.stood.rest (gone_through f.mid begun) (gone_through parts.0 (gone_through f.mid begun))
-      sent = past_sends done.stood.item.line (head_of kind_of.AllDown comm 0) source_of.Accumulator (Finish dst ∷ []) done.stood.rest others (gone_through f.mid begun) parts.0 parts.3 f.folded.facing
+      sent = past_sends done.stood.item.line (head_of_kind kind_of.AllDown comm 0) source_of.Accumulator (Finish dst ∷ []) done.stood.rest others (gone_through f.mid begun) parts.0 parts.3 f.folded.facing
 
       last : length parts.1 ≡ 1
       last = let both = ap length parts.2 ∙ length-append parts.0 parts.1 in omega (arith, both, rest_count, parts.3)
@@ -282,14 +282,14 @@ module _ (script : Script) (c : Configuration State) (delivered : AreDelivered c
       D : ℕ
       D = kind_number kind_of.AllDown
 
-      facing : Facing came.stood.item.line (Begin src ∷ gathers o (head_of kind_of.AllUp comm 0) others ++ down_sends comm dst others) came.stood.rest begun
+      facing : Facing came.stood.item.line (Begin src ∷ gathers o (head_of_kind kind_of.AllUp comm 0) others ++ down_sends comm dst others) came.stood.rest begun
       facing = faces script root (stmt.Allreduce comm op ty dst src) begun came.stood _ (allreduce_at_root s comm root dst src op ty callable at)
 
       quiet : (path : List (List ℕ)) → length path ≤ suc (2 * length others) → chosen (is_of D comm) (sent_by rank) (gone_through path begun).matched ≡ chosen (is_of D comm) (sent_by rank) begun.matched
       quiet path low =
-          let long = gathers_length o (head_of kind_of.AllUp comm 0) others in
-          quiet_path (is_of D comm) rank came.stood.item.line (down_sends comm dst others) came.stood.rest (Begin src ∷ gathers o (head_of kind_of.AllUp comm 0) others) begun path
-          (tt, gathers_quiet o (head_of kind_of.AllUp comm 0) others) (omega (arith, low, long)) facing
+          let long = gathers_length o (head_of_kind kind_of.AllUp comm 0) others in
+          quiet_path (is_of D comm) rank came.stood.item.line (down_sends comm dst others) came.stood.rest (Begin src ∷ gathers o (head_of_kind kind_of.AllUp comm 0) others) begun path
+          (tt, gathers_quiet o (head_of_kind kind_of.AllUp comm 0) others) (omega (arith, low, long)) facing
 
       short : length came.later < suc (2 * length others) → m.bytes ≡ fold_of op ty (register_at begun.local src) (map bytes (others_of (setup_of script) comm root 0))
       short low =
@@ -302,13 +302,13 @@ module _ (script : Script) (c : Configuration State) (delivered : AreDelivered c
 
       long : suc (2 * length others) ≤ length came.later → m.bytes ≡ fold_of op ty (register_at begun.local src) (map bytes (others_of (setup_of script) comm root 0))
       long low =
-          let f = all_folded (kind_number kind_of.AllUp) comm came.stood.item.line dst src op ty (head_of kind_of.AllUp comm 0) (down_sends comm dst others) came.stood.rest bytes u begun others (own_kind kind_of.AllUp comm 0)
+          let f = all_folded (kind_number kind_of.AllUp) comm came.stood.item.line dst src op ty (head_of_kind kind_of.AllUp comm 0) (down_sends comm dst others) came.stood.rest bytes u begun others (own_kind kind_of.AllUp comm 0)
           came.later [] low came.since (others_apart s comm 0 root) comes_up width facing in
           let way : u.matched ≡ (gone_through f.end (gone_through f.mid begun)).matched =
           came.since ∙ ap (λ (p : List (List ℕ)). (gone_through p begun).matched) f.whole ∙ ap (λ (x : State). x.matched) (through_both f.mid f.end begun) in
           let same = quiet f.mid (omega (arith, f.middle)) in
           ap (λ (x : Message). x.bytes)
-          (first_sent D comm came.stood.item.line rank (head_of kind_of.AllDown comm 0) source_of.Accumulator _ (Finish dst ∷ []) came.stood.rest others (gone_through f.mid begun) f.end m (own_kind kind_of.AllDown comm 0)
+          (first_sent D comm came.stood.item.line rank (head_of_kind kind_of.AllDown comm 0) source_of.Accumulator _ (Finish dst ∷ []) came.stood.rest others (gone_through f.mid begun) f.end m (own_kind kind_of.AllDown comm 0)
           f.folded.facing f.folded.accumulator (is_in_others s comm 0 root rank other)
           (ap (λ (l : List Message). slice_get (chosen (is_of D comm) (sent_by rank) (gone_through f.end (gone_through f.mid begun)).matched) (length l)) same
           ∙ ap (λ (l : List DataCall). slice_get (chosen (is_of D comm) (sent_by rank) l) (length (chosen (is_of D comm) (sent_by rank) begun.matched))) (sym way)
@@ -330,14 +330,14 @@ module _ (script : Script) (comm root rank to from : ℕ) (named : Op) (width : 
       D : ℕ
       D = kind_number kind_of.AllDown
 
-      acts : acts_of (setup_of script) rank (stmt.Allreduce comm named width to from) ≡ Send root (head_of kind_of.AllUp comm 0) (source_of.Own from) ∷ Gather root (head_of kind_of.AllDown comm 0) (Some from) ∷ Accept to ∷ []
+      acts : acts_of (setup_of script) rank (stmt.Allreduce comm named width to from) ≡ Send root (head_of_kind kind_of.AllUp comm 0) (source_of.Own from) ∷ Gather root (head_of_kind kind_of.AllDown comm 0) (Some from) ∷ Accept to ∷ []
       acts = allreduce_at_other (setup_of script) comm root rank to from named width callable other
 
-      facing : Facing done.stood.item.line (Send root (head_of kind_of.AllUp comm 0) (source_of.Own from) ∷ Gather root (head_of kind_of.AllDown comm 0) (Some from) ∷ Accept to ∷ []) done.stood.rest before
+      facing : Facing done.stood.item.line (Send root (head_of_kind kind_of.AllUp comm 0) (source_of.Own from) ∷ Gather root (head_of_kind kind_of.AllDown comm 0) (Some from) ∷ Accept to ∷ []) done.stood.rest before
       facing = faces script rank (stmt.Allreduce comm named width to from) before done.stood _ acts
 
       x : State
-      x = record { local = gone_on before.local; matched = before.matched ++ DataCall.Send root (with_length (head_of kind_of.AllUp comm 0) (length (register_at before.local from))) (register_at before.local from) ∷ [] }
+      x = record { local = gone_on before.local; matched = before.matched ++ DataCall.Send root (head_with_length (head_of_kind kind_of.AllUp comm 0) (length (register_at before.local from))) (register_at before.local from) ∷ [] }
 
       parts : (a : List (List ℕ)) × (b : List (List ℕ)) × (done.taken ≡ a ++ b) × (length a ≡ 1)
       parts = split_at 1 done.taken (omega (arith, done.each ∙ ap length acts))
@@ -345,7 +345,7 @@ module _ (script : Script) (comm root rank to from : ℕ) (named : Op) (width : 
       sent : (path : List (List ℕ)) → length path ≡ 1 → gone_through path before ≡ x
       sent [] one = absurd (omega (arith, one))
       sent (bytes ∷ more ∷ path) one = absurd (omega (arith, one))
-      sent (bytes ∷ []) one = by_send done.stood.item.line done.stood.rest (Gather root (head_of kind_of.AllDown comm 0) (Some from) ∷ Accept to ∷ []) before bytes root (head_of kind_of.AllUp comm 0) (source_of.Own from) facing
+      sent (bytes ∷ []) one = by_send done.stood.item.line done.stood.rest (Gather root (head_of_kind kind_of.AllDown comm 0) (Some from) ∷ Accept to ∷ []) before bytes root (head_of_kind kind_of.AllUp comm 0) (source_of.Own from) facing
 
       way : after ≡ gone_through parts.1 x
       way =
@@ -357,14 +357,14 @@ module _ (script : Script) (comm root rank to from : ℕ) (named : Op) (width : 
 
       got : (m : Message) × ((gone_through parts.1 x).local.registers ≡ slice_set before.local.registers to m.bytes)
           × ((later : List (List ℕ)) → slice_get (chosen (is_of D comm) (received_by root) (gone_through later (gone_through parts.1 x)).matched) (length (chosen (is_of D comm) (received_by root) x.matched)) ≡ Some m)
-      got = accepts D comm done.stood.item.line root to (head_of kind_of.AllDown comm 0) (Some from) done.stood.rest x parts.1 (own_kind kind_of.AllDown comm 0) two
-          (past done.stood.item.line done.stood.rest (Gather root (head_of kind_of.AllDown comm 0) (Some from) ∷ Accept to ∷ []) before (Send root (head_of kind_of.AllUp comm 0) (source_of.Own from)) facing x refl refl)
+      got = accepts D comm done.stood.item.line root to (head_of_kind kind_of.AllDown comm 0) (Some from) done.stood.rest x parts.1 (own_kind kind_of.AllDown comm 0) two
+          (past done.stood.item.line done.stood.rest (Gather root (head_of_kind kind_of.AllDown comm 0) (Some from) ∷ Accept to ∷ []) before (Send root (head_of_kind kind_of.AllUp comm 0) (source_of.Own from)) facing x refl refl)
 
       found : slice_get (chosen (is_of D comm) (received_by root) v.matched) (length (chosen (is_of D comm) (received_by root) before.matched)) ≡ Some got.0
       found =
           ap (λ (l : List DataCall). slice_get (chosen (is_of D comm) (received_by root) l) (length (chosen (is_of D comm) (received_by root) before.matched))) (done.since ∙ ap (λ (y : State). (gone_through done.later y).matched) way)
           ∙ ap (λ (l : List Message). slice_get (chosen (is_of D comm) (received_by root) (gone_through done.later (gone_through parts.1 x)).matched) (length l))
-          (sym (chosen_none (is_of D comm) (received_by root) before.matched (DataCall.Send root (with_length (head_of kind_of.AllUp comm 0) (length (register_at before.local from))) (register_at before.local from)) refl))
+          (sym (chosen_none (is_of D comm) (received_by root) before.matched (DataCall.Send root (head_with_length (head_of_kind kind_of.AllUp comm 0) (length (register_at before.local from))) (register_at before.local from)) refl))
           ∙ got.2 done.later
 
 pub all_told : (script : Script) (c : Configuration State) → AreDelivered c → AreFit script c → AreToldAll script c

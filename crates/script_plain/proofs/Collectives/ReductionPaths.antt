@@ -10,7 +10,7 @@ use Rattle.groups.specs.declared.operations.Ty.{Ty}
 use Rattle.groups.proofs.FoldLemmas.{fold_length}
 use Rattle.script_machine.specs.declared.prims.Operands.{Operands}
 use Rattle.script_plain.specs.Collectives.{gone_by, gone_through}
-use Rattle.script_machine.specs.Local.{folded, gone_on_folding, gone_on_gathering, register_at, with_length}
+use Rattle.script_machine.specs.Local.{fold_if_fits, gone_on_folding, gone_on_gathering, register_at, head_with_length}
 use Rattle.script_plain.specs.Meaning.{State, next_of}
 use Rattle.script_plain.specs.Messages.{is_of, received_by}
 use Rattle.script_machine.specs.Program.{Act, Prim}
@@ -87,7 +87,7 @@ module _ (kind comm line dst src : ℕ) (op : Op) (ty : Ty) (head : MessageHead)
       v = record { local = gone_on_gathering u.local one; matched = u.matched ++ Recv j asked one ∷ [] }
 
       w : State
-      w = record { local = gone_on_folding (gone_on_gathering u.local one) (folded op ty u.local.accumulator one); matched = u.matched ++ Recv j asked one ∷ [] }
+      w = record { local = gone_on_folding (gone_on_gathering u.local one) (fold_if_fits op ty u.local.accumulator one); matched = u.matched ++ Recv j asked one ∷ [] }
 
       first : gone_by one u (next_of u) ≡ v
       first = ap (gone_by one u) (faced line rest (Fold op ty ∷ gathers (fold_operands op ty dst src) head list ++ tail) u (Gather j head (Some src)) facing)
@@ -123,7 +123,7 @@ module _ (kind comm line dst src : ℕ) (op : Op) (ty : Ty) (head : MessageHead)
       whole_acc : length u.local.accumulator % bytes_in ty ≡ 0
       whole_acc = ap (λ (n : ℕ). n % bytes_in ty) even ∙ whole
 
-      is_folded : folded op ty u.local.accumulator one ≡ fold_values op ty u.local.accumulator one
+      is_folded : fold_if_fits op ty u.local.accumulator one ≡ fold_values op ty u.local.accumulator one
       is_folded =
           choices.chosen ((length u.local.accumulator == length one) && (length u.local.accumulator % bytes_in ty == 0)) _ _
           (choices.and_of (length u.local.accumulator == length one) (length u.local.accumulator % bytes_in ty == 0)

@@ -4,9 +4,9 @@ use Rattle.std.proofs.lemmas.List.{append-nil, length-map}
 use Rattle.scc_base.specs.Heads.{MessageHead}
 use Rattle.scc_base.specs.Setups.{SetupView}
 use Rattle.scc_base.specs.declared.kinds.Kind.TheVariants as kind_of
-use Rattle.groups.specs.Collectives.{head_of, others_of}
+use Rattle.groups.specs.Collectives.{head_of_kind, others_of}
 use Rattle.script_reader.specs.Script.{Script}
-use Rattle.script_reader.specs.Settled.{IsWhole}
+use Rattle.script_reader.specs.Settled.{IsWholeScript}
 use Rattle.script_reader.specs.declared.script.Stmt.{Stmt}
 use Rattle.script_reader.specs.declared.script.Stmt.TheVariants as stmt
 use Rattle.script_machine.specs.declared.prims.Source.TheVariants as source_of
@@ -26,7 +26,7 @@ sends_keep script rank statement now before after head src list done acts =
     let sent = past_sends done.stood.item.line head (source_of.Own src) [] done.stood.rest list before done.taken count (faces script rank statement before done.stood _ acts) in
     ap (λ (x : State). x.local.registers) done.came ∙ sent.registers
 
-pub untouched : (script : Script) → IsWhole script.nue script.items → AreUntouched script
+pub untouched : (script : Script) → IsWholeScript script.nue script.items → AreUntouched script
 untouched script whole comm place len reg dst src root rank op ty now before after other = (at_root, at_other)
   where
     s : SetupView
@@ -34,10 +34,10 @@ untouched script whole comm place len reg dst src root rank op ty now before aft
 
     at_root : HasDone script root (stmt.Bcast comm place reg len) now before after → after.local.registers ≡ before.local.registers
     at_root done =
-        sends_keep script root (stmt.Bcast comm place reg len) now before after (head_of kind_of.Bcast comm len) reg (others_of s comm root place) done
-        (bcast_at_root s comm place reg len root (may_cast script whole root other.placed.below before comm place reg len done.stood) other.placed.placed ∙ sym (append-nil (map (λ to. Send to (head_of kind_of.Bcast comm len) (source_of.Own reg)) (others_of s comm root place))))
+        sends_keep script root (stmt.Bcast comm place reg len) now before after (head_of_kind kind_of.Bcast comm len) reg (others_of s comm root place) done
+        (bcast_at_root s comm place reg len root (may_cast script whole root other.placed.below before comm place reg len done.stood) other.placed.placed ∙ sym (append-nil (map (λ to. Send to (head_of_kind kind_of.Bcast comm len) (source_of.Own reg)) (others_of s comm root place))))
 
     at_other : HasDone script rank (stmt.Reduce comm place op ty dst src) now before after → after.local.registers ≡ before.local.registers
     at_other done =
-        sends_keep script rank (stmt.Reduce comm place op ty dst src) now before after (head_of kind_of.Reduce comm 0) src (root ∷ []) done
+        sends_keep script rank (stmt.Reduce comm place op ty dst src) now before after (head_of_kind kind_of.Reduce comm 0) src (root ∷ []) done
         (reduce_at_other s comm place root rank dst src op ty (may_reduce script whole rank other.below before comm place dst src op ty done.stood) other)

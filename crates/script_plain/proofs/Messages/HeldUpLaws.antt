@@ -11,16 +11,16 @@ use Rattle.scc_base.specs.Calls.{DataCall}
 use Rattle.scc_base.specs.Heads.{MessageHead}
 use Rattle.scc_base.proofs.GroupFacts.{root_once, root_with, root_within, with_same, with_true}
 use Rattle.script_reader.specs.Script.{Script}
-use Rattle.script_reader.specs.Settled.{IsWhole}
+use Rattle.script_reader.specs.Settled.{IsWholeScript}
 use Rattle.script_machine.specs.declared.posts.Posted.{Posted}
 use Rattle.script_machine.specs.declared.prims.Standing.{Standing}
 use Rattle.script_machine.specs.declared.prims.Standing.TheVariants as standing
-use Rattle.script_plain.specs.Collectives.{started}
-use Rattle.script_plain.specs.Ends.{Ended, ended, ended_at, nothing_ended}
+use Rattle.script_plain.specs.Collectives.{start_of_rank}
+use Rattle.script_plain.specs.Ends.{Ended, end_of_rank, ended_at, nothing_ended}
 use Rattle.script_plain.specs.HeldUp.{HasCause, IsAwaited, IsExplained, ended_at_barrier}
-use Rattle.script_machine.specs.Local.{Local, end_by_prim, end_by_slot, end_by_standing, end_of, local_at, nobody, local_next, next_by_act, next_by_prim, prim_by_standing, waits_at}
-use Rattle.script_plain.specs.Meaning.{State, keys_of, locals_of, next_of, plain_end, plain_ends, recorded, seen_of, start_of}
-use Rattle.script_machine.specs.Next.{Next, call_of, is_at_barrier}
+use Rattle.script_machine.specs.Local.{Local, end_by_prim, end_by_slot, end_by_standing, end_of, local_at, nobody, local_next, next_by_act, next_by_prim, prim_by_standing, end_waiting_at}
+use Rattle.script_plain.specs.Meaning.{State, keys_of, locals_of, next_of, plain_end, plain_ends, next_with_calls, seen_of, start_of}
+use Rattle.script_machine.specs.Next.{Next, call_next, is_at_barrier}
 use Rattle.script_machine.specs.Next.Next.{Ends, Goes, Posts, Sends, Recvs, Bars}
 use Rattle.script_machine.specs.Program.{Act, Prim}
 use Rattle.script_plain.specs.Step.{Configuration, all_at_barrier, next_at, slot_at, step_of}
@@ -82,7 +82,7 @@ module _ (script : Script) (rank : ℕ) where
   abbrev pub IsAimedMessage : Posted → Type 0
   IsAimedMessage message = IsPeer script.nue rank message.to
 
-  kept_by : (calls : List DataCall) (n : Next Local) → rank < script.nue → AimedNext n → KeepsNext IsAimedCell IsAimedMessage (recorded calls n)
+  kept_by : (calls : List DataCall) (n : Next Local) → rank < script.nue → AimedNext n → KeepsNext IsAimedCell IsAimedMessage (next_with_calls calls n)
   kept_by calls Ends below on = tt
   kept_by calls (Goes after) below on = (below, on)
   kept_by calls (Posts message after) below on = ((below, on.0), on.1)
@@ -97,22 +97,22 @@ module _ (script : Script) (rank : ℕ) where
 abbrev AreAllAimed : Script → Configuration State → Type 0
 AreAllAimed script c = AllKept (IsAimedCell script) (IsAimedMessage script) (aimed_keeps script) c
 
-start_aimed : (script : Script) → IsWhole script.nue script.items → AreAllAimed script (start_of script)
+start_aimed : (script : Script) → IsWholeScript script.nue script.items → AreAllAimed script (start_of script)
 start_aimed script whole = record {
   cells = λ k u at.
-      let below : k < script.nue = omega (arith, slice_get_within (start_of script).cells k u at, length-map-range_with_len (started script) 0 script.nue) in
-      let begun : IsAimed script k (started script k).local = record { left = program_aimed script k whole below; peered = tt } in
+      let below : k < script.nue = omega (arith, slice_get_within (start_of script).cells k u at, length-map-range_with_len (start_of_rank script) 0 script.nue) in
+      let begun : IsAimed script k (start_of_rank script k).local = record { left = program_aimed script k whole below; peered = tt } in
       (below, subst (λ (v : State). IsAimed script k v.local) (start_cell script k u at) begun);
   slots = λ k message at. absurd (let none : None ≡ Some message = sym (empty_slot script.nue k) ∙ at in cc);
 }
 
-end_aimed : (script : Script) → IsWhole script.nue script.items → AreAllAimed script (plain_end script)
+end_aimed : (script : Script) → IsWholeScript script.nue script.items → AreAllAimed script (plain_end script)
 end_aimed script whole =
     let way = to_plain_end script in
     kept_runs (IsAimedCell script) (IsAimedMessage script) (aimed_keeps script) (keys_of script) way.0 (start_of script) (plain_end script) way.1 (start_aimed script whole)
 
 -- a rank ended at a barrier exactly where one stands next
-barrier_act : (comm : ℕ) (u : Local) (line : ℕ) (a : Act) → ended_at_barrier comm (waits_at line (call_of (next_by_act u line a))) ≡ is_at_barrier comm (next_by_act u line a)
+barrier_act : (comm : ℕ) (u : Local) (line : ℕ) (a : Act) → ended_at_barrier comm (end_waiting_at line (call_next (next_by_act u line a))) ≡ is_at_barrier comm (next_by_act u line a)
 barrier_act comm u line (Act.Bar asked) = refl
 barrier_act comm u line _ = refl
 
@@ -156,12 +156,12 @@ local_here script k u at =
     get_or_from_slice_get (locals_of (plain_end script)) k u.local nobody
     (slice_get-map (λ (v : State). v.local) (plain_end script).cells k ∙ ap (option_map (λ (v : State). v.local)) at)
 
-ended_here : (script : Script) (k : ℕ) → k < script.nue → ended_at (plain_ends script) k ≡ ended (slot_at (plain_end script) k) (local_at (seen_of (plain_end script)).cells k)
+ended_here : (script : Script) (k : ℕ) → k < script.nue → ended_at (plain_ends script) k ≡ end_of_rank (slot_at (plain_end script) k) (local_at (seen_of (plain_end script)).cells k)
 ended_here script k below =
-    get_or-map-range_with_len (λ (rank : ℕ). ended (slot_at (plain_end script) rank) (local_at (seen_of (plain_end script)).cells rank)) 0 (length (seen_of (plain_end script)).cells) k k nothing_ended
+    get_or-map-range_with_len (λ (rank : ℕ). end_of_rank (slot_at (plain_end script) rank) (local_at (seen_of (plain_end script)).cells rank)) 0 (length (seen_of (plain_end script)).cells) k k nothing_ended
     (omega (arith, below, length-plain_end script)) (omega arith)
 
-recorded_barrier : (comm : ℕ) (calls : List DataCall) (n : Next Local) → is_at_barrier comm (recorded calls n) ≡ is_at_barrier comm n
+recorded_barrier : (comm : ℕ) (calls : List DataCall) (n : Next Local) → is_at_barrier comm (next_with_calls calls n) ≡ is_at_barrier comm n
 recorded_barrier comm calls Ends = refl
 recorded_barrier comm calls (Goes after) = refl
 recorded_barrier comm calls (Posts message after) = refl
@@ -212,8 +212,8 @@ module _ (script : Script) where
       by (inr all) =
           let low : (root_in (keys_of script comm) rank) < script.nue = omega (arith, root_within (keys_of script comm) rank, below) in
           let cells = (plain_end script).cells in
-          let u = get_or cells (root_in (keys_of script comm) rank) (started script 0) in
-          let at : slice_get cells (root_in (keys_of script comm) rank) ≡ Some u = slice_get-get_or cells (root_in (keys_of script comm) rank) (started script 0) (omega (arith, low, cell_count)) in
+          let u = get_or cells (root_in (keys_of script comm) rank) (start_of_rank script 0) in
+          let at : slice_get cells (root_in (keys_of script comm) rank) ≡ Some u = slice_get-get_or cells (root_in (keys_of script comm) rank) (start_of_rank script 0) (omega (arith, low, cell_count)) in
           let same : is_with (keys_of script comm) (root_in (keys_of script comm) rank) ≡ is_with (keys_of script comm) rank = with_same (keys_of script comm) (root_in (keys_of script comm) rank) rank (root_with (keys_of script comm) rank) in
           let standing : all_at_barrier next_of comm (is_with (keys_of script comm) rank) cells ≡ true =
           stand_there next_of comm (is_with (keys_of script comm) rank) cells (λ k v member is.
@@ -230,7 +230,7 @@ module _ (script : Script) where
   slot_cause rank (Some message) aims = subst (λ (n : ℕ). IsPeer n rank message.to) (sym (many_ends script)) (aims message refl)
 
   cause_act : (rank line : ℕ) (u : Local) (a : Act) → IsAimedAct script rank a → ((comm : ℕ) → is_at_barrier comm (next_by_act u line a) ≡ true → (k : ℕ) × IsAwaited (keys_of script) (plain_ends script) comm rank k)
-      → HasCause (keys_of script) (plain_ends script) rank (waits_at line (call_of (next_by_act u line a)))
+      → HasCause (keys_of script) (plain_ends script) rank (end_waiting_at line (call_next (next_by_act u line a)))
   cause_act rank line u (Act.Send to head source) aim absent = subst (λ (n : ℕ). IsPeer n rank to) (sym (many_ends script)) aim.0
   cause_act rank line u (Act.Post to reg) aim absent = subst (λ (n : ℕ). IsPeer n rank to) (sym (many_ends script)) aim
   cause_act rank line u (Act.Recv from reg head) aim absent = subst (λ (n : ℕ). IsPeer n rank from) (sym (many_ends script)) aim.0
@@ -261,14 +261,14 @@ module _ (script : Script) where
   slot_way rank (Some message) aims = subst (λ (n : ℕ). IsPeer n rank message.to) (sym (many_ends script)) (aims message refl)
 
   -- how each rank ended has its cause
-  pub explained : IsWhole script.nue script.items → (rank : ℕ) → rank < script.nue → IsExplained (keys_of script) (plain_ends script) rank
+  pub explained : IsWholeScript script.nue script.items → (rank : ℕ) → rank < script.nue → IsExplained (keys_of script) (plain_ends script) rank
   explained whole rank below =
       let all = end_aimed script whole in
       let cells = (plain_end script).cells in
       let slot = slot_at (plain_end script) rank in
-      let u = get_or cells rank (started script 0) in
-      let at : slice_get cells rank ≡ Some u = slice_get-get_or cells rank (started script 0) (omega (arith, below, cell_count)) in
-      let ended_is : ended_at (plain_ends script) rank ≡ ended slot u.local = ended_here script rank below ∙ ap (ended slot) (local_here script rank u at) in
+      let u = get_or cells rank (start_of_rank script 0) in
+      let at : slice_get cells rank ≡ Some u = slice_get-get_or cells rank (start_of_rank script 0) (omega (arith, below, cell_count)) in
+      let ended_is : ended_at (plain_ends script) rank ≡ end_of_rank slot u.local = ended_here script rank below ∙ ap (end_of_rank slot) (local_here script rank u at) in
       let aims : (message : Posted) → slot ≡ Some message → IsPeer script.nue rank message.to = λ message is. all.slots rank message is in
       record {
         cause = subst (λ (e : Ended). HasCause (keys_of script) (plain_ends script) rank e.end) (sym ended_is)

@@ -7,8 +7,8 @@ use Rattle.std.proofs.lemmas.Option.{slice_get-map}
 use Rattle.script_reader.specs.Script.{Script}
 use Rattle.script_plain.specs.declared.matches.Match.{Match}
 use Rattle.script_plain.specs.Code.{BringsAt, BringsLowest}
-use Rattle.script_machine.specs.Local.{Local, cost_of, local_next, line_of}
-use Rattle.script_plain.specs.Matches.{brought, brought_by, line_at, lowest_brought, match_of, matches_on, plain_matches, step_brought, brought_by_take}
+use Rattle.script_machine.specs.Local.{Local, most_steps_left, local_next, statement_line}
+use Rattle.script_plain.specs.Matches.{messages_brought, brought_by, statement_line_at, lowest_brought, match_of, matches_on, plain_matches, step_brought, brought_by_take}
 use Rattle.script_plain.specs.Meaning.{State, keys_of, locals_of, next_of, seen_of, start_of, steps_left}
 use Rattle.script_machine.specs.Next.{Next}
 use Rattle.script_machine.specs.Next.Next.{Ends, Goes, Posts, Sends, Recvs, Bars}
@@ -60,7 +60,7 @@ module _ {U V : Type 0} (f : U → V) (keys : ℕ → ℕ → ℕ) (next : U →
   line_by None = refl
   line_by (Some u) = refl
 
-  line-map : (c : Configuration U) (i : ℕ) → line_at line (view_of f c) i ≡ line_at (λ u. line (f u)) c i
+  line-map : (c : Configuration U) (i : ℕ) → statement_line_at line (view_of f c) i ≡ statement_line_at (λ u. line (f u)) c i
   line-map c i = ap (λ (o : Option V). option_map_or line o 0) (slice_get-map f c.cells i) ∙ line_by (slice_get c.cells i)
 
   brought_by-map : (c : Configuration U) (i : ℕ) (n : Next U) → brought_by line (view_of f c) i (next_map f n) ≡ brought_by (λ u. line (f u)) c i n
@@ -68,12 +68,12 @@ module _ {U V : Type 0} (f : U → V) (keys : ℕ → ℕ → ℕ) (next : U →
   brought_by-map c i (Goes after) = refl
   brought_by-map c i (Posts message after) = refl
   brought_by-map c i (Sends to head bytes after) =
-      ap (λ (k : ℕ). match_of i to head k (line_at line (view_of f c) to) ∷ []) (line-map c i)
-      ∙ ap (λ (k : ℕ). match_of i to head (line_at (λ u. line (f u)) c i) k ∷ []) (line-map c to)
+      ap (λ (k : ℕ). match_of i to head k (statement_line_at line (view_of f c) to) ∷ []) (line-map c i)
+      ∙ ap (λ (k : ℕ). match_of i to head (statement_line_at (λ u. line (f u)) c i) k ∷ []) (line-map c to)
   brought_by-map c i (Recvs from head take refuse) = ap (λ (k : ℕ). brought_by_take i from head k (slot_at c from)) (line-map c i)
   brought_by-map c i (Bars comm after) = refl
 
-  brought-map : (c : Configuration U) (i : ℕ) → brought seen line (view_of f c) i ≡ brought next (λ u. line (f u)) c i
+  brought-map : (c : Configuration U) (i : ℕ) → messages_brought seen line (view_of f c) i ≡ messages_brought next (λ u. line (f u)) c i
   brought-map c i =
       ap (brought_by line (view_of f c) i) (next_at-map f keys next seen sees c i) ∙ brought_by-map c i (next_at next c i)
 
@@ -84,10 +84,10 @@ module _ {U V : Type 0} (f : U → V) (keys : ℕ → ℕ → ℕ) (next : U →
   lowest_brought-map : (c : Configuration U) (n i : ℕ) → lowest_brought keys seen line (view_of f c) n i ≡ lowest_brought keys next (λ u. line (f u)) c n i
   lowest_brought-map c zero i = refl
   lowest_brought-map c (suc n) i =
-      ap (λ (o : Option (Configuration V)). cond (is_some o) (brought seen line (view_of f c) i) (lowest_brought keys seen line (view_of f c) n (i + 1))) (step_of-map f keys next seen sees c i)
-      ∙ ap (λ (b : Bool). cond b (brought seen line (view_of f c) i) (lowest_brought keys seen line (view_of f c) n (i + 1))) (some-map (step_of keys next c i))
+      ap (λ (o : Option (Configuration V)). cond (is_some o) (messages_brought seen line (view_of f c) i) (lowest_brought keys seen line (view_of f c) n (i + 1))) (step_of-map f keys next seen sees c i)
+      ∙ ap (λ (b : Bool). cond b (messages_brought seen line (view_of f c) i) (lowest_brought keys seen line (view_of f c) n (i + 1))) (some-map (step_of keys next c i))
       ∙ ap (λ (l : List Match). cond (is_some (step_of keys next c i)) l (lowest_brought keys seen line (view_of f c) n (i + 1))) (brought-map c i)
-      ∙ ap (λ (l : List Match). cond (is_some (step_of keys next c i)) (brought next (λ u. line (f u)) c i) l) (lowest_brought-map c n (i + 1))
+      ∙ ap (λ (l : List Match). cond (is_some (step_of keys next c i)) (messages_brought next (λ u. line (f u)) c i) l) (lowest_brought-map c n (i + 1))
 
   step_brought-map : (c : Configuration U) → step_brought keys seen line (view_of f c) ≡ step_brought keys next (λ u. line (f u)) c
   step_brought-map c =
@@ -108,47 +108,47 @@ module _ {U V : Type 0} (f : U → V) (keys : ℕ → ℕ → ℕ) (next : U →
       ∙ matches_by-map n c (lowest_step keys next c) (matches_on-map n)
 
 -- the messages of a script, by what its ranks hold
-pub seen_matches : (script : Script) → matches_on (keys_of script) local_next line_of (sum_by cost_of (locals_of (start_of script))) (seen_of (start_of script)) ≡ plain_matches script
+pub seen_matches : (script : Script) → matches_on (keys_of script) local_next statement_line (sum_by most_steps_left (locals_of (start_of script))) (seen_of (start_of script)) ≡ plain_matches script
 seen_matches script =
-    ap (λ (n : ℕ). matches_on (keys_of script) local_next line_of n (seen_of (start_of script))) (sum_by-map cost_of (λ (u : State). u.local) (start_of script).cells)
-    ∙ matches_on-map (λ (u : State). u.local) (keys_of script) next_of local_next line_of state_seen (steps_left (start_of script)) (start_of script)
+    ap (λ (n : ℕ). matches_on (keys_of script) local_next statement_line n (seen_of (start_of script))) (sum_by-map most_steps_left (λ (u : State). u.local) (start_of script).cells)
+    ∙ matches_on-map (λ (u : State). u.local) (keys_of script) next_of local_next statement_line state_seen (steps_left (start_of script)) (start_of script)
 
 -- the search for the step with the lowest owner
 module _ (keys : ℕ → ℕ → ℕ) where
   -- a rank that owns none is passed over
   pub passed_lowest : (moved : Bool) (i : ℕ) (old new : Configuration Local) (before after : List Match) → moved ≡ false → BringsAt keys moved i old new before after → i < length old.cells
-      → lowest keys local_next old (length old.cells - i) i ≡ lowest_step keys local_next old → lowest_brought keys local_next line_of old (length old.cells - i) i ≡ step_brought keys local_next line_of old
-      → (new ≡ old) × (after ≡ before) × (lowest keys local_next new (length new.cells - (i + 1)) (i + 1) ≡ lowest_step keys local_next new) × (lowest_brought keys local_next line_of new (length new.cells - (i + 1)) (i + 1) ≡ step_brought keys local_next line_of new)
+      → lowest keys local_next old (length old.cells - i) i ≡ lowest_step keys local_next old → lowest_brought keys local_next statement_line old (length old.cells - i) i ≡ step_brought keys local_next statement_line old
+      → (new ≡ old) × (after ≡ before) × (lowest keys local_next new (length new.cells - (i + 1)) (i + 1) ≡ lowest_step keys local_next new) × (lowest_brought keys local_next statement_line new (length new.cells - (i + 1)) (i + 1) ≡ step_brought keys local_next statement_line new)
   passed_lowest moved i old new before after is step within left right =
       let rested = subst (λ (b : Bool). BringsAt keys b i old new before after) is step in
       let more : length old.cells - i ≡ suc (length old.cells - (i + 1)) = omega (arith, within) in
       let on : lowest keys local_next old (length old.cells - (i + 1)) (i + 1) ≡ lowest_step keys local_next old =
       sym (lowest_skips keys local_next old (length old.cells - i) (length old.cells - (i + 1)) i more rested.0) ∙ left in
-      let skipped : lowest_brought keys local_next line_of old (length old.cells - (i + 1)) (i + 1) ≡ step_brought keys local_next line_of old =
-      sym (ap (λ (n : ℕ). lowest_brought keys local_next line_of old n i) more
-      ∙ ap (λ (o : Option (Configuration Local)). cond (is_some o) (brought local_next line_of old i) (lowest_brought keys local_next line_of old (length old.cells - (i + 1)) (i + 1))) rested.0) ∙ right in (
+      let skipped : lowest_brought keys local_next statement_line old (length old.cells - (i + 1)) (i + 1) ≡ step_brought keys local_next statement_line old =
+      sym (ap (λ (n : ℕ). lowest_brought keys local_next statement_line old n i) more
+      ∙ ap (λ (o : Option (Configuration Local)). cond (is_some o) (messages_brought local_next statement_line old i) (lowest_brought keys local_next statement_line old (length old.cells - (i + 1)) (i + 1))) rested.0) ∙ right in (
         rested.1,
         rested.2,
         subst (λ (c : Configuration Local). lowest keys local_next c (length c.cells - (i + 1)) (i + 1) ≡ lowest_step keys local_next c) (sym rested.1) on,
-        subst (λ (c : Configuration Local). lowest_brought keys local_next line_of c (length c.cells - (i + 1)) (i + 1) ≡ step_brought keys local_next line_of c) (sym rested.1) skipped,
+        subst (λ (c : Configuration Local). lowest_brought keys local_next statement_line c (length c.cells - (i + 1)) (i + 1) ≡ step_brought keys local_next statement_line c) (sym rested.1) skipped,
       )
 
   -- what a step brings, and then the rest
   pub goes_on : (moved : Bool) (old new : Configuration Local) (before after : List Match) → moved ≡ true → BringsLowest keys moved old new before after
-      → after ++ matches_on keys local_next line_of (sum_by cost_of new.cells) new ≡ before ++ matches_on keys local_next line_of (sum_by cost_of old.cells) old
+      → after ++ matches_on keys local_next statement_line (sum_by most_steps_left new.cells) new ≡ before ++ matches_on keys local_next statement_line (sum_by most_steps_left old.cells) old
   goes_on moved old new before after is step =
       let taken = subst (λ (b : Bool). BringsLowest keys b old new before after) is step in
-      let rest : List Match = matches_on keys local_next line_of (sum_by cost_of new.cells) new in
+      let rest : List Match = matches_on keys local_next statement_line (sum_by most_steps_left new.cells) new in
       ap (λ (l : List Match). l ++ rest) taken.1
-      ∙ append_assoc before (step_brought keys local_next line_of old) rest
-      ∙ ap (λ (l : List Match). before ++ l) (sym (matches_step keys local_next line_of cost_of local_lowers old new taken.0))
+      ∙ append_assoc before (step_brought keys local_next statement_line old) rest
+      ∙ ap (λ (l : List Match). before ++ l) (sym (matches_step keys local_next statement_line most_steps_left local_lowers old new taken.0))
 
   pub was_stepped : (moved : Bool) (old new : Configuration Local) (before after : List Match) → moved ≡ true → BringsLowest keys moved old new before after → lowest_step keys local_next old ≡ Some new
   was_stepped moved old new before after is step = (subst (λ (b : Bool). BringsLowest keys b old new before after) is step).0
 
   -- and where none is enabled nothing is left
   pub comes_to_rest : (moved : Bool) (old new : Configuration Local) (before after : List Match) → moved ≡ false → BringsLowest keys moved old new before after
-      → after ≡ before ++ matches_on keys local_next line_of (sum_by cost_of old.cells) old
+      → after ≡ before ++ matches_on keys local_next statement_line (sum_by most_steps_left old.cells) old
   comes_to_rest moved old new before after is step =
       let rested = subst (λ (b : Bool). BringsLowest keys b old new before after) is step in
-      rested.2 ∙ sym (ap (λ (l : List Match). before ++ l) (matches_none keys local_next line_of cost_of local_lowers (sum_by cost_of old.cells) old rested.0) ∙ append-nil before)
+      rested.2 ∙ sym (ap (λ (l : List Match). before ++ l) (matches_none keys local_next statement_line most_steps_left local_lowers (sum_by most_steps_left old.cells) old rested.0) ∙ append-nil before)

@@ -18,7 +18,7 @@ use Rattle.groups.proofs.StepLemmas.{get_front}
 use Rattle.script_reader.specs.Script.{Script}
 use Rattle.script_machine.specs.declared.posts.Posted.{Posted}
 use Rattle.script_machine.specs.Local.{Local, local_next, local_start}
-use Rattle.script_plain.specs.Meaning.{IsPlainStep, State, keys_of, next_of, plain_end, recorded, start_of, steps_left}
+use Rattle.script_plain.specs.Meaning.{IsPlainStep, State, keys_of, next_of, plain_end, next_with_calls, start_of, steps_left}
 use Rattle.script_plain.specs.Messages.{AreDelivered, AreReceivedAsSent, is_of, received_by, received_from, sent_by, sent_to, waiting_for}
 use Rattle.script_machine.specs.Next.{Next, is_at_barrier, past_barrier}
 use Rattle.script_machine.specs.Next.Next.{Ends, Goes, Posts, Sends, Recvs, Bars}
@@ -141,7 +141,7 @@ Logs calls (Sends to head bytes after) = after.matched ≡ calls ++ Send to head
 Logs calls (Recvs from head take refuse) = ((bytes : List ℕ) → (take bytes).matched ≡ calls ++ Recv from head bytes ∷ []) × ((sent : MessageHead) → (refuse sent).matched ≡ calls)
 Logs calls (Bars comm after) = after.matched ≡ calls ++ Bar comm ∷ []
 
-pub logs : (calls : List DataCall) (n : Next Local) → Logs calls (recorded calls n)
+pub logs : (calls : List DataCall) (n : Next Local) → Logs calls (next_with_calls calls n)
 logs calls Ends = tt
 logs calls (Goes after) = refl
 logs calls (Posts message after) = refl

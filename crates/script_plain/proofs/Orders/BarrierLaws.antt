@@ -14,7 +14,7 @@ use Rattle.scc_base.proofs.Confluence.{other_end}
 use Rattle.script_reader.specs.Script.{Script}
 use Rattle.script_plain.specs.Barriers.{AreMet, finished_barriers, is_barrier}
 use Rattle.script_machine.specs.Local.{Local, local_next, local_start}
-use Rattle.script_plain.specs.Meaning.{IsPlainStep, State, keys_of, next_of, plain_end, recorded, start_of, steps_left}
+use Rattle.script_plain.specs.Meaning.{IsPlainStep, State, keys_of, next_of, plain_end, next_with_calls, start_of, steps_left}
 use Rattle.script_machine.specs.Next.{Next, is_at_barrier, past_barrier}
 use Rattle.script_machine.specs.Next.Next.{Ends, Goes, Posts, Sends, Recvs, Bars}
 use Rattle.script_plain.specs.Step.{Configuration, next_at, all_at_barrier, by_rank, past_if, step_of}
@@ -162,7 +162,7 @@ module _ {U : Type 0} (keys : ℕ → ℕ → ℕ) (next : U → Next U) (count 
 one_call : (comm : ℕ) (calls : List DataCall) (call : DataCall) → count_by (is_barrier comm) (calls ++ call ∷ []) ≡ count_by (is_barrier comm) calls + one_if (is_barrier comm call)
 one_call comm calls call = grind (arith, common_steps)
 
-recorded_counts : (comm : ℕ) (calls : List DataCall) (n : Next Local) → Counts (finished_barriers comm) comm (count_by (is_barrier comm) calls) (recorded calls n)
+recorded_counts : (comm : ℕ) (calls : List DataCall) (n : Next Local) → Counts (finished_barriers comm) comm (count_by (is_barrier comm) calls) (next_with_calls calls n)
 recorded_counts comm calls Ends = tt
 recorded_counts comm calls (Goes after) = refl
 recorded_counts comm calls (Posts message after) = one_call comm calls (Post message.to message.head message.bytes) ∙ omega arith

@@ -15,10 +15,10 @@ use Rattle.script_machine.specs.declared.posts.Posted.{Posted}
 use Rattle.script_plain.specs.Code.{BringsAt, BringsLowest}
 use Rattle.script_plain.specs.Facing.{AreAside, IsAside, IsStillTo, facing_at, heeds}
 use Rattle.script_machine.specs.Next.{facing_of, Next, is_at_barrier}
-use Rattle.script_machine.specs.Local.{Local, local_next, line_of}
-use Rattle.script_plain.specs.Matches.{brought, lowest_brought}
+use Rattle.script_machine.specs.Local.{Local, local_next, statement_line}
+use Rattle.script_plain.specs.Matches.{messages_brought, lowest_brought}
 use Rattle.script_machine.specs.Next.Next.{Ends, Goes, Posts, Sends, Recvs, Bars}
-use Rattle.script_plain.specs.Step.{Configuration, next_at, slot_at, with_cell, with_slot, post_step, match_step, receive_step, all_at_barrier, barrier_step, by_rank, past_if, step_by, step_of, lowest, lowest_step}
+use Rattle.script_plain.specs.Step.{Configuration, next_at, slot_at, with_cell, configuration_with_slot, post_step, match_step, receive_step, all_at_barrier, barrier_step, by_rank, past_if, step_by, step_of, lowest, lowest_step}
 use Rattle.script_plain.proofs.Orders.OrderLaws.{different, get_set, kept}
 use Rattle.script_plain.proofs.Runs.RunLaws as runs
 use Rattle.script_machine.proofs.Choices as choices
@@ -57,7 +57,7 @@ module _ {U : Type 0} (keys : ℕ → ℕ → ℕ) (next : U → Next U) where
     slots = λ k one two. refl;
   }
 
-  keeps_slot : (c : Configuration U) (i j r : ℕ) (v : U) (m : Option Posted) → ((k : ℕ) → k ≢ i → k ≢ j → k ≢ r) → Keeps i j c (with_slot (with_cell c i v) r m)
+  keeps_slot : (c : Configuration U) (i j r : ℕ) (v : U) (m : Option Posted) → ((k : ℕ) → k ≢ i → k ≢ j → k ≢ r) → Keeps i j c (configuration_with_slot (with_cell c i v) r m)
   keeps_slot c i j r v m among = record {
     ranks = length-set c.cells i v;
     cells = λ k one two. set_other c.cells i v k one;
@@ -214,20 +214,20 @@ module _ (keys : ℕ → ℕ → ℕ) where
       still_for keys c d i n faced faces (subst (λ (b : Bool). BringsAt keys b i c d before after) is step).0 still within aside
 
   lowest_at : (c d : Configuration Local) (n i k : ℕ) → IsStillTo keys k c → i ≤ k → k < i + n → step_of keys local_next c k ≡ Some d
-      → (lowest keys local_next c n i ≡ Some d) × (lowest_brought keys local_next line_of c n i ≡ brought local_next line_of c k)
+      → (lowest keys local_next c n i ≡ Some d) × (lowest_brought keys local_next statement_line c n i ≡ messages_brought local_next statement_line c k)
   lowest_at c d zero i k still from below step = absurd (omega (arith, from, below))
   lowest_at c d (suc n) i k still from below step =
       ⊎_elim
       (λ (same : i ≡ k).
       let here : step_of keys local_next c i ≡ Some d = subst (λ (x : ℕ). step_of keys local_next c x ≡ Some d) (sym same) step in (
         ap (λ (o : Option (Configuration Local)). option_or o (lowest keys local_next c n (i + 1))) here,
-        ap (λ (o : Option (Configuration Local)). cond (is_some o) (brought local_next line_of c i) (lowest_brought keys local_next line_of c n (i + 1))) here ∙ ap (brought local_next line_of c) same,
+        ap (λ (o : Option (Configuration Local)). cond (is_some o) (messages_brought local_next statement_line c i) (lowest_brought keys local_next statement_line c n (i + 1))) here ∙ ap (messages_brought local_next statement_line c) same,
       ))
       (λ (apart : i ≢ k).
       let none = still i (omega (arith, from, apart)) in
       let rest = lowest_at c d n (i + 1) k still (omega (arith, from, apart)) (omega (arith, below)) step in (
         ap (λ (o : Option (Configuration Local)). option_or o (lowest keys local_next c n (i + 1))) none ∙ rest.0,
-        ap (λ (o : Option (Configuration Local)). cond (is_some o) (brought local_next line_of c i) (lowest_brought keys local_next line_of c n (i + 1))) none ∙ rest.1,
+        ap (λ (o : Option (Configuration Local)). cond (is_some o) (messages_brought local_next statement_line c i) (lowest_brought keys local_next statement_line c n (i + 1))) none ∙ rest.1,
       ))
       (cases_eq i k)
 

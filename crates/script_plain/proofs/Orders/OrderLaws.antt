@@ -11,7 +11,7 @@ use Rattle.scc_base.proofs.GroupFacts.{root_once, true_with, with_self}
 use Rattle.script_machine.specs.declared.posts.Posted.{Posted}
 use Rattle.script_machine.specs.Next.{Next, is_at_barrier}
 use Rattle.script_machine.specs.Next.Next.{Ends, Goes, Posts, Sends, Recvs, Bars}
-use Rattle.script_plain.specs.Step.{Configuration, next_at, slot_at, with_cell, with_slot, same_head, by_rank, past_if, step_of}
+use Rattle.script_plain.specs.Step.{Configuration, next_at, slot_at, with_cell, configuration_with_slot, same_head, by_rank, past_if, step_of}
 use Rattle.script_machine.proofs.Choices as choices
 use Rattle.script_plain.proofs.Runs.StepLaws as steps
 use Rattle.script_plain.proofs.Runs.StepLaws.Takes.{Alone, Left, Met, Fetched, RefusedPost, RefusedSend, Passed}
@@ -162,7 +162,7 @@ module _ {U : Type 0} (keys : ℕ → ℕ → ℕ) (next : U → Next U) where
   }
 
   -- one rank's state is written, and one slot
-  frame_slot : (c : Configuration U) (a i j : ℕ) (v : U) (m : Option Posted) (cells slots : ℕ → Bool) → cells i ≡ true → slots j ≡ true → ((k : ℕ) → cells k ≡ true → cell_owner c k ≡ a) → ((k : ℕ) → slots k ≡ true → slot_owner c k ≡ a) → ((s : Configuration U) → Agrees cells slots c s → step_of keys next s a ≡ Some (with_slot (with_cell s i v) j m)) → Frame c a
+  frame_slot : (c : Configuration U) (a i j : ℕ) (v : U) (m : Option Posted) (cells slots : ℕ → Bool) → cells i ≡ true → slots j ≡ true → ((k : ℕ) → cells k ≡ true → cell_owner c k ≡ a) → ((k : ℕ) → slots k ≡ true → slot_owner c k ≡ a) → ((s : Configuration U) → Agrees cells slots c s → step_of keys next s a ≡ Some (configuration_with_slot (with_cell s i v) j m)) → Frame c a
   frame_slot c a i j v m cells slots inside slot_inside owned slots_owned answers = record {
     cells = cells;
     slots = slots;
@@ -172,7 +172,7 @@ module _ {U : Type 0} (keys : ℕ → ℕ → ℕ) (next : U → Next U) where
     slot_owned = slots_owned;
     cell_kept = kept_out cells i v inside;
     slot_kept = kept_out slots j m slot_inside;
-    moves = λ s agrees. (with_slot (with_cell s i v) j m, answers s agrees, get_set s.cells i v, get_set s.slots j m);
+    moves = λ s agrees. (configuration_with_slot (with_cell s i v) j m, answers s agrees, get_set s.cells i v, get_set s.slots j m);
   }
 
   -- two ranks' states are written
@@ -218,7 +218,7 @@ module _ {U : Type 0} (keys : ℕ → ℕ → ℕ) (next : U → Next U) where
       frame_slot c a a a after (Some message) (only a) (only a) (eq-eqb a a refl) (eq-eqb a a refl)
       (one_of (λ k. cell_owner c k ≡ a) a (owned_one c a a (Posts message after) stands refl))
       (one_of (λ k. slot_owner c k ≡ a) a (slot_owned_one c a a None (Posts message after) slot stands refl))
-      (λ s agrees. steps.answered keys next s (with_slot (with_cell s a after) a (Some message)) a
+      (λ s agrees. steps.answered keys next s (configuration_with_slot (with_cell s a after) a (Some message)) a
       (Left message after (same_next c s a (Posts message after) (agrees.same_cells a (eq-eqb a a refl)) stands) (same_slot c s a None (agrees.same_slots a (eq-eqb a a refl)) slot) refl))
   frame_kind c d a (Met j head bytes after asked take refuse stands slot there same made) =
       let sends : sender_owner a j head (next_at next c j) ≡ a =
@@ -235,7 +235,7 @@ module _ {U : Type 0} (keys : ℕ → ℕ → ℕ) (next : U → Next U) where
       frame_slot c a a j (take message.bytes) None (only a) (only j) (eq-eqb a a refl) (eq-eqb j j refl)
       (one_of (λ k. cell_owner c k ≡ a) a (owned_one c a a (Recvs j asked take refuse) stands (ap (λ (o : Option Posted). receiver_owner a j asked o (next_at next c j)) slot)))
       (one_of (λ k. slot_owner c k ≡ a) j (ap (λ (o : Option Posted). slot_owner_by c j o (next_at next c j)) slot ∙ mine))
-      (λ s agrees. steps.answered keys next s (with_slot (with_cell s a (take message.bytes)) j None) a
+      (λ s agrees. steps.answered keys next s (configuration_with_slot (with_cell s a (take message.bytes)) j None) a
       (Fetched j asked take refuse message (same_next c s a (Recvs j asked take refuse) (agrees.same_cells a (eq-eqb a a refl)) stands) (same_slot c s j (Some message) (agrees.same_slots j (eq-eqb j j refl)) slot) mine same refl))
   frame_kind c d a (RefusedPost j asked take refuse message stands slot mine same made) =
       frame_one c a a (refuse message.head) (only a) (only j) (eq-eqb a a refl)

@@ -2,7 +2,7 @@
 use Rattle.std.proofs.Common.{◌≡◌, ◌≢◌, ℕ, ◌+◌, ◌<◌, ◌≤◌, Bool, true, false, None, Some, length, sym, ◌∙◌, subst, arith, sum_by, ⊎_elim}
 use Rattle.std.proofs.lemmas.Bool.{cases_eq, cases_lt}
 use Rattle.script_plain.specs.Code.{GoesOn, IsOnTheWay, Moves, StepsAt, Sweeps}
-use Rattle.script_machine.specs.Local.{Local, cost_of, local_next}
+use Rattle.script_machine.specs.Local.{Local, most_steps_left, local_next}
 use Rattle.script_plain.specs.Step.{Configuration, step_of, lowest_step, run_on}
 use Rattle.script_plain.proofs.Orders.EndLaws.{any_step}
 use Rattle.script_plain.proofs.Runs.PlainLaws.{local_lowers}
@@ -14,8 +14,8 @@ module _ (keys : ℕ → ℕ → ℕ) where
 
   step_on : (a b : Configuration Local) (i : ℕ) → step_of keys local_next a i ≡ Some b → IsOnTheWay keys a b
   step_on a b i step = record {
-    same_end = any_step keys local_next cost_of local_lowers i a b step;
-    less = falls keys local_next cost_of local_lowers a b i step;
+    same_end = any_step keys local_next most_steps_left local_lowers i a b step;
+    less = falls keys local_next most_steps_left local_lowers a b i step;
   }
 
   way_after : (moved : Bool) (a b c : Configuration Local) → Moves keys moved a b → IsOnTheWay keys b c → IsOnTheWay keys a c
@@ -28,8 +28,8 @@ module _ (keys : ℕ → ℕ → ℕ) where
       way_after moved a b c far (step_on b c i (subst (λ (t : Bool). StepsAt keys t i b c) is step))
 
   -- after which less is left
-  pub step_less : (took : Bool) (i : ℕ) (b c : Configuration Local) → took ≡ true → StepsAt keys took i b c → sum_by cost_of c.cells < sum_by cost_of b.cells
-  step_less took i b c is step = falls keys local_next cost_of local_lowers b c i (subst (λ (t : Bool). StepsAt keys t i b c) is step)
+  pub step_less : (took : Bool) (i : ℕ) (b c : Configuration Local) → took ≡ true → StepsAt keys took i b c → sum_by most_steps_left c.cells < sum_by most_steps_left b.cells
+  step_less took i b c is step = falls keys local_next most_steps_left local_lowers b c i (subst (λ (t : Bool). StepsAt keys t i b c) is step)
 
   rests_by : (moved : Bool) (i : ℕ) (a b c : Configuration Local) → Moves keys moved a b → (step_of keys local_next b i ≡ None) × (c ≡ b) → GoesOn keys moved i a c
   rests_by true i a b c far none = subst (λ (x : Configuration Local). IsOnTheWay keys a x) (sym none.1) far
@@ -84,4 +84,4 @@ module _ (keys : ℕ → ℕ → ℕ) where
 
   -- where no step is enabled the run has ended
   pub run_ended : (c : Configuration Local) (n : ℕ) → lowest_step keys local_next c ≡ None → c ≡ run_on keys local_next n c
-  run_ended c n none = sym (no_more keys local_next cost_of local_lowers n c none)
+  run_ended c n none = sym (no_more keys local_next most_steps_left local_lowers n c none)

@@ -8,14 +8,14 @@ use Rattle.script_machine.specs.Local.{local_next}
 use Rattle.script_plain.specs.Meaning.{State, next_of}
 use Rattle.script_machine.specs.Next.{Next}
 use Rattle.script_machine.specs.Next.Next.{Goes, Posts, Sends, Recvs, Bars}
-use Rattle.script_plain.specs.Paths.{Did, Came}
-use Rattle.script_plain.specs.Paths.Did.{Here, Own, Left, Sent, Got, Met}
+use Rattle.script_plain.specs.Paths.{DidCalls, Came}
+use Rattle.script_plain.specs.Paths.DidCalls.{Here, Own, Left, Sent, Got, Met}
 use Rattle.script_plain.specs.Paths.Came.{Began, Went, Leaves, Passed, Took, Joined}
 use Rattle.script_plain.proofs.Messages.MessageLaws.{Logs, logs}
 
 -- one path after another
 pub did_more : {U : Type 0} (next : U → Next U) (v w : U) (end final : Option Posted) (more : List DataCall) (u : U) (last : Option Posted) (calls : List DataCall)
-    → Did next v end u last calls → Did next w final v end more → Did next w final u last (calls ++ more)
+    → DidCalls next v end u last calls → DidCalls next w final v end more → DidCalls next w final u last (calls ++ more)
 did_more next v w end final more u last calls Here rest = rest
 did_more next v w end final more u last calls (Own a b l cs step did) rest = Own a b l (cs ++ more) step (did_more next v w end final more b l cs did rest)
 did_more next v w end final more u last calls (Left a b l message cs step did) rest =
@@ -29,7 +29,7 @@ did_more next v w end final more u last calls (Met a b l comm cs step did) rest 
 
 -- a path that grew at its end is a path from its front
 pub came_did : {U : Type 0} (next : U → Next U) (start : U) (u : U) (last : Option Posted) → Came next start u last
-    → (calls : List DataCall) × Did next u last start None calls
+    → (calls : List DataCall) × DidCalls next u last start None calls
 came_did next start u last Began = ([], Here)
 came_did next start u last (Went a b l came step) =
     let (calls, did) = came_did next start a l came in
@@ -52,7 +52,7 @@ pub logged : (u : State) (n : Next State) → next_of u ≡ n → Logs u.matched
 logged u n is = subst (Logs u.matched) is (logs u.matched (local_next u.local))
 
 -- the calls of the state at the end of a path are those of the state at its front, and those on it
-pub did_matched : (v : State) (end : Option Posted) (u : State) (last : Option Posted) (calls : List DataCall) → Did next_of v end u last calls
+pub did_matched : (v : State) (end : Option Posted) (u : State) (last : Option Posted) (calls : List DataCall) → DidCalls next_of v end u last calls
     → v.matched ≡ u.matched ++ calls
 did_matched v end u last calls Here = sym (append-nil v.matched)
 did_matched v end u last calls (Own a b l cs step did) =
@@ -69,8 +69,8 @@ did_matched v end u last calls (Met a b l comm cs step did) =
     did_matched v end b l cs did ∙ ap (λ (xs : List DataCall). xs ++ cs) (logged a (Bars comm b) step) ∙ append_assoc a.matched (Bar comm ∷ []) cs
 
 -- so a state that was come to from a start with no calls has the calls of its path
-pub came_matched : (start u : State) (last : Option Posted) → start.matched ≡ [] → Came next_of start u last → Did next_of u last start None u.matched
+pub came_matched : (start u : State) (last : Option Posted) → start.matched ≡ [] → Came next_of start u last → DidCalls next_of u last start None u.matched
 came_matched start u last none came =
     let (calls, did) = came_did next_of start u last came in
     let same : u.matched ≡ calls = did_matched u last start None calls did ∙ ap (λ (xs : List DataCall). xs ++ calls) none in
-    subst (Did next_of u last start None) (sym same) did
+    subst (DidCalls next_of u last start None) (sym same) did

@@ -5,7 +5,7 @@ use Rattle.scc_base.specs.Runs.{Runs}
 use Rattle.script_reader.specs.Script.{Script}
 use Rattle.script_reader.specs.declared.script.Stmt.{Stmt}
 use Rattle.script_machine.specs.declared.prims.Standing.TheVariants as standing
-use Rattle.script_plain.specs.Collectives.{AreDone, HasDone, HasStatement, gone_by, gone_through, made_by, started}
+use Rattle.script_plain.specs.Collectives.{AreDone, HasDone, HasStatement, gone_by, gone_through, made_by, start_of_rank}
 use Rattle.script_plain.specs.Meaning.{IsPlainStep, State, keys_of, next_of, start_of}
 use Rattle.script_machine.specs.Program.{Prim, acts_of, setup_of}
 use Rattle.script_plain.specs.Step.{Configuration}
@@ -43,11 +43,11 @@ module _ (script : Script) (rank : ℕ) (statement : Stmt) (rest : List Prim) (u
   abbrev Done : Stmt → Type 0
   Done s = (before : State) × (after : State) × HasDone script rank s u before after × (after.local.left ≡ rest)
 
-  done : (path : List (List ℕ)) → IsAsFar u (gone_through path (started script rank)) → length u.local.left ≤ length rest → Done statement
+  done : (path : List (List ℕ)) → IsAsFar u (gone_through path (start_of_rank script rank)) → length u.local.left ≤ length rest → Done statement
   done path far few =
       let acts = acts_of (setup_of script) rank there.item.stmt in
       let made = made_by (setup_of script) rank there.item in
-      let start = started script rank in
+      let start = start_of_rank script rank in
       let whole : Has (there.front ++ (made ++ rest)) start = record { running = refl; left_is = there.whole } in
       let long = long_way (there.front ++ (made ++ rest)) path start whole in
       let sum : length (there.front ++ (made ++ rest)) ≡ length there.front + (length acts + length rest) =

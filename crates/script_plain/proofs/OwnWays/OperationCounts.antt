@@ -12,12 +12,12 @@ use Rattle.groups.specs.declared.collectives.Coll.{Coll}
 use Rattle.groups.specs.declared.collectives.Coll.TheVariants as coll
 use Rattle.groups.specs.declared.operations.Op.TheVariants as op_of
 use Rattle.groups.specs.declared.operations.Ty.TheVariants as ty_of
-use Rattle.script_reader.specs.Checks.{cost_of, has_root, is_known, open_of, opened, operations, run_of, steps_in, turns_in}
-use Rattle.script_reader.specs.Closed.{AreMatched, AreWithin, Closes, HasPass, HavePasses, IsClosed, latest_section}
+use Rattle.script_reader.specs.Checks.{cost_of, has_root, is_known, open_of, repeats_after, operations, run_of, steps_in, turns_in}
+use Rattle.script_reader.specs.Closed.{AreMatched, StayInSection, Closes, HasPass, HavePasses, IsClosed, latest_section}
 use Rattle.script_reader.specs.Effects.{comm_needed, effect_of}
 use Rattle.script_reader.specs.Limits.{most_operations}
 use Rattle.script_reader.specs.Script.{Script, has_rank, rules_of}
-use Rattle.script_reader.specs.Settled.{AreInLine, IsInLine, IsWhole}
+use Rattle.script_reader.specs.Settled.{AreInLine, IsInLine, IsWholeScript}
 use Rattle.script_reader.specs.declared.script.Item.{Item}
 use Rattle.script_reader.specs.declared.script.Stmt.{Stmt}
 use Rattle.script_reader.specs.declared.script.Stmt.TheVariants as stmt
@@ -27,14 +27,14 @@ use Rattle.script_reader.proofs.SettledLemmas.{Extends, key-same, present-low}
 use Rattle.script_reader.specs.declared.effect.Nesting.{Nesting}
 use Rattle.script_reader.specs.declared.effect.Nesting.TheVariants as nesting
 use Rattle.script_machine.specs.declared.prims.Operands.{Operands}
-use Rattle.script_machine.specs.Program.{Prim, Unrolled, acts_of, begins, call_steps, can_call, collective_of, in_front, marked, marks_by, marks_in, part_of, parts_of, program_of, setup_of}
+use Rattle.script_machine.specs.Program.{Prim, Unrolled, acts_of, begins, call_steps, can_call, collective_of, in_front, unrolled_marks, marks_by, marks_in, part_of, parts_of, program_of, setup_of}
 use Rattle.script_machine.proofs.ProgramLengths.CallableLaws.{callable, known}
 use Rattle.script_machine.proofs.Walks.MarkLaws.{fewer_prims, program_is}
 use Rattle.script_plain.proofs.Collectives.ReductionPaths.{fold_operands}
 use Rattle.script_machine.proofs.Choices as choices
 use Rattle.script_plain.proofs.OwnWays.RepeatCounts.{Counts, IsOther, IsStack, cast_steps, counts_closes, counts_repeated, counts_stays, in_line, line_back, lined_up, matched_back, once_back, one_opened, popped, root_by_key, rule_on, same_stack, seam, sorted, steps_by, top_of, within_back}
 
-module _ (script : Script) (whole : IsWhole script.nue script.items) (rank : ℕ) (below : rank < script.nue) where
+module _ (script : Script) (whole : IsWholeScript script.nue script.items) (rank : ℕ) (below : rank < script.nue) where
   -- a call of a statement costs the steps that it makes
   module _ (past : List Item) (e : Extends (rules_of (reverse past)) (rules_of script.items)) where
     made : (o : Operands) (c : Coll) → can_call (setup_of script) rank c ≡ true → length (parts_of o (call_steps (setup_of script) rank c)) ≡ length (steps_of (setup_of script) rank c)
@@ -119,8 +119,8 @@ module _ (script : Script) (whole : IsWhole script.nue script.items) (rank : ℕ
   too_few list none some = omega (arith, ap length none, some)
 
   -- the repeats that are open behind a statement
-  behind_is : (past : List Item) (item : Item) (s : Stmt) → item.stmt ≡ s → open_of (item ∷ past) ≡ opened (effect_of s).nesting (length past) (open_of past)
-  behind_is past item s is = ap (λ (t : Stmt). opened (effect_of t).nesting (length past) (open_of past)) is
+  behind_is : (past : List Item) (item : Item) (s : Stmt) → item.stmt ≡ s → open_of (item ∷ past) ≡ repeats_after (effect_of s).nesting (length past) (open_of past)
+  behind_is past item s is = ap (λ (t : Stmt). repeats_after (effect_of t).nesting (length past) (open_of past)) is
 
   -- behind a statement of other ranks
   outside : (past : List Item) (item : Item) → has_rank item.who rank ≡ false → 1 ≤ length (open_of (item ∷ past)) → Stands (item ∷ past) []
@@ -211,7 +211,7 @@ module _ (script : Script) (whole : IsWhole script.nue script.items) (rank : ℕ
   record IsRead (list : List Item) : Type 0 where
     line : AreInLine script.nue list
     matched : AreMatched list
-    within : AreWithin list
+    within : StayInSection list
     once : HavePasses list
     none : open_of list ≡ []
 
@@ -229,8 +229,8 @@ module _ (script : Script) (whole : IsWhole script.nue script.items) (rank : ℕ
   ended past [] none stands = (refl, refl)
   ended past (t ∷ stack) none (Inside _ (before, times, end, place, is, turns, rest) own) = absurd (omega (arith, ap length none, ap length is, one_opened before times end place))
 
-  counted : (items past : List Item) → script.items ≡ reverse past ++ items → IsRead (reverse items ++ past) → (stack : List ℕ) → Stands past stack → Counts (more past items) stack (marked (setup_of script) rank items)
-  unfolding marked
+  counted : (items past : List Item) → script.items ≡ reverse past ++ items → IsRead (reverse items ++ past) → (stack : List ℕ) → Stands past stack → Counts (more past items) stack (unrolled_marks (setup_of script) rank items)
+  unfolding unrolled_marks
   counted [] past is read stack stands = ended past stack read.none stands
   counted (item ∷ items) past is read stack stands =
       let here : IsRead (reverse items ++ item ∷ past) = subst IsRead (turn item items past) read in
@@ -247,12 +247,12 @@ module _ (script : Script) (whole : IsWhole script.nue script.items) (rank : ℕ
         closes = (matched_back (reverse items) (item ∷ past) here.matched).1;
         once = (once_back (reverse items) (item ∷ past) here.once).1;
       } in
-      counted_by past item (marked (setup_of script) rank items) (more (item ∷ past) items) stack
+      counted_by past item (unrolled_marks (setup_of script) rank items) (more (item ∷ past) items) stack
       (λ has. cost past e (length (reverse past)) item found has item.stmt refl (line.present rank below has)) placed
       (λ later stood. counted items (item ∷ past) next here later stood) stands (has_rank item.who rank) refl
 
 -- the primitives and the ends of passes of a rank are as many as its operations
-pub as_many : (script : Script) → IsWhole script.nue script.items → IsClosed script → (rank : ℕ) → rank < script.nue → length (marks_in script rank) ≡ operations script.nue (reverse script.items) rank
+pub as_many : (script : Script) → IsWholeScript script.nue script.items → IsClosed script → (rank : ℕ) → rank < script.nue → length (marks_in script rank) ≡ operations script.nue (reverse script.items) rank
 as_many script whole closed rank below =
     let flat = append-nil (reverse script.items) in
     let read : IsRead script whole rank below (reverse script.items ++ []) = subst (IsRead script whole rank below) (sym flat) (record {
@@ -267,7 +267,7 @@ as_many script whole closed rank below =
     let same = ap (λ (l : List Item). operations script.nue l rank) flat in
     omega (arith, c.0, all, same)
 
-pub few_enough : (script : Script) → IsWhole script.nue script.items → IsClosed script → (rank : ℕ) → rank < script.nue → length (program_of script rank) ≤ most_operations
+pub few_enough : (script : Script) → IsWholeScript script.nue script.items → IsClosed script → (rank : ℕ) → rank < script.nue → length (program_of script rank) ≤ most_operations
 few_enough script whole closed rank below =
     let less = fewer_prims (marks_in script rank) in
     let same = ap length (program_is script rank) in

@@ -8,11 +8,11 @@ use Rattle.scc_base.specs.Groups.{is_with}
 use Rattle.scc_base.specs.Heads.{MessageHead}
 use Rattle.scc_base.specs.Runs.{Runs}
 use Rattle.script_reader.specs.Script.{Script}
-use Rattle.script_plain.specs.Collectives.{AreOwnWays, gone_by, gone_through, started}
+use Rattle.script_plain.specs.Collectives.{AreOwnWays, gone_by, gone_through, start_of_rank}
 use Rattle.scc_base.specs.Calls.{DataCall}
 use Rattle.script_machine.specs.Program.{Act, Prim}
 use Rattle.script_machine.specs.Local.{Local, local_next, next_by_act, next_by_prim, prim_by_standing}
-use Rattle.script_plain.specs.Meaning.{IsPlainStep, State, keys_of, next_of, recorded, start_of}
+use Rattle.script_plain.specs.Meaning.{IsPlainStep, State, keys_of, next_of, next_with_calls, start_of}
 use Rattle.script_machine.specs.Next.{Next, is_at_barrier, past_barrier}
 use Rattle.script_machine.specs.Next.Next.{Ends, Goes, Posts, Sends, Recvs, Bars}
 use Rattle.script_plain.specs.Step.{Configuration, next_at, all_at_barrier, by_rank, past_if}
@@ -42,12 +42,12 @@ abbrev Stops : Next State → Type 0
 Stops (Recvs from head take refuse) = (sent : MessageHead) → next_of (refuse sent) ≡ Ends
 Stops _ = Unit {0}
 
-stops : (calls : List DataCall) (n : Next Local) → StopsAt n → Stops (recorded calls n)
+stops : (calls : List DataCall) (n : Next Local) → StopsAt n → Stops (next_with_calls calls n)
 stops calls Ends each = tt
 stops calls (Goes after) each = tt
 stops calls (Posts message after) each = tt
 stops calls (Sends to head bytes after) each = tt
-stops calls (Recvs from head take refuse) each = λ sent. ap (recorded calls) (stopped_ends (refuse sent) (each sent))
+stops calls (Recvs from head take refuse) each = λ sent. ap (next_with_calls calls) (stopped_ends (refuse sent) (each sent))
 stops calls (Bars comm after) each = tt
 
 -- and uses up no primitive
@@ -55,12 +55,12 @@ abbrev Stays : List Prim → Next State → Type 0
 Stays left (Recvs from head take refuse) = (sent : MessageHead) → (refuse sent).local.left ≡ left
 Stays left _ = Unit {0}
 
-stays_act : (u : State) (line : ℕ) (a : Act) → Stays u.local.left (recorded u.matched (next_by_act u.local line a))
+stays_act : (u : State) (line : ℕ) (a : Act) → Stays u.local.left (next_with_calls u.matched (next_by_act u.local line a))
 stays_act u line (Act.Recv from reg head) = λ sent. refl
 stays_act u line (Act.Gather from head sized) = λ sent. refl
 stays_act u line _ = tt
 
-stays_prim : (u : State) (o : Option Prim) → Stays u.local.left (recorded u.matched (next_by_prim u.local o))
+stays_prim : (u : State) (o : Option Prim) → Stays u.local.left (next_with_calls u.matched (next_by_prim u.local o))
 stays_prim u None = tt
 stays_prim u (Some prim) = stays_act u prim.line prim.act
 
@@ -159,24 +159,24 @@ range_at a (suc n) zero x at = let is : a ≡ x = same_Some a x at in omega (ari
 range_at a (suc n) (suc k) x at = let rest = range_at (a + 1) n k x at in omega (arith, rest)
 
 -- at the start all is as it started
-pub start_cell : (script : Script) (k : ℕ) (u : State) → slice_get (start_of script).cells k ≡ Some u → started script k ≡ u
+pub start_cell : (script : Script) (k : ℕ) (u : State) → slice_get (start_of script).cells k ≡ Some u → start_of_rank script k ≡ u
 start_cell script k u at =
     by (slice_get (range_with_len 0 script.nue) k) refl
-    (sym (slice_get-map (started script) (range_with_len 0 script.nue) k) ∙ at)
+    (sym (slice_get-map (start_of_rank script) (range_with_len 0 script.nue) k) ∙ at)
   where
-    by : (o : Option ℕ) → slice_get (range_with_len 0 script.nue) k ≡ o → option_map (started script) o ≡ Some u → started script k ≡ u
+    by : (o : Option ℕ) → slice_get (range_with_len 0 script.nue) k ≡ o → option_map (start_of_rank script) o ≡ Some u → start_of_rank script k ≡ u
     by None there is = absurd (cc)
     by (Some rank) there is =
-        ap (started script) (let is = range_at 0 script.nue k rank there in omega (arith, is)) ∙ same_Some (started script rank) u is
+        ap (start_of_rank script) (let is = range_at 0 script.nue k rank there in omega (arith, is)) ∙ same_Some (start_of_rank script rank) u is
 
 -- wherever steps lead from the start
 pub own_as_far : (script : Script) (n : ℕ) (c : Configuration State) → Runs (IsPlainStep (keys_of script)) (λ e. e ≡ c) n (start_of script) → (rank : ℕ) (u : State) → slice_get c.cells rank ≡ Some u
-    → (path : List (List ℕ)) × IsAsFar u (gone_through path (started script rank))
+    → (path : List (List ℕ)) × IsAsFar u (gone_through path (start_of_rank script rank))
 own_as_far script n c run rank u at =
     ⊎_elim
-    (λ (own : (path : List (List ℕ)) × (u ≡ gone_through path (started script rank))). (own.0, (ap (λ (x : State). x.matched) own.1, ap (λ (x : State). x.local.left) own.1)))
-    (λ (own : (next_of u ≡ Ends) × (path : List (List ℕ)) × IsAsFar u (gone_through path (started script rank))). (own.1, own.2))
-    (own_runs (started script) (keys_of script) n (start_of script) c run (λ k v there. inl ([], sym (start_cell script k v there))) rank u at)
+    (λ (own : (path : List (List ℕ)) × (u ≡ gone_through path (start_of_rank script rank))). (own.0, (ap (λ (x : State). x.matched) own.1, ap (λ (x : State). x.local.left) own.1)))
+    (λ (own : (next_of u ≡ Ends) × (path : List (List ℕ)) × IsAsFar u (gone_through path (start_of_rank script rank))). (own.1, own.2))
+    (own_runs (start_of_rank script) (keys_of script) n (start_of script) c run (λ k v there. inl ([], sym (start_cell script k v there))) rank u at)
 
 pub own_ways : (script : Script) (n : ℕ) (c : Configuration State) → Runs (IsPlainStep (keys_of script)) (λ e. e ≡ c) n (start_of script) → AreOwnWays script c
 own_ways script n c run rank u at = let own = own_as_far script n c run rank u at in (own.0, own.1.0)

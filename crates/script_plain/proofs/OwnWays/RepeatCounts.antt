@@ -13,8 +13,8 @@ use Rattle.groups.specs.Collectives.{comm_of, other_steps, root_place, root_step
 use Rattle.groups.specs.declared.collectives.Coll.{Coll}
 use Rattle.groups.specs.declared.collectives.Coll.TheVariants as coll
 use Rattle.groups.specs.declared.collectives.Step.{Step}
-use Rattle.script_reader.specs.Checks.{has_root, open_of, opened, turns_in}
-use Rattle.script_reader.specs.Closed.{AreMatched, AreWithin, HavePasses}
+use Rattle.script_reader.specs.Checks.{has_root, open_of, repeats_after, turns_in}
+use Rattle.script_reader.specs.Closed.{AreMatched, StayInSection, HavePasses}
 use Rattle.script_reader.specs.Effects.{effect_of}
 use Rattle.script_reader.specs.Script.{rules_of}
 use Rattle.script_reader.specs.Settled.{AreInLine}
@@ -23,7 +23,7 @@ use Rattle.script_reader.specs.declared.script.Stmt.{Stmt}
 use Rattle.script_reader.specs.declared.script.Stmt.TheVariants as stmt
 use Rattle.script_reader.proofs.SettledLemmas.{same-more}
 use Rattle.script_reader.specs.declared.effect.Nesting.TheVariants as nesting
-use Rattle.script_machine.specs.Program.{Act, Prim, Unrolled, copies, in_front, repeated}
+use Rattle.script_machine.specs.Program.{Act, Prim, Unrolled, copies, in_front, unrolled_repeat}
 
 -- what a statement does, in its line
 abbrev pub in_line : ℕ → List Act → List Prim
@@ -53,19 +53,19 @@ pub popped : {A : Type 0} (front : List A) (last : A) → take (length (front ++
 popped front last = ap (λ (n : ℕ). take n (front ++ last ∷ [])) (one_less front last) ∙ take-append_seam front (last ∷ [])
 
 -- what a repeat opens
-pub one_opened : (past : List Item) (times end place : ℕ) → length (opened (nesting.Opens times) place (open_of past)) ≡ length (open_of past) + 1
+pub one_opened : (past : List Item) (times end place : ℕ) → length (repeats_after (nesting.Opens times) place (open_of past)) ≡ length (open_of past) + 1
 one_opened past times end place = length-append (open_of past) _
 
-pub turns_opened : (past : List Item) (times end place : ℕ) → turns_in (opened (nesting.Opens times) place (open_of past)) ≡ turns_in (open_of past) * times
+pub turns_opened : (past : List Item) (times end place : ℕ) → turns_in (repeats_after (nesting.Opens times) place (open_of past)) ≡ turns_in (open_of past) * times
 turns_opened past times end place =
-    ap (λ (n : ℕ). option_map_or (λ r. r.turns) (slice_get (opened (nesting.Opens times) place (open_of past)) n) 1) (one_less (open_of past) _)
+    ap (λ (n : ℕ). option_map_or (λ r. r.turns) (slice_get (repeats_after (nesting.Opens times) place (open_of past)) n) 1) (one_less (open_of past) _)
     ∙ ap (λ o. option_map_or (λ r. r.turns) o 1) (seam (open_of past) _ [])
 
 -- how often a statement in each open repeat runs, the innermost one first: each was opened behind statements of its own
 abbrev pub IsStack : List Item → List ℕ → Type 0
 IsStack past [] = open_of past ≡ []
 IsStack past (t ∷ stack) =
-    (before : List Item) × (times : ℕ) × (end : ℕ) × (place : ℕ) × (open_of past ≡ opened (nesting.Opens times) place (open_of before)) × (t ≡ turns_in (open_of before) * times) × IsStack before stack
+    (before : List Item) × (times : ℕ) × (end : ℕ) × (place : ℕ) × (open_of past ≡ repeats_after (nesting.Opens times) place (open_of before)) × (t ≡ turns_in (open_of before) * times) × IsStack before stack
 
 abbrev pub top : List ℕ → ℕ
 top [] = 1
@@ -81,7 +81,7 @@ same_stack past before (t ∷ stack) same (b, times, end, place, is, turns, rest
 
 -- a statement that is no repeat and no end
 pub record IsOther (s : Stmt) : Type 0 where
-  pub opens : (place : ℕ) (past : List Item) → opened (effect_of s).nesting place (open_of past) ≡ open_of past
+  pub opens : (place : ℕ) (past : List Item) → repeats_after (effect_of s).nesting place (open_of past) ≡ open_of past
   pub stays : (effect_of s).nesting ≡ nesting.Stays
 
 -- what is true of repeats, of ends and of the others
@@ -123,7 +123,7 @@ passes t (suc k) b once =
     omega (arith, far, all, spread t (k * b) b)
 
 pub counts_repeated : (turns times m : ℕ) (stack : List ℕ) (here : List (Option Prim)) (behind : List (List (Option Prim))) → turns ≡ top stack → 1 ≤ times
-    → Counts m (turns * times ∷ stack) (record { here = here; behind = behind }) → Counts (turns * 0 + m) stack (repeated times here behind)
+    → Counts m (turns * times ∷ stack) (record { here = here; behind = behind }) → Counts (turns * 0 + m) stack (unrolled_repeat times here behind)
 counts_repeated turns times m stack here [] is once c = absurd (omega (arith, c.1))
 counts_repeated turns times m stack here (next ∷ behind) is once c =
     let t = top stack in
@@ -172,7 +172,7 @@ pub matched_back : (front past : List Item) → AreMatched (front ++ past) → A
 matched_back [] past all = all
 matched_back (item ∷ front) past all = matched_back front past all.0
 
-pub within_back : (front past : List Item) → AreWithin (front ++ past) → AreWithin past
+pub within_back : (front past : List Item) → StayInSection (front ++ past) → StayInSection past
 within_back [] past all = all
 within_back (item ∷ front) past all = within_back front past all.0
 

@@ -14,11 +14,11 @@ use Rattle.groups.specs.declared.operations.Op.{Op}
 use Rattle.groups.specs.declared.operations.Ty.{Ty}
 use Rattle.groups.specs.declared.operations.Ty.TheVariants as ty_of
 use Rattle.script_reader.specs.Script.{Script, has_rank, rules_of}
-use Rattle.script_reader.specs.Settled.{IsWhole}
+use Rattle.script_reader.specs.Settled.{IsWholeScript}
 use Rattle.script_reader.specs.declared.script.Item.{Item}
 use Rattle.script_reader.specs.declared.script.Stmt.TheVariants as stmt
 use Rattle.script_machine.specs.declared.posts.Posted.{Posted}
-use Rattle.script_plain.specs.Collectives.{gone_through, started}
+use Rattle.script_plain.specs.Collectives.{gone_through, start_of_rank}
 use Rattle.script_machine.specs.Local.{register_at}
 use Rattle.script_plain.specs.Meaning.{IsPlainStep, State, keys_of, next_of, start_of}
 use Rattle.script_machine.specs.Next.{Next, is_at_barrier, past_barrier}
@@ -26,7 +26,7 @@ use Rattle.script_machine.specs.Next.Next.{Ends, Goes, Posts, Sends, Recvs, Bars
 use Rattle.script_machine.specs.Program.{setup_of}
 use Rattle.script_plain.specs.Step.{Configuration, all_at_barrier, by_rank, next_at, past_if, same_head, slot_at}
 use Rattle.script_machine.proofs.ProgramLengths.LengthLemmas.{IsEven, Reckons, reckoned}
-use Rattle.script_plain.specs.Kept.{Holds, reckoned_at}
+use Rattle.script_plain.specs.Kept.{HoldsLength, reckoned_at}
 use Rattle.script_plain.proofs.ProgramLengths.LengthPaths.{AreFitting, IsSound, SoundNext, fitting_before, sound_next, sound_through}
 use Rattle.script_plain.proofs.ProgramLengths.LengthPrograms.{keeps_items}
 use Rattle.script_plain.proofs.Messages.MessageLaws.{cell_other, cell_there, empty_slot, same_heads}
@@ -149,7 +149,7 @@ empty_register zero reg = refl
 empty_register (suc n) zero = refl
 empty_register (suc n) (suc reg) = empty_register n reg
 
-pub sound_started : (script : Script) (rank : ℕ) → IsWhole script.nue script.items → rank < script.nue → IsSound (reckoned_at script rank) (started script rank)
+pub sound_started : (script : Script) (rank : ℕ) → IsWholeScript script.nue script.items → rank < script.nue → IsSound (reckoned_at script rank) (start_of_rank script rank)
 sound_started script rank whole below = record {
   fits = record {
     acc = None;
@@ -162,10 +162,10 @@ sound_started script rank whole below = record {
   calls = tt;
 }
 
-sound_start : (script : Script) → IsWhole script.nue script.items → IsSoundIn script.nue (reckoned_at script) (start_of script)
+sound_start : (script : Script) → IsWholeScript script.nue script.items → IsSoundIn script.nue (reckoned_at script) (start_of script)
 sound_start script whole = record {
   cells = λ k u at.
-      let many : length (start_of script).cells ≡ script.nue = length-map-range_with_len (started script) 0 script.nue in
+      let many : length (start_of script).cells ≡ script.nue = length-map-range_with_len (start_of_rank script) 0 script.nue in
       let below : k < script.nue = omega (arith, slice_get_within (start_of script).cells k u at, many) in
       (below, subst (IsSound (reckoned_at script k)) (start_cell script k u at) (sound_started script k whole below));
   slots = λ k m at. absurd (let none : slot_at (start_of script) k ≡ None = empty_slot script.nue k in cc);
@@ -176,11 +176,11 @@ none_even : (ty : Ty) → 0 % bytes_in ty ≡ 0
 none_even ty_of.Int = refl
 none_even ty_of.Long = refl
 
-even_by : (ty : Ty) (o : Option ℕ) (m : ℕ) → IsEven ty o → Holds o m → m % bytes_in ty ≡ 0
+even_by : (ty : Ty) (o : Option ℕ) (m : ℕ) → IsEven ty o → HoldsLength o m → m % bytes_in ty ≡ 0
 even_by ty o m even (inl none) = ap (λ (x : ℕ). x % bytes_in ty) none ∙ none_even ty
 even_by ty o m even (inr is) = ap (λ (x : ℕ). x % bytes_in ty) (same_Some m even.0 (sym is ∙ even.1)) ∙ even.2
 
-module _ (script : Script) (whole : IsWhole script.nue script.items) (n : ℕ) (c : Configuration State) (run : Runs (IsPlainStep (keys_of script)) (λ e. e ≡ c) n (start_of script))
+module _ (script : Script) (whole : IsWholeScript script.nue script.items) (n : ℕ) (c : Configuration State) (run : Runs (IsPlainStep (keys_of script)) (λ e. e ≡ c) n (start_of script))
     (rank : ℕ) (u : State) (there : slice_get c.cells rank ≡ Some u) where
   sound_now : IsSoundAt script.nue (reckoned_at script) rank u
   sound_now = (sound_runs script.nue (reckoned_at script) (keys_of script) n (start_of script) c run (sound_start script whole)).cells rank u there
@@ -190,27 +190,27 @@ module _ (script : Script) (whole : IsWhole script.nue script.items) (n : ℕ) (
   rank_within = sound_now.0
 
   -- and wherever the rank stood on its way
-  pub lengths_before : (way later : List (List ℕ)) (begun : State) → begun ≡ gone_through way (started script rank) → u.matched ≡ (gone_through later begun).matched
-      → (reg : ℕ) → Holds (reckoned_at script rank reg) (length (register_at begun.local reg))
+  pub lengths_before : (way later : List (List ℕ)) (begun : State) → begun ≡ gone_through way (start_of_rank script rank) → u.matched ≡ (gone_through later begun).matched
+      → (reg : ℕ) → HoldsLength (reckoned_at script rank reg) (length (register_at begun.local reg))
   lengths_before way later begun came since reg =
       let calls : AreFitting begun.matched = fitting_before later begun (subst AreFitting since sound_now.1.calls) in
-      let stood = sound_through (reckoned_at script rank) way (started script rank) (sound_started script rank whole sound_now.0) (subst (λ (x : State). AreFitting x.matched) came calls) in
-      subst (λ (x : State). Holds (reckoned_at script rank reg) (length (register_at x.local reg))) (sym came) (stood.fits.registers reg)
+      let stood = sound_through (reckoned_at script rank) way (start_of_rank script rank) (sound_started script rank whole sound_now.0) (subst (λ (x : State). AreFitting x.matched) came calls) in
+      subst (λ (x : State). HoldsLength (reckoned_at script rank reg) (length (register_at x.local reg))) (sym came) (stood.fits.registers reg)
 
   -- the source of a reduction has whole values
-  source_whole : (way later : List (List ℕ)) (begun : State) → begun ≡ gone_through way (started script rank) → u.matched ≡ (gone_through later begun).matched
+  source_whole : (way later : List (List ℕ)) (begun : State) → begun ≡ gone_through way (start_of_rank script rank) → u.matched ≡ (gone_through later begun).matched
       → (ty : Ty) (src : ℕ) → IsEven ty (reckoned_at script rank src) → length (register_at begun.local src) % bytes_in ty ≡ 0
   source_whole way later begun came since ty src even =
       even_by ty (reckoned_at script rank src) (length (register_at begun.local src)) even (lengths_before way later begun came since src)
 
-  pub reduced_whole : (way later : List (List ℕ)) (begun : State) → begun ≡ gone_through way (started script rank) → u.matched ≡ (gone_through later begun).matched
+  pub reduced_whole : (way later : List (List ℕ)) (begun : State) → begun ≡ gone_through way (start_of_rank script rank) → u.matched ≡ (gone_through later begun).matched
       → (k : ℕ) (item : Item) → slice_get script.items k ≡ Some item → has_rank item.who rank ≡ true
       → (comm place dst src : ℕ) (op : Op) (ty : Ty) → item.stmt ≡ stmt.Reduce comm place op ty dst src → length (register_at begun.local src) % bytes_in ty ≡ 0
   reduced_whole way later begun came since k item found has comm place dst src op ty is =
       let reckons = subst (Reckons (rules_of script.items) (reckoned_at script rank) rank) is (reckoned script whole k item rank found sound_now.0 has) in
       source_whole way later begun came since ty src reckons.0
 
-  pub reduced_to_all_whole : (way later : List (List ℕ)) (begun : State) → begun ≡ gone_through way (started script rank) → u.matched ≡ (gone_through later begun).matched
+  pub reduced_to_all_whole : (way later : List (List ℕ)) (begun : State) → begun ≡ gone_through way (start_of_rank script rank) → u.matched ≡ (gone_through later begun).matched
       → (k : ℕ) (item : Item) → slice_get script.items k ≡ Some item → has_rank item.who rank ≡ true
       → (comm dst src : ℕ) (op : Op) (ty : Ty) → item.stmt ≡ stmt.Allreduce comm op ty dst src → length (register_at begun.local src) % bytes_in ty ≡ 0
   reduced_to_all_whole way later begun came since k item found has comm dst src op ty is =

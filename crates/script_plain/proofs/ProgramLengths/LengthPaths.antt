@@ -9,10 +9,10 @@ use Rattle.scc_base.specs.Heads.{MessageHead}
 use Rattle.script_machine.specs.declared.prims.Standing.{Standing}
 use Rattle.script_machine.specs.declared.prims.Standing.TheVariants as standing
 use Rattle.script_plain.specs.Collectives.{gone_by, gone_through}
-use Rattle.script_plain.specs.Kept.{Fits, FitsNext, Holds, Keeps, Sets, folding, gathering, sized_by}
+use Rattle.script_plain.specs.Kept.{Fits, FitsNext, HoldsLength, Keeps, Sets, folding, gathering, sized_by}
 use Rattle.script_machine.specs.Lengths.{Lengths}
 use Rattle.script_machine.specs.Local.{Local, asked_head, gone_on_alone, local_next, next_by_act, next_by_prim, prim_by_standing, register_at}
-use Rattle.script_plain.specs.Meaning.{State, next_of, recorded}
+use Rattle.script_plain.specs.Meaning.{State, next_of, next_with_calls}
 use Rattle.script_machine.specs.Next.{Next}
 use Rattle.script_machine.specs.Next.Next.{Ends, Goes, Posts, Sends, Recvs, Bars}
 use Rattle.script_machine.specs.Program.{Act, Prim}
@@ -21,34 +21,34 @@ use Rattle.script_plain.proofs.Messages.MessageLaws.{Logs, logs}
 use Rattle.script_machine.proofs.ProgramLengths.NextLengths.{after, length_same, lengths_next, own_even}
 
 -- a register is written
-holds_set : (had : ℕ → Option ℕ) (registers : List (List ℕ)) (reg : ℕ) (bytes : List ℕ) → Holds (had reg) (length bytes) → ((r : ℕ) → Holds (had r) (length (get_or registers r []))) → (r : ℕ) → Holds (had r) (length (get_or (set registers reg bytes) r []))
+holds_set : (had : ℕ → Option ℕ) (registers : List (List ℕ)) (reg : ℕ) (bytes : List ℕ) → HoldsLength (had reg) (length bytes) → ((r : ℕ) → HoldsLength (had r) (length (get_or registers r []))) → (r : ℕ) → HoldsLength (had r) (length (get_or (set registers reg bytes) r []))
 holds_set had registers reg bytes new all r =
     ⊎_elim
-    (λ (same : r ≡ reg). subst (λ (x : ℕ). Holds (had x) (length (get_or (set registers reg bytes) x []))) (sym same) here)
-    (λ (apart : r ≢ reg). subst (λ (b : List ℕ). Holds (had r) (length b)) (sym (get_or-set_other registers reg r bytes [] apart)) (all r))
+    (λ (same : r ≡ reg). subst (λ (x : ℕ). HoldsLength (had x) (length (get_or (set registers reg bytes) x []))) (sym same) here)
+    (λ (apart : r ≢ reg). subst (λ (b : List ℕ). HoldsLength (had r) (length b)) (sym (get_or-set_other registers reg r bytes [] apart)) (all r))
     (cases_eq r reg)
   where
-    here : Holds (had reg) (length (get_or (set registers reg bytes) reg []))
+    here : HoldsLength (had reg) (length (get_or (set registers reg bytes) reg []))
     here =
         ⊎_elim
-        (λ (within : reg < length registers). subst (λ (b : List ℕ). Holds (had reg) (length b)) (sym (get_or-set_same registers reg bytes [] within)) new)
+        (λ (within : reg < length registers). subst (λ (b : List ℕ). HoldsLength (had reg) (length b)) (sym (get_or-set_same registers reg bytes [] within)) new)
         (λ (past : length registers ≤ reg). inl (ap length (get_or_past (set registers reg bytes) reg [] (omega (arith, past, length-set registers reg bytes)))))
         (cases_lt reg (length registers))
 
 -- a posted register has one chunk at most, so that its head has its length
-post_even : (o : Option ℕ) (n m : ℕ) → Holds o n → o ≡ Some m → m ≤ 3584 → n ≡ min n 3584
+post_even : (o : Option ℕ) (n m : ℕ) → HoldsLength o n → o ≡ Some m → m ≤ 3584 → n ≡ min n 3584
 post_even o n m (inl none) is low = omega (arith, none)
 post_even o n m (inr same) is low = let even : n ≡ m = same_Some n m (sym same ∙ is) in omega (arith, even, low)
 
 module _ (had : ℕ → Option ℕ) (u : Local) (line : ℕ) (acc got : Option ℕ)
-    (registers : (reg : ℕ) → Holds (had reg) (length (register_at u reg))) (accumulator : Holds acc (length u.accumulator)) (received : Holds got (length u.received))
+    (registers : (reg : ℕ) → HoldsLength (had reg) (length (register_at u reg))) (accumulator : HoldsLength acc (length u.accumulator)) (received : HoldsLength got (length u.received))
     (all : Keeps had acc got u.left) where
   fits_act : (a : Act) → Sets had acc got a → Keeps had (folding had acc a) (gathering had got a) (drop 1 u.left) → FitsNext had (next_by_act u line a)
   fits_act (Act.Set reg content) sets on = record { acc = acc; got = got; registers = holds_set had u.registers reg content (inr sets) registers; accumulator = accumulator; received = received; keeps = on }
   fits_act (Act.Own own) sets on = record {
     acc = acc;
     got = got;
-    registers = λ reg. subst (λ (n : ℕ). Holds (had reg) n) (sym (length_same u (gone_on_alone u own) (own_even u own) reg)) (registers reg);
+    registers = λ reg. subst (λ (n : ℕ). HoldsLength (had reg) n) (sym (length_same u (gone_on_alone u own) (own_even u own) reg)) (registers reg);
     accumulator = accumulator;
     received = received;
     keeps = on;
@@ -67,14 +67,14 @@ module _ (had : ℕ → Option ℕ) (u : Local) (line : ℕ) (acc got : Option �
     λ sent. record { acc = acc; got = got; registers = registers; accumulator = accumulator; received = received; keeps = all },
   )
     where
-      gathered : (bytes : List ℕ) (o : Option ℕ) → length bytes ≡ (asked_head u head o).len → Holds (sized_by had head o) (length bytes)
+      gathered : (bytes : List ℕ) (o : Option ℕ) → length bytes ≡ (asked_head u head o).len → HoldsLength (sized_by had head o) (length bytes)
       gathered bytes None even = inr (ap Some (sym even))
-      gathered bytes (Some reg) even = subst (λ (n : ℕ). Holds (had reg) n) (sym even) (registers reg)
+      gathered bytes (Some reg) even = subst (λ (n : ℕ). HoldsLength (had reg) n) (sym even) (registers reg)
   fits_act (Act.Begin reg) sets on = record { acc = had reg; got = got; registers = registers; accumulator = registers reg; received = received; keeps = on }
   fits_act (Act.Accept reg) sets on = record {
     acc = acc;
     got = got;
-    registers = holds_set had u.registers reg u.received (subst (λ (o : Option ℕ). Holds o (length u.received)) (sym sets) received) registers;
+    registers = holds_set had u.registers reg u.received (subst (λ (o : Option ℕ). HoldsLength o (length u.received)) (sym sets) received) registers;
     accumulator = accumulator;
     received = received;
     keeps = on;
@@ -82,7 +82,7 @@ module _ (had : ℕ → Option ℕ) (u : Local) (line : ℕ) (acc got : Option �
   fits_act (Act.Finish reg) sets on = record {
     acc = acc;
     got = got;
-    registers = holds_set had u.registers reg u.accumulator (subst (λ (o : Option ℕ). Holds o (length u.accumulator)) (sym sets) accumulator) registers;
+    registers = holds_set had u.registers reg u.accumulator (subst (λ (o : Option ℕ). HoldsLength o (length u.accumulator)) (sym sets) accumulator) registers;
     accumulator = accumulator;
     received = received;
     keeps = on;
@@ -92,9 +92,9 @@ module _ (had : ℕ → Option ℕ) (u : Local) (line : ℕ) (acc got : Option �
       record {
         acc = acc;
         got = got;
-        registers = λ reg. subst (λ (n : ℕ). Holds (had reg) n) (sym (length_same u (after (next_by_act u line a) [] u) (ap (λ (l : Lengths). l.registers) same) reg)) (registers reg);
-        accumulator = subst (λ (n : ℕ). Holds acc n) (sym (ap (λ (l : Lengths). l.accumulator) same)) accumulator;
-        received = subst (λ (n : ℕ). Holds got n) (sym (ap (λ (l : Lengths). l.received) same)) received;
+        registers = λ reg. subst (λ (n : ℕ). HoldsLength (had reg) n) (sym (length_same u (after (next_by_act u line a) [] u) (ap (λ (l : Lengths). l.registers) same) reg)) (registers reg);
+        accumulator = subst (λ (n : ℕ). HoldsLength acc n) (sym (ap (λ (l : Lengths). l.accumulator) same)) accumulator;
+        received = subst (λ (n : ℕ). HoldsLength got n) (sym (ap (λ (l : Lengths). l.received) same)) received;
         keeps = on;
       }
 
@@ -144,7 +144,7 @@ SoundNext had (Sends to head bytes after) = IsSound had after × (length bytes �
 SoundNext had (Recvs from head take refuse) = ((bytes : List ℕ) → length bytes ≡ head.len → IsSound had (take bytes)) × ((sent : MessageHead) → IsSound had (refuse sent))
 SoundNext had (Bars comm after) = IsSound had after
 
-recorded_sound : (had : ℕ → Option ℕ) (calls : List DataCall) (n : Next Local) → AreFitting calls → FitsNext had n → SoundNext had (recorded calls n)
+recorded_sound : (had : ℕ → Option ℕ) (calls : List DataCall) (n : Next Local) → AreFitting calls → FitsNext had n → SoundNext had (next_with_calls calls n)
 recorded_sound had calls Ends all fits = tt
 recorded_sound had calls (Goes after) all fits = record { fits = fits; calls = all }
 recorded_sound had calls (Posts message after) all fits = (record { fits = fits.0; calls = fitting_more calls (Post message.to message.head message.bytes) all tt }, fits.1)

@@ -3,7 +3,7 @@ use Rattle.std.proofs.Common.{◌≡◌, ◌≢◌, ℕ, ◌+◌, ◌%◌, ◌==
 use Rattle.std.specs.Prelude.{pos, slice_index}
 use Rattle.std.proofs.lemmas.Bool.{eqb-true, eqb-false}
 use Rattle.std.proofs.lemmas.List.FromFn.{length-map-range_with_len}
-use Rattle.groups.specs.Collectives.{comm_of, fold_each, head_of, other_steps, others_of, root_place, root_steps, send_each, steps_of}
+use Rattle.groups.specs.Collectives.{comm_of, fold_each, head_of_kind, other_steps, others_of, root_place, root_steps, send_each, steps_of}
 use Rattle.groups.specs.declared.collectives.Coll.{Coll}
 use Rattle.groups.specs.declared.collectives.Coll.TheVariants as coll
 use Rattle.groups.specs.declared.collectives.Step.{Step}
@@ -20,7 +20,7 @@ use Rattle.script_reader.specs.declared.script.Stmt.{Stmt}
 use Rattle.script_reader.specs.declared.script.Stmt.TheVariants as stmt
 use Rattle.script_machine.proofs.ProgramLengths.LengthLemmas.{Reckons}
 use Rattle.script_machine.specs.declared.prims.Operands.{Operands}
-use Rattle.script_machine.specs.Program.{Act, Prim, acts_of, begins, call_steps, can_call, part_of, parts_of, prims_of, unrolled}
+use Rattle.script_machine.specs.Program.{Act, Prim, acts_of, begins, call_steps, can_call, part_of, parts_of, prims_of, unrolled_items}
 use Rattle.script_plain.specs.Kept.{Keeps, folding, gathering}
 use Rattle.script_plain.proofs.Collectives.ReductionPaths.{fold_operands}
 use Rattle.script_machine.proofs.Walks.UnrolledLaws.{hold_program}
@@ -80,12 +80,12 @@ module _ (had : ℕ → Option ℕ) where
   keeps_statement s rank line (stmt.Bcast comm root reg len) is acc got =
       let o : Operands = record { op = op_of.Sum; ty = ty_of.Int; dst = reg; src = reg; sized = None } in
       keeps_call s rank line (coll.Bcast comm root len) o acc got
-      (λ at list. keeps_send_each line o (begins (send_each (head_of kind.Bcast comm len) list)) (head_of kind.Bcast comm len) list acc got)
+      (λ at list. keeps_send_each line o (begins (send_each (head_of_kind kind.Bcast comm len) list)) (head_of_kind kind.Bcast comm len) list acc got)
       (λ apart from. (tt, (is apart, tt)))
   keeps_statement s rank line (stmt.Reduce comm root op ty dst src) is acc got =
       let o : Operands = fold_operands op ty dst src in
       keeps_call s rank line (coll.Reduce comm root 0) o acc got
-      (λ at list. (tt, keeps_folds line o true (head_of kind.Reduce comm 0) list (step.Finish ∷ []) (had src) got (λ next. (is.1 at, tt))))
+      (λ at list. (tt, keeps_folds line o true (head_of_kind kind.Reduce comm 0) list (step.Finish ∷ []) (had src) got (λ next. (is.1 at, tt))))
       (λ apart from. (tt, tt))
   keeps_statement s rank line (stmt.Allreduce comm op ty dst src) is acc got =
       let o : Operands = fold_operands op ty dst src in
@@ -93,9 +93,9 @@ module _ (had : ℕ → Option ℕ) where
       (λ at list. (
         tt,
         subst (λ (l : List Step). KeepsActs line (had src) got (map (part_of o true) l))
-            (sym (append_assoc (fold_each (head_of kind.AllUp comm 0) list) (send_each (head_of kind.AllDown comm 0) list) (step.Finish ∷ [])))
-            (keeps_folds line o true (head_of kind.AllUp comm 0) list (send_each (head_of kind.AllDown comm 0) list ++ step.Finish ∷ []) (had src) got
-            (λ next. keeps_sends line o true (head_of kind.AllDown comm 0) list (step.Finish ∷ []) (had src) next (is.1, tt))),
+            (sym (append_assoc (fold_each (head_of_kind kind.AllUp comm 0) list) (send_each (head_of_kind kind.AllDown comm 0) list) (step.Finish ∷ [])))
+            (keeps_folds line o true (head_of_kind kind.AllUp comm 0) list (send_each (head_of_kind kind.AllDown comm 0) list ++ step.Finish ∷ []) (had src) got
+            (λ next. keeps_sends line o true (head_of_kind kind.AllDown comm 0) list (step.Finish ∷ []) (had src) next (is.1, tt))),
       ))
       (λ apart from. (tt, (tt, (is.1, tt))))
   keeps_statement s rank line (stmt.Repeat times end) is acc got = tt
@@ -110,5 +110,5 @@ module _ (had : ℕ → Option ℕ) where
       by false has = tt
 
   pub keeps_items : (s : SetupView) (rank : ℕ) (items : List Item) → ((k : ℕ) (item : Item) → slice_get items k ≡ Some item → has_rank item.who rank ≡ true → Reckons s.comms had rank item.stmt)
-      → (acc got : Option ℕ) → Keeps had acc got (unrolled s rank items).here
+      → (acc got : Option ℕ) → Keeps had acc got (unrolled_items s rank items).here
   keeps_items s rank items each = hold_program KeepsAlways (λ acc got. tt) always_both s rank items (λ k item found. keeps_prims s rank item (each k item found))

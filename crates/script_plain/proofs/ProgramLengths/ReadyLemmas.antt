@@ -3,16 +3,16 @@ use Rattle.std.proofs.Common.{◌≡◌, ℕ, zero, suc, ◌<◌, ◌≤◌, Lis
 use Rattle.std.specs.Prelude.{slice_index_or}
 use Rattle.scc_base.specs.Calls.{DataCall}
 use Rattle.script_reader.specs.Script.{Script}
-use Rattle.script_reader.specs.Settled.{IsWhole}
+use Rattle.script_reader.specs.Settled.{IsWholeScript}
 use Rattle.script_machine.specs.declared.posts.Posted.{Posted}
-use Rattle.script_plain.specs.Collectives.{started}
+use Rattle.script_plain.specs.Collectives.{start_of_rank}
 use Rattle.script_machine.specs.Local.{Local, local_next}
-use Rattle.script_plain.specs.Meaning.{State, next_of, recorded}
+use Rattle.script_plain.specs.Meaning.{State, next_of, next_with_calls}
 use Rattle.script_machine.specs.Next.{Next}
 use Rattle.script_machine.specs.Next.Next.{Ends, Goes, Posts, Sends, Recvs, Bars}
 use Rattle.script_plain.specs.Paths.{Came}
 use Rattle.script_plain.specs.Paths.Came.{Began, Went, Leaves, Passed, Took, Joined}
-use Rattle.script_plain.specs.Ready.{IsReady}
+use Rattle.script_plain.specs.Ready.{CanMakeNext}
 use Rattle.script_machine.proofs.ProgramLengths.AimLemmas.{program_aimed}
 use Rattle.script_plain.specs.Kept.{reckoned_at}
 use Rattle.script_plain.proofs.ProgramLengths.LengthLaws.{sound_started}
@@ -27,7 +27,7 @@ unset (suc n) zero = omega arith
 unset (suc n) (suc reg) = unset n reg
 
 module _ (script : Script) (rank : ℕ) where
-  recorded_sane : (calls : List DataCall) (n : Next Local) → SaneNext script rank (λ (v : Local). v) n → SaneNext script rank (λ (v : State). v.local) (recorded calls n)
+  recorded_sane : (calls : List DataCall) (n : Next Local) → SaneNext script rank (λ (v : Local). v) n → SaneNext script rank (λ (v : State). v.local) (next_with_calls calls n)
   recorded_sane calls Ends sane = tt
   recorded_sane calls (Goes after) sane = sane
   recorded_sane calls (Posts message after) sane = sane
@@ -35,7 +35,7 @@ module _ (script : Script) (rank : ℕ) where
   recorded_sane calls (Recvs from head take refuse) sane = sane
   recorded_sane calls (Bars comm after) sane = sane
 
-  ready_by : (had : ℕ → Option ℕ) (n : Next Local) → SaneNext script rank (λ (v : Local). v) n → FitsNext had n → IsReady script rank n
+  ready_by : (had : ℕ → Option ℕ) (n : Next Local) → SaneNext script rank (λ (v : Local). v) n → FitsNext had n → CanMakeNext script rank n
   ready_by had Ends sane fits = tt
   ready_by had (Goes after) sane fits = tt
   ready_by had (Posts message after) sane fits = (sane.1, sane.2, fits.1)
@@ -43,14 +43,14 @@ module _ (script : Script) (rank : ℕ) where
   ready_by had (Recvs from head take refuse) sane fits = (sane.1, sane.2)
   ready_by had (Bars comm after) sane fits = (sane.1, sane.2)
 
-  module _ (whole : IsWhole script.nue script.items) (within : rank < script.nue) where
-    sane_started : IsSane script rank (started script rank).local
+  module _ (whole : IsWholeScript script.nue script.items) (within : rank < script.nue) where
+    sane_started : IsSane script rank (start_of_rank script rank).local
     sane_started = record { registers = unset (length script.names); accumulator = omega arith; received = omega arith; left = program_aimed script rank whole within }
 
     sane_after : (u : State) (n : Next State) → IsSane script rank u.local → next_of u ≡ n → SaneNext script rank (λ (v : State). v.local) n
     sane_after u n sane is = subst (SaneNext script rank (λ (v : State). v.local)) is (recorded_sane u.matched (local_next u.local) (sane_next script rank u.local sane))
 
-    pub came_sane : (u : State) (last : Option Posted) → Came next_of (started script rank) u last → IsSane script rank u.local
+    pub came_sane : (u : State) (last : Option Posted) → Came next_of (start_of_rank script rank) u last → IsSane script rank u.local
     came_sane u last Began = sane_started
     came_sane w end (Went u v last came is) = sane_after u (Goes v) (came_sane u last came) is
     came_sane w end (Leaves u v last message came is) = (sane_after u (Posts message v) (came_sane u last came) is).0
@@ -65,7 +65,7 @@ module _ (script : Script) (rank : ℕ) where
     sound_after u n sound is = subst (SoundNext (reckoned_at script rank)) is (sound_next (reckoned_at script rank) u sound)
 
     -- the registers of a rank have the lengths that the reader reckoned, wherever it comes by itself
-    pub came_sound : (u : State) (last : Option Posted) → Came next_of (started script rank) u last → Sound u
+    pub came_sound : (u : State) (last : Option Posted) → Came next_of (start_of_rank script rank) u last → Sound u
     came_sound u last Began = sound_started script rank whole within
     came_sound w end (Went u v last came is) = sound_after u (Goes v) (came_sound u last came) is
     came_sound w end (Leaves u v last message came is) = (sound_after u (Posts message v) (came_sound u last came) is).0
@@ -73,7 +73,7 @@ module _ (script : Script) (rank : ℕ) where
     came_sound w end (Took u last from head bytes take refuse even came is) = (sound_after u (Recvs from head take refuse) (came_sound u last came) is).0 bytes even
     came_sound w end (Joined u v last comm came is) = sound_after u (Bars comm v) (came_sound u last came) is
 
-    pub ready-law : (u : State) (last : Option Posted) → Came next_of (started script rank) u last → IsReady script rank (local_next u.local)
+    pub ready-law : (u : State) (last : Option Posted) → Came next_of (start_of_rank script rank) u last → CanMakeNext script rank (local_next u.local)
     ready-law u last came =
         ready_by (reckoned_at script rank) (local_next u.local) (sane_next script rank u.local (came_sane u last came))
         (fits_next (reckoned_at script rank) u.local (came_sound u last came).fits)

@@ -14,37 +14,37 @@ use Rattle.script_machine.specs.Program.Act.{Recv, Gather}
 use Rattle.script_machine.specs.declared.posts.Posted.{Posted}
 use Rattle.script_machine.specs.declared.prims.Standing.{Standing}
 use Rattle.script_machine.specs.declared.prims.Standing.TheVariants as standing
-use Rattle.script_machine.specs.Local.{Local, local_start, local_next, next_by_act, next_by_prim, prim_by_standing, cost_of, runs}
+use Rattle.script_machine.specs.Local.{Local, local_start, local_next, next_by_act, next_by_prim, prim_by_standing, most_steps_left, runs}
 use Rattle.script_machine.specs.Next.{Next}
 use Rattle.script_machine.specs.Next.Next.{Ends, Goes, Posts, Sends, Recvs, Bars}
 use Rattle.script_plain.specs.Step.{run_on}
-use Rattle.script_plain.specs.Meaning.{State, recorded, next_of, keys_of, plain_step, plain_end, start_of, steps_left, locals_of, seen_of}
+use Rattle.script_plain.specs.Meaning.{State, next_with_calls, next_of, keys_of, plain_step, plain_end, start_of, steps_left, locals_of, seen_of}
 use Rattle.script_plain.proofs.Runs.Costs.{Lowers, next_map}
 use Rattle.script_plain.proofs.Runs.RunLaws
 use Rattle.script_plain.proofs.Runs.ViewLaws
 
-lowers_act : (u : Local) (line : ℕ) (a : Act) → length (drop 1 u.left) < length u.left → u.standing ≡ standing.Running → Lowers cost_of (cost_of u) (next_by_act u line a)
+lowers_act : (u : Local) (line : ℕ) (a : Act) → length (drop 1 u.left) < length u.left → u.standing ≡ standing.Running → Lowers most_steps_left (most_steps_left u) (next_by_act u line a)
 lowers_act u line (Recv from reg head) less running =
     (λ (bytes : List ℕ). omega (arith, less), λ (sent : MessageHead). omega (arith, ap runs running))
 lowers_act u line (Gather from head sized) less running =
     (λ (bytes : List ℕ). omega (arith, less), λ (sent : MessageHead). omega (arith, ap runs running))
 lowers_act u line _ less running = omega (arith, less)
 
-lowers_left : (u : Local) (l : List Prim) → u.left ≡ l → u.standing ≡ standing.Running → Lowers cost_of (cost_of u) (next_by_prim u (slice_get l 0))
+lowers_left : (u : Local) (l : List Prim) → u.left ≡ l → u.standing ≡ standing.Running → Lowers most_steps_left (most_steps_left u) (next_by_prim u (slice_get l 0))
 lowers_left u [] left running = tt
 lowers_left u (prim ∷ rest) left running =
     lowers_act u prim.line prim.act (rw left (omega arith)) running
 
-lowers_standing : (u : Local) (s : Standing) → u.standing ≡ s → Lowers cost_of (cost_of u) (next_by_prim u (prim_by_standing s u.left))
+lowers_standing : (u : Local) (s : Standing) → u.standing ≡ s → Lowers most_steps_left (most_steps_left u) (next_by_prim u (prim_by_standing s u.left))
 lowers_standing u standing.Running is = lowers_left u u.left refl is
 lowers_standing u (standing.Mismatched line from sent asked) is = tt
 
 -- whatever a rank does next, less is left after it
-pub local_lowers : (u : Local) → Lowers cost_of (cost_of u) (local_next u)
+pub local_lowers : (u : Local) → Lowers most_steps_left (most_steps_left u) (local_next u)
 unfolding local_next
 local_lowers u = lowers_standing u u.standing refl
 
-recorded_lowers : (calls : List DataCall) (k : ℕ) (n : Next Local) → Lowers cost_of k n → Lowers (λ (u : State). cost_of u.local) k (recorded calls n)
+recorded_lowers : (calls : List DataCall) (k : ℕ) (n : Next Local) → Lowers most_steps_left k n → Lowers (λ (u : State). most_steps_left u.local) k (next_with_calls calls n)
 recorded_lowers calls k Ends low = tt
 recorded_lowers calls k (Goes after) low = low
 recorded_lowers calls k (Posts message after) low = low
@@ -52,10 +52,10 @@ recorded_lowers calls k (Sends to head bytes after) low = low
 recorded_lowers calls k (Recvs from head take refuse) low = low
 recorded_lowers calls k (Bars comm after) low = low
 
-pub state_lowers : (u : State) → Lowers (λ (v : State). cost_of v.local) (cost_of u.local) (next_of u)
-state_lowers u = recorded_lowers u.matched (cost_of u.local) (local_next u.local) (local_lowers u.local)
+pub state_lowers : (u : State) → Lowers (λ (v : State). most_steps_left v.local) (most_steps_left u.local) (next_of u)
+state_lowers u = recorded_lowers u.matched (most_steps_left u.local) (local_next u.local) (local_lowers u.local)
 
-recorded_seen : (calls : List DataCall) (n : Next Local) → n ≡ next_map (λ (u : State). u.local) (recorded calls n)
+recorded_seen : (calls : List DataCall) (n : Next Local) → n ≡ next_map (λ (u : State). u.local) (next_with_calls calls n)
 recorded_seen calls Ends = refl
 recorded_seen calls (Goes after) = refl
 recorded_seen calls (Posts message after) = refl
@@ -69,7 +69,7 @@ state_seen u = recorded_seen u.matched (local_next u.local)
 -- the end takes no step
 pub plain_end_still : (script : Script) → plain_step (keys_of script) (plain_end script) ≡ None
 plain_end_still script =
-    RunLaws.stopped (keys_of script) next_of (λ (u : State). cost_of u.local) state_lowers (steps_left (start_of script)) (start_of script) (omega arith)
+    RunLaws.stopped (keys_of script) next_of (λ (u : State). most_steps_left u.local) state_lowers (steps_left (start_of script)) (start_of script) (omega arith)
 
 starts : (script : Script) (ranks : List ℕ) → map (λ (u : State). u.local) (map (λ (rank : ℕ). record { local = local_start script rank; matched = [] }) ranks) ≡ map (local_start script) ranks
 starts script [] = refl
@@ -90,19 +90,19 @@ start_more script number rank before after u was here made now =
     ∙ sym (map-range_with_len_more (local_start script) 0 number number (omega arith))
 
 -- what the ranks hold at the end comes of a run over what they hold
-pub seen_of-plain_end : (script : Script) → run_on (keys_of script) local_next (sum_by cost_of (locals_of (start_of script))) (seen_of (start_of script)) ≡ seen_of (plain_end script)
+pub seen_of-plain_end : (script : Script) → run_on (keys_of script) local_next (sum_by most_steps_left (locals_of (start_of script))) (seen_of (start_of script)) ≡ seen_of (plain_end script)
 seen_of-plain_end script =
-    ap (λ (n : ℕ). run_on (keys_of script) local_next n (seen_of (start_of script))) (ViewLaws.sum_by-map cost_of (λ (u : State). u.local) (start_of script).cells)
+    ap (λ (n : ℕ). run_on (keys_of script) local_next n (seen_of (start_of script))) (ViewLaws.sum_by-map most_steps_left (λ (u : State). u.local) (start_of script).cells)
     ∙ ViewLaws.run_on-map (λ (u : State). u.local) (keys_of script) next_of local_next state_seen (steps_left (start_of script)) (start_of script)
 
 -- the same of a run whose groups, ranks and slots are those of the start
 pub run_from_start : (script : Script) (comms : List CommRule) (us : List Local) (slots : List (Option Posted)) → comms ≡ rules_of script.items → us ≡ locals_of (start_of script) → slots ≡ replicate script.nue None
-    → run_on (key_of comms) local_next (sum_by cost_of us) (config us slots) ≡ seen_of (plain_end script)
+    → run_on (key_of comms) local_next (sum_by most_steps_left us) (config us slots) ≡ seen_of (plain_end script)
 run_from_start script comms us slots rules cells empty =
     let start = locals_of (start_of script) in
-    ap (λ (cs : List CommRule). run_on (key_of cs) local_next (sum_by cost_of us) (config us slots)) rules
-    ∙ ap (λ (ls : List Local). run_on (keys_of script) local_next (sum_by cost_of ls) (config ls slots)) cells
-    ∙ ap (λ (ss : List (Option Posted)). run_on (keys_of script) local_next (sum_by cost_of start) (config start ss)) empty
+    ap (λ (cs : List CommRule). run_on (key_of cs) local_next (sum_by most_steps_left us) (config us slots)) rules
+    ∙ ap (λ (ls : List Local). run_on (keys_of script) local_next (sum_by most_steps_left ls) (config ls slots)) cells
+    ∙ ap (λ (ss : List (Option Posted)). run_on (keys_of script) local_next (sum_by most_steps_left start) (config start ss)) empty
     ∙ seen_of-plain_end script
 
 -- as many ranks as the script runs on

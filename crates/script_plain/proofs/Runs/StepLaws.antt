@@ -8,19 +8,19 @@ use Rattle.script_machine.specs.declared.posts.Posted.{Posted}
 use Rattle.script_machine.proofs.Choices.{both_true, and_of, not_true, not_of, chosen, other}
 use Rattle.script_machine.specs.Next.{Next}
 use Rattle.script_machine.specs.Next.Next.{Ends, Goes, Posts, Sends, Recvs, Bars}
-use Rattle.script_plain.specs.Step.{Configuration, next_at, slot_at, with_cell, with_slot, same_head, post_step, match_step, receive_step, all_at_barrier, by_rank, past_if, step_by, step_of}
+use Rattle.script_plain.specs.Step.{Configuration, next_at, slot_at, with_cell, configuration_with_slot, same_head, post_step, match_step, receive_step, all_at_barrier, by_rank, past_if, step_by, step_of}
 
 -- the seven kinds of step, each with what stands where it is enabled, and what it makes of the configuration
 pub data Takes {U : Type 0} (keys : ℕ → ℕ → ℕ) (next : U → Next U) (c : Configuration U) (i : ℕ) (d : Configuration U) : Type 0 where
   Alone : (after : U) → next_at next c i ≡ Goes after → d ≡ with_cell c i after → Takes keys next c i d
   Left : (message : Posted) (after : U) → next_at next c i ≡ Posts message after → slot_at c i ≡ None
-      → d ≡ with_slot (with_cell c i after) i (Some message) → Takes keys next c i d
+      → d ≡ configuration_with_slot (with_cell c i after) i (Some message) → Takes keys next c i d
   Met : (j : ℕ) (head : MessageHead) (bytes : List ℕ) (after : U) (asked : MessageHead) (take : List ℕ → U) (refuse : MessageHead → U)
       → next_at next c i ≡ Sends j head bytes after → slot_at c i ≡ None → next_at next c j ≡ Recvs i asked take refuse
       → same_head head asked ≡ true → d ≡ with_cell (with_cell c i after) j (take bytes) → Takes keys next c i d
   Fetched : (j : ℕ) (asked : MessageHead) (take : List ℕ → U) (refuse : MessageHead → U) (message : Posted)
       → next_at next c i ≡ Recvs j asked take refuse → slot_at c j ≡ Some message → message.to ≡ i
-      → same_head message.head asked ≡ true → d ≡ with_slot (with_cell c i (take message.bytes)) j None → Takes keys next c i d
+      → same_head message.head asked ≡ true → d ≡ configuration_with_slot (with_cell c i (take message.bytes)) j None → Takes keys next c i d
   RefusedPost : (j : ℕ) (asked : MessageHead) (take : List ℕ → U) (refuse : MessageHead → U) (message : Posted)
       → next_at next c i ≡ Recvs j asked take refuse → slot_at c j ≡ Some message → message.to ≡ i
       → same_head message.head asked ≡ false → d ≡ with_cell c i (refuse message.head) → Takes keys next c i d
@@ -49,13 +49,13 @@ module _ {U : Type 0} (keys : ℕ → ℕ → ℕ) (next : U → Next U) (c d : 
   seen_match j head bytes after None (Sends to sent more on) stands slot there step = absurd (cc)
   seen_match j head bytes after None (Bars comm on) stands slot there step = absurd (cc)
 
-  seen_fetch : (j : ℕ) (asked : MessageHead) (take : List ℕ → U) (refuse : MessageHead → U) (message : Posted) (same : Bool) → next_at next c i ≡ Recvs j asked take refuse → slot_at c j ≡ Some message → message.to ≡ i → same_head message.head asked ≡ same → cond same (Some (with_slot (with_cell c i (take message.bytes)) j None)) (Some (with_cell c i (refuse message.head))) ≡ Some d → Takes keys next c i d
+  seen_fetch : (j : ℕ) (asked : MessageHead) (take : List ℕ → U) (refuse : MessageHead → U) (message : Posted) (same : Bool) → next_at next c i ≡ Recvs j asked take refuse → slot_at c j ≡ Some message → message.to ≡ i → same_head message.head asked ≡ same → cond same (Some (configuration_with_slot (with_cell c i (take message.bytes)) j None)) (Some (with_cell c i (refuse message.head))) ≡ Some d → Takes keys next c i d
   seen_fetch j asked take refuse message true stands slot mine is step =
       Fetched j asked take refuse message stands slot mine is (sym (same_Some _ d step))
   seen_fetch j asked take refuse message false stands slot mine is step =
       RefusedPost j asked take refuse message stands slot mine is (sym (same_Some _ d step))
 
-  seen_posted : (j : ℕ) (asked : MessageHead) (take : List ℕ → U) (refuse : MessageHead → U) (message : Posted) (mine : Bool) → next_at next c i ≡ Recvs j asked take refuse → slot_at c j ≡ Some message → (message.to == i) ≡ mine → cond mine (cond (same_head message.head asked) (Some (with_slot (with_cell c i (take message.bytes)) j None)) (Some (with_cell c i (refuse message.head)))) None ≡ Some d → Takes keys next c i d
+  seen_posted : (j : ℕ) (asked : MessageHead) (take : List ℕ → U) (refuse : MessageHead → U) (message : Posted) (mine : Bool) → next_at next c i ≡ Recvs j asked take refuse → slot_at c j ≡ Some message → (message.to == i) ≡ mine → cond mine (cond (same_head message.head asked) (Some (configuration_with_slot (with_cell c i (take message.bytes)) j None)) (Some (with_cell c i (refuse message.head)))) None ≡ Some d → Takes keys next c i d
   seen_posted j asked take refuse message true stands slot mine step =
       seen_fetch j asked take refuse message (same_head message.head asked) stands slot (eqb-true message.to i mine) refl step
   seen_posted j asked take refuse message false stands slot mine step = absurd (cc)

@@ -9,7 +9,7 @@ use Rattle.scc_base.specs.Heads.{MessageHead}
 use Rattle.script_machine.specs.declared.posts.Posted.{Posted}
 use Rattle.script_machine.specs.Next.{Next, is_at_barrier, past_barrier}
 use Rattle.script_machine.specs.Next.Next.{Ends, Goes, Posts, Sends, Recvs, Bars}
-use Rattle.script_plain.specs.Step.{Configuration, next_at, slot_at, with_cell, with_slot, post_step, match_step, receive_step, barrier_step, all_at_barrier, by_rank, past_if, step_by, step_of, lowest, lowest_step, run_on}
+use Rattle.script_plain.specs.Step.{Configuration, next_at, slot_at, with_cell, configuration_with_slot, post_step, match_step, receive_step, barrier_step, all_at_barrier, by_rank, past_if, step_by, step_of, lowest, lowest_step, run_on}
 use Rattle.script_plain.proofs.Runs.Costs.{next_map}
 
 pub sum_by-map : {U V : Type 0} (cost : V → ℕ) (f : U → V) (c : List U) → sum_by cost (map f c) ≡ sum_by (λ u. cost (f u)) c
@@ -51,8 +51,8 @@ module _ {U V : Type 0} (f : U → V) (keys : ℕ → ℕ → ℕ) (next : U →
   with_cells-map : (c : Configuration U) (i j : ℕ) (u v : U) → with_cell (with_cell (view_of f c) i (f u)) j (f v) ≡ view_of f (with_cell (with_cell c i u) j v)
   with_cells-map c i j u v = ap (λ (d : Configuration V). with_cell d j (f v)) (with_cell-map c i u) ∙ with_cell-map (with_cell c i u) j v
 
-  with_both-map : (c : Configuration U) (i j : ℕ) (u : U) (o : Option Posted) → with_slot (with_cell (view_of f c) i (f u)) j o ≡ view_of f (with_slot (with_cell c i u) j o)
-  with_both-map c i j u o = ap (λ (d : Configuration V). with_slot d j o) (with_cell-map c i u)
+  with_both-map : (c : Configuration U) (i j : ℕ) (u : U) (o : Option Posted) → configuration_with_slot (with_cell (view_of f c) i (f u)) j o ≡ view_of f (configuration_with_slot (with_cell c i u) j o)
+  with_both-map c i j u o = ap (λ (d : Configuration V). configuration_with_slot d j o) (with_cell-map c i u)
 
   post-map : (c : Configuration U) (i : ℕ) (message : Posted) (u : U) (o : Option Posted) → post_step (view_of f c) i message (f u) o ≡ option_map (view_of f) (post_step c i message u o)
   post-map c i message u None = ap Some (with_both-map c i i u (Some message))

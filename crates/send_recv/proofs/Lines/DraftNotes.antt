@@ -2,7 +2,7 @@
 use Rattle.std.proofs.Common.{◌≡◌, ◌≢◌, ℕ, zero, suc, ◌+◌, ◌*◌, ◌<◌, Bool, List, [], ◌∷◌, Some, refl, sym, ◌∙◌, ap, subst, arith}
 use Rattle.scc_base.specs.Heads.{MessageHead}
 use Rattle.scc_base.specs.declared.events.Event.{Event}
-use Rattle.scc_proto.specs.Messages.{Notes, noted, note_word, header_word}
+use Rattle.scc_proto.specs.Messages.{Notes, noted_word, note_word, header_word}
 use Rattle.scc_proto.specs.Stages.{Record}
 use Rattle.scc_proto.specs.Ports.{Seat, MayMakeAll, record_on}
 use Rattle.scc_proto.proofs.Tests.{same_or_other}
@@ -39,11 +39,11 @@ line_drafted bytes start i notes = note_word (4 * i) (word_of_bytes bytes (start
 
 -- the words of the first lines are noted
 abbrev pub LinesNoted : List ℕ → ℕ → Notes → ℕ → Type 0
-LinesNoted bytes start notes lines = (k : ℕ) → k < 4 * lines → noted notes k ≡ Some (word_of_bytes bytes (start + 8 * k))
+LinesNoted bytes start notes lines = (k : ℕ) → k < 4 * lines → noted_word notes k ≡ Some (word_of_bytes bytes (start + 8 * k))
 
-note_or : (notes : Notes) (n v k x : ℕ) → (k ≡ n → v ≡ x) → (k ≢ n → noted notes k ≡ Some x) → noted (note_word n v notes) k ≡ Some x
-note_or notes n v k x here there = same_or_other (noted (note_word n v notes) k ≡ Some x) k n
-    (λ t e. ap (λ j. noted (note_word n v notes) j) e ∙ noted_here n v notes ∙ ap Some (here e))
+note_or : (notes : Notes) (n v k x : ℕ) → (k ≡ n → v ≡ x) → (k ≢ n → noted_word notes k ≡ Some x) → noted_word (note_word n v notes) k ≡ Some x
+note_or notes n v k x here there = same_or_other (noted_word (note_word n v notes) k ≡ Some x) k n
+    (λ t e. ap (λ j. noted_word (note_word n v notes) j) e ∙ noted_here n v notes ∙ ap Some (here e))
     (λ t ne. noted_there n v notes k ne ∙ there ne)
 
 pub line_more : (bytes : List ℕ) (start i : ℕ) (notes : Notes) → LinesNoted bytes start notes i → LinesNoted bytes start (line_drafted bytes start i notes) (suc i)
@@ -70,7 +70,7 @@ no_lines bytes start notes k low = absurd (omega (arith, low))
 abbrev pub header_drafted : MessageHead → Bool → Notes
 header_drafted head posted = note_word 0 (header_word head posted 0) (note_word 1 (header_word head posted 1) (note_word 2 (header_word head posted 2) (note_word 3 (header_word head posted 3) [])))
 
-pub header_noted : (head : MessageHead) (posted : Bool) (k : ℕ) → k < 4 → noted (header_drafted head posted) k ≡ Some (header_word head posted k)
+pub header_noted : (head : MessageHead) (posted : Bool) (k : ℕ) → k < 4 → noted_word (header_drafted head posted) k ≡ Some (header_word head posted k)
 header_noted head posted zero low = refl
 header_noted head posted (suc zero) low = refl
 header_noted head posted (suc (suc zero)) low = refl

@@ -4,7 +4,7 @@ use Rattle.std.proofs.lemmas.List.{get_or_past}
 use Rattle.scc_base.specs.Heads.{MessageHead, IsHead, IsPostHead}
 use Rattle.scc_base.specs.Layouts.{chunk_size, chunk_lines}
 use Rattle.scc_base.specs.declared.layouts.Layout.{Layout}
-use Rattle.scc_proto.specs.Messages.{Notes, noted, has_all, byte_at, is_zero_from, head_of, is_head, is_post_head, begun}
+use Rattle.scc_proto.specs.Messages.{Notes, noted_word, has_all, byte_at, is_zero_from, head_of, is_head, is_post_head, fresh_message}
 use Rattle.scc_proto.specs.Moves.{is_posted}
 use Rattle.scc_proto.specs.Permission.{is_post_word, is_whole_header, is_drafted}
 use Rattle.scc_proto.proofs.Tests.{same_or_other}
@@ -125,13 +125,13 @@ posted_is header op has = ap (λ (o : Option ℕ). unwrap_or o 0 == 1) (has 3 (o
 
 post_word : (posted : Bool) (header : Notes) (op : SendAt) → op.posted ≡ posted → HasHeader header op → (op.posted ≡ true → IsPostHead op.head) → is_post_word header ≡ true
 post_word true header op is has post =
-    if_yes (is_posted header) (is_post_head (head_of header)) (unwrap_or (noted header 3) 0 == 0) (posted_is header op has ∙ is)
+    if_yes (is_posted header) (is_post_head (head_of header)) (unwrap_or (noted_word header 3) 0 == 0) (posted_is header op has ∙ is)
     ∙ ap (λ (h : MessageHead). is_post_head h) (head_drafted header op has) ∙ post_head_passes op.head (post is)
 post_word false header op is has post =
-    if_no (is_posted header) (is_post_head (head_of header)) (unwrap_or (noted header 3) 0 == 0) (posted_is header op has ∙ is)
+    if_no (is_posted header) (is_post_head (head_of header)) (unwrap_or (noted_word header 3) 0 == 0) (posted_is header op has ∙ is)
     ∙ ap (λ (o : Option ℕ). unwrap_or o 0 == 0) (has 3 (omega arith)) ∙ ap (λ b. (if b then 1 else 0) == 0) is
 
-some_word : (header : Notes) (op : SendAt) → HasHeader header op → (k : ℕ) → k < 4 → is_some (noted header k) ≡ true
+some_word : (header : Notes) (op : SendAt) → HasHeader header op → (k : ℕ) → k < 4 → is_some (noted_word header k) ≡ true
 some_word header op has k low = ap (λ (o : Option ℕ). is_some o) (has k low)
 
 pub header_whole : (header : Notes) (op : SendAt) → IsHead op.head → (op.posted ≡ true → IsPostHead op.head) → HasHeader header op → is_whole_header header ≡ true
@@ -142,7 +142,7 @@ header_whole header op head post has =
     λ i. all i && (valid i && word i)
 
 -- before the first chunk nothing is through
-pub begun_is : (size : ℕ) (head : MessageHead) (chunk : ℕ) (bytes : List ℕ) → chunk ≡ 0 → begun head ≡ progress_at size head chunk bytes
+pub begun_is : (size : ℕ) (head : MessageHead) (chunk : ℕ) (bytes : List ℕ) → chunk ≡ 0 → fresh_message head ≡ progress_at size head chunk bytes
 begun_is size head chunk bytes zero_is =
     let none : size * chunk ≡ 0 = ap (λ n. size * n) zero_is ∙ omega arith in
     let front : [] ≡ take (chunk_start size chunk) bytes = sym (ap (λ n. take n bytes) none) in

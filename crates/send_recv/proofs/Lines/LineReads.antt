@@ -6,14 +6,14 @@ use Rattle.scc_base.specs.Setups.{SetupView}
 use Rattle.scc_base.specs.declared.events.Event.{Event}
 use Rattle.scc_proto.specs.Ports.{Sight, Did}
 use Rattle.scc_proto.proofs.PortLaws.{did_nothing, did_both}
-use Rattle.line_cache.specs.Lines.{held}
+use Rattle.line_cache.specs.Lines.{cached_words}
 use Rattle.put_get.specs.Accesses.{loads_of}
 use Rattle.put_get.specs.Cores.{Private, Fills, Fetch, Held, Loaded, ReadsLine}
 use Rattle.put_get.proofs.FillLemmas.{fills_evictions, fills_held}
 use Rattle.put_get.specs.Transfers.{load_count}
 use Rattle.put_get.proofs.StepLemmas.{events_once}
 use Rattle.put_get.proofs.WorkLemmas.{spends_line, stands_once}
-use Rattle.sync_flags.specs.Tries.{Aim, AtFlag, AtWord, AtRegister, is_at, tries_from, tries_at, changing_after}
+use Rattle.sync_flags.specs.Tries.{Aim, AtFlag, AtWord, AtRegister, is_same_word, tries_from, tries_at, changing_after}
 use Rattle.sync_flags.proofs.RowLemmas.{tries-append, changing-append}
 use Rattle.scc_base.specs.Layouts.{signal_at, first_chunk}
 use Rattle.scc_base.specs.declared.signals.Signal.TheVariants.{Sent}
@@ -52,10 +52,10 @@ none_of b m = if b then suc m else m
 loads_none : (aim : Aim) (line : LineAt) (words : List ℕ) → MissesLine line aim → (n : ℕ) → tries_from aim false n (loads_of line words) ≡ n
 loads_none (AtRegister core) line words apart n = refl
 loads_none (AtFlag place bit want) line words apart n =
-    let test : (k : ℕ) → is_at place (word_of_line line k) ≡ false = λ k. (λ i. (line.core == place.core) && (apart i && (k == place.word))) ∙ and_false (line.core == place.core) in
+    let test : (k : ℕ) → is_same_word place (word_of_line line k) ≡ false = λ k. (λ i. (line.core == place.core) && (apart i && (k == place.word))) ∙ and_false (line.core == place.core) in
     λ i. none_of (test 3 i) (none_of (test 2 i) (none_of (test 1 i) (none_of (test 0 i) n)))
 loads_none (AtWord place value) line words apart n =
-    let test : (k : ℕ) → is_at place (word_of_line line k) ≡ false = λ k. (λ i. (line.core == place.core) && (apart i && (k == place.word))) ∙ and_false (line.core == place.core) in
+    let test : (k : ℕ) → is_same_word place (word_of_line line k) ≡ false = λ k. (λ i. (line.core == place.core) && (apart i && (k == place.word))) ∙ and_false (line.core == place.core) in
     λ i. none_of (test 3 i) (none_of (test 2 i) (none_of (test 1 i) (none_of (test 0 i) n)))
 
 none_loaded : (line : LineAt) (words : List ℕ) → NoTries line (loads_of line words)
@@ -86,7 +86,7 @@ pub record Fetched (s : Sight) (line : LineAt) (es : List Event) (before : ℕ) 
   pub grown : before ≤ d.evictions
   pub no_drafts : (s : SetupView) → list_all (is_no_draft s) events ≡ true
 
-loaded_held : (es : List Event) (before : ℕ) (c d : Private) (line : LineAt) (words : List ℕ) → before ≤ c.evictions → held c.lines line ≡ None → Fills c line words d → LastHeld (es ++ loads_of line words) before d
+loaded_held : (es : List Event) (before : ℕ) (c d : Private) (line : LineAt) (words : List ℕ) → before ≤ c.evictions → cached_words c.lines line ≡ None → Fills c line words d → LastHeld (es ++ loads_of line words) before d
 loaded_held es before c d line words le none fills =
     let grown = fills_evictions fills in
     Last es line words [] refl refl (λ kept. let same : d.evictions ≡ c.evictions = omega (arith, grown, le, kept) in fills_held fills none same)

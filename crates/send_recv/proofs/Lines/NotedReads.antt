@@ -3,7 +3,7 @@
 use Rattle.std.proofs.Common.{◌≡◌, ◌≢◌, ℕ, zero, suc, ◌+◌, ◌<◌, cond, List, [], ◌∷◌, Some, refl, sym, ◌∙◌, ap, subst, arith, slice_index}
 use Rattle.scc_base.specs.Places.{LineAt, word_of_line}
 use Rattle.scc_base.specs.Events.{load_of}
-use Rattle.scc_proto.specs.Messages.{Notes, noted, note_word}
+use Rattle.scc_proto.specs.Messages.{Notes, noted_word, note_word}
 use Rattle.scc_proto.specs.Stages.{Record}
 use Rattle.scc_proto.specs.Records.{IsHonest}
 use Rattle.scc_proto.specs.Ports.{Seat, Sight, Did, WereMade, record_in, record_next, record_on}
@@ -16,25 +16,25 @@ use Rattle.put_get.proofs.EntryLemmas.{EachEntry, each_held, each_fills, each_we
 
 -- what is noted stays noted
 abbrev pub Grows : Notes → Notes → Type 0
-Grows n m = (k x : ℕ) → noted n k ≡ Some x → noted m k ≡ Some x
+Grows n m = (k x : ℕ) → noted_word n k ≡ Some x → noted_word m k ≡ Some x
 
 pub grows_four : (a b c d e : Notes) → Grows a b → Grows b c → Grows c d → Grows d e → Grows a e
 grows_four a b c d e f g h i = λ k x n. i k x (h k x (g k x (f k x n)))
 
 -- a word noted again with its value
-pub grows_note : (k v : ℕ) (n : Notes) → ((x : ℕ) → noted n k ≡ Some x → v ≡ x) → Grows n (note_word k v n)
-grows_note k v n same = λ i x h. same_or_other (noted (note_word k v n) i ≡ Some x) i k
-    (λ t is. subst (λ j. noted (note_word k v n) j ≡ Some x) (sym is) (noted_here k v n ∙ ap Some (same x (subst (λ j. noted n j ≡ Some x) is h))))
+pub grows_note : (k v : ℕ) (n : Notes) → ((x : ℕ) → noted_word n k ≡ Some x → v ≡ x) → Grows n (note_word k v n)
+grows_note k v n same = λ i x h. same_or_other (noted_word (note_word k v n) i ≡ Some x) i k
+    (λ t is. subst (λ j. noted_word (note_word k v n) j ≡ Some x) (sym is) (noted_here k v n ∙ ap Some (same x (subst (λ j. noted_word n j ≡ Some x) is h))))
     (λ t apart. noted_there k v n i apart ∙ h)
 
 -- the four words of the line are these, from note `first` on
 abbrev pub HasWords : Notes → ℕ → List ℕ → Type 0
-HasWords n first words = (k : ℕ) → k < 4 → noted n (first + k) ≡ Some (slice_index words k)
+HasWords n first words = (k : ℕ) → k < 4 → noted_word n (first + k) ≡ Some (slice_index words k)
 
 -- the records `shape n` note the words of this line, from note `first` on
 pub record IsSource (seat : Seat) (line : LineAt) (first : ℕ) (shape : Notes → Record) : Type 0 where
   pub next : (k v : ℕ) (n : Notes) → k < 4 → record_next seat (shape n) (load_of (word_of_line line k) v) ≡ shape (note_word (first + k) v n)
-  pub honest : (k v : ℕ) (n : Notes) → k < 4 → IsHonest seat.setup seat.rank (shape n) (load_of (word_of_line line k) v) → (x : ℕ) → noted n (first + k) ≡ Some x → v ≡ x
+  pub honest : (k v : ℕ) (n : Notes) → k < 4 → IsHonest seat.setup seat.rank (shape n) (load_of (word_of_line line k) v) → (x : ℕ) → noted_word n (first + k) ≡ Some x → v ≡ x
 
 -- a condition on cached lines that says of this line that its words are noted, and that stays true
 pub record IsCondition (line : LineAt) (first : ℕ) (P : Notes → LineAt → List ℕ → Type 0) : Type 0 where
@@ -69,11 +69,11 @@ abbrev four_notes : ℕ → List ℕ → Notes → Notes
 four_notes first words n = note_word (first + 3) (slice_index words 3) (note_word (first + 2) (slice_index words 2)
     (note_word (first + 1) (slice_index words 1) (note_word (first + 0) (slice_index words 0) n)))
 
-skip : (first i j v : ℕ) (m : Notes) → i ≢ j → noted (note_word (first + j) v m) (first + i) ≡ noted m (first + i)
+skip : (first i j v : ℕ) (m : Notes) → i ≢ j → noted_word (note_word (first + j) v m) (first + i) ≡ noted_word m (first + i)
 skip first i j v m apart = let e : first + i ≢ first + j = λ q. apart (omega (arith, q)) in noted_there (first + j) v m (first + i) e
 
 four_have_by : (first w0 w1 w2 w3 : ℕ) (n : Notes) → (k : ℕ) → k < 4
-    → noted (note_word (first + 3) w3 (note_word (first + 2) w2 (note_word (first + 1) w1 (note_word (first + 0) w0 n)))) (first + k) ≡ Some (slice_index (w0 ∷ w1 ∷ w2 ∷ w3 ∷ []) k)
+    → noted_word (note_word (first + 3) w3 (note_word (first + 2) w2 (note_word (first + 1) w1 (note_word (first + 0) w0 n)))) (first + k) ≡ Some (slice_index (w0 ∷ w1 ∷ w2 ∷ w3 ∷ []) k)
 four_have_by first w0 w1 w2 w3 n zero below =
     let m0 : Notes = note_word (first + 0) w0 n in
     let m1 : Notes = note_word (first + 1) w1 m0 in
@@ -171,7 +171,7 @@ line_notes s t c d seat line first shape P words n source cond same is cached r 
     by : (n0 n1 n2 n3 : Notes) → Grows n0 n1 → Grows n1 n2 → Grows n2 n3 → (v0 v1 v2 v3 : List ℕ)
         → HasWords n0 first v0 → HasWords n1 first v1 → HasWords n2 first v2 → HasWords n3 first v3
         → slice_index words 0 ≡ slice_index v0 0 → slice_index words 1 ≡ slice_index v1 1 → slice_index words 2 ≡ slice_index v2 2 → slice_index words 3 ≡ slice_index v3 3
-        → (k : ℕ) → k < 4 → noted n3 (first + k) ≡ Some (slice_index words k)
+        → (k : ℕ) → k < 4 → noted_word n3 (first + k) ≡ Some (slice_index words k)
     by n0 n1 n2 n3 g1 g2 g3 v0 v1 v2 v3 h0 h1 h2 h3 i0 i1 i2 i3 zero below =
         g3 _ _ (g2 _ _ (g1 _ _ (h0 0 (omega arith)))) ∙ ap Some (sym i0)
     by n0 n1 n2 n3 g1 g2 g3 v0 v1 v2 v3 h0 h1 h2 h3 i0 i1 i2 i3 (suc zero) below =

@@ -13,7 +13,7 @@ use Rattle.scc_base.specs.declared.layouts.Layout.TheVariants.{LineFlags, BitFla
 use Rattle.scc_proto.specs.Resting.{is_resting}
 use Rattle.scc_proto.specs.Ports.{Sight, Did}
 use Rattle.scc_proto.proofs.Tests.{eqb_same, eqb_other}
-use Rattle.line_cache.specs.Lines.{held, noted}
+use Rattle.line_cache.specs.Lines.{cached_words, lines_with_word}
 use Rattle.write_combine.specs.declared.combiner.Out.{Out}
 use Rattle.put_get.specs.Accesses.{stores_of}
 use Rattle.put_get.specs.Cores.{Private, Fills, Kept, Dropped, WritesThrough}
@@ -34,11 +34,11 @@ Alone m line words = m.lines ≡ (record { line = line; words = words }) ∷ []
 line_itself : (line : LineAt) → same_line line line ≡ true
 line_itself line = λ i. eqb_same line.core i && eqb_same line.line i
 
-written_here : (b : Bool) (line : LineAt) (words : List ℕ) (word v : ℕ) → b ≡ true → held ((if b then (record { line = line; words = slice_set words word v }) else (record { line = line; words = words })) ∷ []) line ≡ Some (slice_set words word v)
+written_here : (b : Bool) (line : LineAt) (words : List ℕ) (word v : ℕ) → b ≡ true → cached_words ((if b then (record { line = line; words = slice_set words word v }) else (record { line = line; words = words })) ∷ []) line ≡ Some (slice_set words word v)
 written_here true line words word v h = ap (λ b. if b then Some (slice_set words word v) else None) (line_itself line)
 written_here false line words word v h = absurd (cc)
 
-held_written : (line : LineAt) (words : List ℕ) (p : WordAt) (v : ℕ) → same_line line (line_of_word p) ≡ true → held (noted ((record { line = line; words = words }) ∷ []) p v) line ≡ Some (slice_set words p.word v)
+held_written : (line : LineAt) (words : List ℕ) (p : WordAt) (v : ℕ) → same_line line (line_of_word p) ≡ true → cached_words (lines_with_word ((record { line = line; words = words }) ∷ []) p v) line ≡ Some (slice_set words p.word v)
 held_written line words p v h = written_here (same_line line (line_of_word p)) line words p.word v h
 
 -- what a change that is one turn leaves, besides the record
@@ -118,10 +118,10 @@ changed_tries : (core : ℕ) (flag : FlagPlace) (b : ℕ) (set : Bool) (words : 
 changed_tries core flag b set words = λ i. if eqb_same core i then 1 else 0
 
 changed_held : (c m d : Private) (core : ℕ) (flag : FlagPlace) (set : Bool) (words : List ℕ) (v : ℕ) → Fills (record c { lines = [] }) (line_of_word (flag_word core flag)) words m
-    → d ≡ record m { lines = noted m.lines (flag_word core flag) v } → d.evictions ≡ c.evictions → held d.lines (line_of_word (flag_word core flag)) ≡ Some (slice_set words flag.word v)
+    → d ≡ record m { lines = lines_with_word m.lines (flag_word core flag) v } → d.evictions ≡ c.evictions → cached_words d.lines (line_of_word (flag_word core flag)) ≡ Some (slice_set words flag.word v)
 changed_held c m d core flag set words v (Kept given e) is same =
-    ap (λ (x : Private). held x.lines (line_of_word (flag_word core flag))) is
-    ∙ ap (λ (x : Private). held (noted x.lines (flag_word core flag) v) (line_of_word (flag_word core flag))) e
+    ap (λ (x : Private). cached_words x.lines (line_of_word (flag_word core flag))) is
+    ∙ ap (λ (x : Private). cached_words (lines_with_word x.lines (flag_word core flag) v) (line_of_word (flag_word core flag))) e
     ∙ held_written (line_of_word (flag_word core flag)) words (flag_word core flag) v (line_itself (line_of_word (flag_word core flag)))
 changed_held c m d core flag set words v (Dropped at low given e) is same =
     let a : d.evictions ≡ m.evictions = ap (λ (x : Private). x.evictions) is in

@@ -14,7 +14,7 @@ use Rattle.scc_proto.specs.Messages.{Notes}
 use Rattle.scc_proto.specs.Stages.{FlagWords, Record}
 use Rattle.scc_proto.specs.Moves.{Move, RaiseSignal, LowerSignal, after}
 use Rattle.scc_proto.specs.Permission.{permits}
-use Rattle.scc_proto.specs.Soundness.{IsSound, is_drafting, is_taking, is_answered}
+use Rattle.scc_proto.specs.Soundness.{IsSound, is_drafting, is_taking_from, is_answered}
 use Rattle.scc_proto.specs.Words.{are_peers}
 use Rattle.scc_proto.specs.Records.{chunk_of, change_held, forget_flags}
 use Rattle.scc_proto.specs.Ports.{Seat, Sight, Did, MayMake, MayMakeAll, record_in, record_on}
@@ -192,7 +192,7 @@ pub ready_turns : (s : Sight) (by : ℕ) → is_answered by (record_in s).stage 
 ready_turns s by seen words sound = sound.ready_set by (slice_index words 1) (is_noted Ready (record_in s) (own_core s.seat) words) seen
 
 -- a receiver takes the chunk
-pub ready_is_clear : (s : Sight) (to : ℕ) → is_taking to (record_in s).stage ≡ true
+pub ready_is_clear : (s : Sight) (to : ℕ) → is_taking_from to (record_in s).stage ≡ true
     → (words : List ℕ) → IsSound s.seat.setup s.seat.rank (noted_under s.seat (record_in s) to words) → bit_at (slice_index words 1) s.seat.rank ≡ 0
 ready_is_clear s to taking words sound = sound.ready_clear to (slice_index words 1) (is_noted Ready (record_in s) (core_of s.seat to) words) taking
 

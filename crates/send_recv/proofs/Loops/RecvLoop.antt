@@ -28,7 +28,7 @@ use Rattle.send_recv.specs.declared.answers.RecvTurn.{RecvTurn}
 use Rattle.send_recv.specs.declared.answers.RecvTurn.TheVariants as turn
 use Rattle.send_recv.specs.Chunks.{chunk_start, chunk_len}
 use Rattle.send_recv.specs.Ops.{RecvAt, is_received}
-use Rattle.send_recv.specs.Receiving.{IsAtStage, RecvStands, RecvTurned, IsRecvSpot, spot_by, recv_spot, recv_waits, recv_call, recv_left, lines_left, is_look, extra_line, filled_to, filled_by}
+use Rattle.send_recv.specs.Receiving.{IsAtRecvStage, RecvStands, RecvTurned, IsRecvSpot, spot_by, recv_spot, recv_waits, recv_call, recv_left, lines_left, is_look, extra_line, filled_to, filled_by}
 use Rattle.send_recv.specs.Calling.{sent_aim, HasNotStalled, Received, RecvStalled, RecvDiffers}
 use Rattle.send_recv.specs.Steps.{own_core, core_of, flag_spot}
 use Rattle.send_recv.specs.Tries.{aim_of, aim_at}
@@ -292,7 +292,7 @@ underway_ends {s} {m} {t} {c} {b} {d} {op} {cur} {now} {bytes} {mid} {after} pol
       events = u.row.events ++ v.events;
       did = did_both s u.row.events m v.events t u.row.did v.did;
       calls = v.means.2 ∙ (λ i. u.calls i ++ (u.call_left mid ∙ ap (λ (x : List ℕ). recv_call op x) (sym v.means.1)) i);
-      stage = subst (λ (x : RecvStage). IsAtStage t.seat (record_in t) d now after x) v.means.0 st.at;
+      stage = subst (λ (x : RecvStage). IsAtRecvStage t.seat (record_in t) d now after x) v.means.0 st.at;
       empty = st.empty;
       rest = rest_both (record_in s) (record_in m) (record_in t) u.rest v.rest;
       post = post_both (record_in s).post (record_in m).post (record_in t).post u.post v.post;
@@ -352,7 +352,7 @@ underway_differs {s} {m} {t} {c} {b} {d} {op} {cur} {now} {bytes} {mid} {after} 
     let means = v.means in
     let rests : IsAtRest (record_in m) (record_in t) = means.3 in
     let header : now.stage ≡ Header = ap (λ (o : RecvAt). o.stage) means.0 ∙ means.2 in
-    let at : IsAtStage t.seat (record_in t) d now after Header = subst (λ (x : RecvStage). IsAtStage t.seat (record_in t) d now after x) header st.at in
+    let at : IsAtRecvStage t.seat (record_in t) d now after Header = subst (λ (x : RecvStage). IsAtRecvStage t.seat (record_in t) d now after x) header st.at in
     let filled = header_filled (chunk_of s.seat.setup) now header at.0 in
     let whole : after ≡ bytes = lists_agree after bytes (st.long ∙ ap (λ (h : MessageHead). h.len) (v.same.1 ∙ u.head) ∙ sym long)
     (λ k. let full = says.fuller in says.behind k (omega (arith, filled)) ∙ u.behind k (omega (arith, filled, full))) in

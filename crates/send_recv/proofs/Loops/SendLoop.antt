@@ -24,7 +24,7 @@ use Rattle.send_recv.specs.Calling.{Sent, SendStalled}
 use Rattle.send_recv.specs.Steps.{own_core, core_of, flag_spot}
 use Rattle.send_recv.specs.Tries.{aim_of, aim_at}
 use Rattle.send_recv.specs.Turns.{KeepsAllButMessages, IsAtRest}
-use Rattle.send_recv.specs.Ranks.{sending, with_slot}
+use Rattle.send_recv.specs.Ranks.{sending, holding_slot}
 use Rattle.send_recv.proofs.Looks.TryLemmas.{signal_aimed}
 use Rattle.send_recv.proofs.Loops.RecvLoop.{rest_both, rest_itself, resting_quiet, aimed, row_on}
 
@@ -93,7 +93,7 @@ slot_by false true to slot after is p f = is
 slot_by false false to slot after is p f = absurd (cc)
 
 pub way_ends : {s m t : Sight} {c b d : Private} {op cur now : SendAt} {begun slot after : SlotAt} {bytes : List ℕ} {vain : ℕ} → SendWay s op bytes vain m b cur slot
-    → SendStands t d now after bytes → SendTurned (sending m b cur slot bytes) (sending t d now after bytes) turn.Done → Sent (sending s c op begun bytes) (with_slot t d after)
+    → SendStands t d now after bytes → SendTurned (sending m b cur slot bytes) (sending t d now after bytes) turn.Done → Sent (sending s c op begun bytes) (holding_slot t d after)
 way_ends {s} {m} {t} {d = d} {op = op} {cur = cur} {now = now} {slot = slot} {after = after} {bytes = bytes} u st v =
     let at : IsAtSendStage t.seat (record_in t) d now bytes Finished = subst (λ (x : SendStage). IsAtSendStage t.seat (record_in t) d now bytes x) v.means.0 st.at in
     record {

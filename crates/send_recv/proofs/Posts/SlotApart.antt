@@ -13,7 +13,7 @@ use Rattle.scc_proto.specs.Moves.{Move, DraftHeader, DraftChunk, RaiseSignal, Lo
 use Rattle.scc_proto.specs.Permission.{permits, may_raise}
 use Rattle.scc_proto.specs.Singles.{is_free}
 use Rattle.scc_proto.specs.Words.{Role, HeaderWord, ChunkWord, SignalFlag, SignalFlags, GatherFlag, ReleaseFlag, HeapWord, IdleWord, role_of}
-use Rattle.scc_proto.specs.Records.{look_at, look_at_bits, leads, Act, Moving, NotingSignal, ChangingSignal, Holding, Freeing, load_by, load_act, store_act, act_by, act_of, after_act, permits_act, permits_by, is_permitted, record_after, record_from, record_of, chunk_of}
+use Rattle.scc_proto.specs.Records.{look_at, look_at_bits, leads, EventAct, Moving, NotingSignal, ChangingSignal, Holding, Freeing, load_by, load_act, store_act, act_by, act_of, after_act, permits_act, permits_by, is_permitted, record_after, record_from, record_of, chunk_of}
 use Rattle.scc_proto.specs.Ports.{Sight, record_in}
 
 -- no message is on its way, or no other one is drafted or raised
@@ -163,7 +163,7 @@ load_permitted s me size rec value (ReleaseFlag comm owner) = permitted_if size 
 load_permitted s me size rec value HeapWord = refl
 load_permitted s me size rec value IdleWord = refl
 
-act_if : (size : ℕ) (rec : Record) (b : Bool) (one other : Act) → permits_act size one rec ≡ true → permits_act size other rec ≡ true → permits_act size (if b then one else other) rec ≡ true
+act_if : (size : ℕ) (rec : Record) (b : Bool) (one other : EventAct) → permits_act size one rec ≡ true → permits_act size other rec ≡ true → permits_act size (if b then one else other) rec ≡ true
 act_if size rec true one other a c = a
 act_if size rec false one other a c = c
 
@@ -177,7 +177,7 @@ load_act_permitted s me size rec place value (ReleaseFlag comm owner) = load_per
 load_act_permitted s me size rec place value HeapWord = refl
 load_act_permitted s me size rec place value IdleWord = refl
 
-act_apart : (size : ℕ) (act : Act) (rec : Record) → permits_act size act rec ≡ true → IsApart rec → IsApart (after_act size act rec)
+act_apart : (size : ℕ) (act : EventAct) (rec : Record) → permits_act size act rec ≡ true → IsApart rec → IsApart (after_act size act rec)
 act_apart size (Moving move) rec may h = move_apart size move rec may h
 act_apart size (NotingSignal signal core value) rec may h = h
 act_apart size (ChangingSignal signal core move) rec may h = move_apart size move rec may h

@@ -33,7 +33,7 @@ use Rattle.send_recv.specs.Steps.{moves_on, own_core, signal_flag, flag_spot, sl
 use Rattle.sync_flags.specs.Tries.{Aim, Tried, NoTry}
 use Rattle.send_recv.specs.Tries.{aim_at}
 use Rattle.send_recv.specs.Turns.{HoldsNone, OnlyTries, NoLoad, waits_at}
-use Rattle.send_recv.specs.Ranks.{SlotHolder, with_slot}
+use Rattle.send_recv.specs.Ranks.{SlotHolder, holding_slot}
 use Rattle.send_recv.proofs.Posts.SlotApart.{is_apart, apart_in}
 use Rattle.send_recv.proofs.Lines.DraftNone.{signal_is_flag, look_drafts_none, change_drafts_none}
 use Rattle.send_recv.proofs.Looks.FlagMoves.{MovesFlag, may_change, flag_moved, signal_lowers, ready_turns}
@@ -50,7 +50,7 @@ use Rattle.send_recv.proofs.Receiving.RecvTurns.{missed_by, waits_tried}
 -- a turn of a slot, and where it stands afterwards
 pub record SlotTurns (s : Sight) (c : Private) (slot : SlotAt) (t : Sight) (d : Private) (now : SlotAt) (answer : Turn) : Type 0 where
   pub stands : SlotStands t.seat (record_in t) now
-  pub turned : SlotTurned (with_slot s c slot) (with_slot t d now) answer
+  pub turned : SlotTurned (holding_slot s c slot) (holding_slot t d now) answer
 
 -- ---- the message on its way
 
@@ -131,13 +131,13 @@ spot_none BitFlags own true = refl
 spot_none BitFlags own false = refl
 
 -- the turn of an empty slot makes no event
-pub nothing_turn : (s : Sight) (c : Private) (slot : SlotAt) → slot.to ≡ None → c.out ≡ None → SlotTurned (with_slot s c slot) (with_slot s c slot) Done
+pub nothing_turn : (s : Sight) (c : Private) (slot : SlotAt) → slot.to ≡ None → c.out ≡ None → SlotTurned (holding_slot s c slot) (holding_slot s c slot) Done
 nothing_turn s c slot none empty =
     let layout = s.seat.setup.layout in
     record {
       events = [];
       did = did_nothing s;
-      does = slot_does (with_slot s c slot) None slot.seen true true s c none refl refl (refl, refl);
+      does = slot_does (holding_slot s c slot) None slot.seen true true s c none refl refl (refl, refl);
       tried = NoTry (ap (λ (o : Option ℕ). aim_at layout (slot_spot_by layout (own_core s.seat) o slot.seen)) none ∙ ap (λ (o : Option Spot). aim_at layout o) (spot_none layout (own_core s.seat) slot.seen)) refl;
       freed = refl;
       rests = λ spot e. refl;
@@ -216,7 +216,7 @@ slot_look_turn found s t c d slot to valid h empty hands full unseen looks =
       turned = record {
         events = loads_of (line_of_word (flag_word own flag)) looks.words;
         did = looks.looks.did;
-        does = slot_does (with_slot s c slot) (Some to) false (moves_on (moved_or_waits found (flag_spot own flag))) found t d full unseen (moved_is found (flag_spot own flag)) looks;
+        does = slot_does (holding_slot s c slot) (Some to) false (moves_on (moved_or_waits found (flag_spot own flag))) found t d full unseen (moved_is found (flag_spot own flag)) looks;
         tried = tried_by found (flag_spot own flag) (aim_at layout (slot_spot s.seat slot)) _
             (look_tried layout own flag looks.words found (slot_spot s.seat slot) (signal_low layout Ready to) looks.is spot (signal_aims layout Ready own to));
         freed = refl;
@@ -285,7 +285,7 @@ lower_goes s t c d slot to valid h empty hands full seen changes =
       turned = record {
         events = facts.events;
         did = facts.did;
-        does = slot_does (with_slot s c slot) (Some to) true true true t d full seen refl changes;
+        does = slot_does (holding_slot s c slot) (Some to) true true true t d full seen refl changes;
         tried = went_on layout (slot_spot s.seat slot) own facts.events (λ e. spot_seen s.seat slot to full seen ∙ spot_lines layout own to e) (λ e. spot_seen s.seat slot to full seen ∙ spot_bits layout own to e) facts.tries facts.vain;
         freed = facts.freed;
         rests = λ spot e. absurd (cc);
@@ -317,7 +317,7 @@ lower_waits s t c d slot to valid h empty hands full seen changes =
       turned = record {
         events = facts.events;
         did = facts.did;
-        does = slot_does (with_slot s c slot) (Some to) true false false t d full seen refl changes;
+        does = slot_does (holding_slot s c slot) (Some to) true false false t d full seen refl changes;
         tried = waits_tried layout (slot_spot s.seat slot) own facts.events (λ e. spot_seen s.seat slot to full seen ∙ spot_bits layout own to e) facts.tries facts.vain facts.lines;
         freed = facts.freed;
         rests = λ spot e. facts.rests refl;

@@ -24,7 +24,7 @@ use Rattle.send_recv.specs.declared.answers.RecvTurn.TheVariants.{Moved}
 use Rattle.send_recv.specs.Chunks.{chunk_count, chunk_start, chunk_len, lines_from}
 use Rattle.send_recv.specs.Flags.{Changes, MayChange}
 use Rattle.send_recv.specs.Ops.{RecvAt, is_received}
-use Rattle.send_recv.specs.Receiving.{IsAtStage, IsReceiving, RecvStands, IsRead, SaysHead, between, progress_at, lines_now, spot_by, recv_spot, recv_left, recv_left_by, lines_left, lines_left_by, flag_lines, is_look, filled_to, filled_by}
+use Rattle.send_recv.specs.Receiving.{IsAtRecvStage, IsReceiving, RecvStands, IsRead, SaysHead, between, progress_at, lines_now, spot_by, recv_spot, recv_left, recv_left_by, lines_left, lines_left_by, flag_lines, is_look, filled_to, filled_by}
 use Rattle.send_recv.specs.Steps.{own_core, core_of, signal_flag}
 use Rattle.sync_flags.specs.Tries.{AtRegister, tries_at, all_vain, Tried, NoTry, Fruitful}
 use Rattle.send_recv.specs.Tries.{aim_of, aim_at}
@@ -47,7 +47,7 @@ pub record IsLowering (size : ℕ) (rec : Record) (op : RecvAt) (bytes : List �
 
 pub is_lowering : (seat : Seat) (rec : Record) (c : Private) (op : RecvAt) (bytes : List ℕ) → IsReceiving seat rec c op bytes → op.stage ≡ Lower → IsLowering (chunk_of seat.setup) rec op bytes
 is_lowering seat rec c op bytes r lower =
-    let at : IsAtStage seat rec c op bytes Lower = subst (λ (st : RecvStage). IsAtStage seat rec c op bytes st) lower r.at in
+    let at : IsAtRecvStage seat rec c op bytes Lower = subst (λ (st : RecvStage). IsAtRecvStage seat rec c op bytes st) lower r.at in
     record { header = at.1; stage = at.0; seen = at.2; says = at.3 }
 
 take_by : (b : Bool) (from : ℕ) (header : Notes) (later : Stage) → (b ≡ true → says_head header ≡ true) → may_take from (Some header) later ≡ true → may_take from (Some header) (if b then Idle else later) ≡ true
@@ -102,7 +102,7 @@ abbrev taken_stage : Bool → RecvStage
 taken_stage b = if b then Raise else Lines 0
 
 taken_at : (b : Bool) (seat : Seat) (rec : Record) (d : Private) (op : RecvAt) (bytes : List ℕ) → (lines_now (chunk_of seat.setup) op == 0) ≡ b
-    → rec.stage ≡ Taking op.from (progress_at (chunk_of seat.setup) op.head op.chunk bytes) [] → IsAtStage seat rec d (record op { stage = taken_stage b }) bytes (taken_stage b)
+    → rec.stage ≡ Taking op.from (progress_at (chunk_of seat.setup) op.head op.chunk bytes) [] → IsAtRecvStage seat rec d (record op { stage = taken_stage b }) bytes (taken_stage b)
 taken_at true seat rec d op bytes none stage =
     let zero_is : lines_now (chunk_of seat.setup) op ≡ 0 = eq_is (lines_now (chunk_of seat.setup) op) 0 none in
     let now : RecvAt = record op { stage = Raise } in

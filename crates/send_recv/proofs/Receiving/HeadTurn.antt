@@ -8,8 +8,8 @@ use Rattle.scc_base.specs.declared.events.Event.{Event}
 use Rattle.scc_base.specs.declared.events.Spot.{Spot}
 use Rattle.scc_base.specs.declared.layouts.Layout.{Layout}
 use Rattle.scc_base.specs.declared.layouts.Layout.TheVariants.{LineFlags, BitFlags}
-use Rattle.scc_proto.specs.Tables.{put}
-use Rattle.scc_proto.specs.Messages.{Notes, noted, has_all, head_of, is_head}
+use Rattle.scc_proto.specs.Tables.{table_with}
+use Rattle.scc_proto.specs.Messages.{Notes, noted_word, has_all, head_of, is_head}
 use Rattle.scc_proto.specs.Stages.{Stage, Idle, Between, OnItsWay, Record}
 use Rattle.scc_proto.specs.Words.{are_peers}
 use Rattle.scc_proto.specs.Soundness.{AreOfHead}
@@ -26,8 +26,8 @@ use Rattle.send_recv.specs.declared.answers.RecvTurn.{RecvTurn}
 use Rattle.send_recv.specs.declared.answers.RecvTurn.TheVariants.{Moved, Mismatch}
 use Rattle.send_recv.specs.Chunks.{chunk_count, chunk_start, chunk_len, lines_from}
 use Rattle.send_recv.specs.Ops.{RecvAt, is_received}
-use Rattle.send_recv.specs.Receiving.{IsAtStage, IsReceiving, RecvStands, SaysHead, between, progress_at, spot_by, recv_spot, IsRecvSpot, recv_left, recv_left_by, lines_now, lines_left, lines_left_by, flag_lines, is_look, filled_to, filled_by}
-use Rattle.send_recv.specs.Steps.{cleared, own_core, core_of, line_at, head_said, is_same_head, HeadRead, Same, Differs}
+use Rattle.send_recv.specs.Receiving.{IsAtRecvStage, IsReceiving, RecvStands, SaysHead, between, progress_at, spot_by, recv_spot, IsRecvSpot, recv_left, recv_left_by, lines_now, lines_left, lines_left_by, flag_lines, is_look, filled_to, filled_by}
+use Rattle.send_recv.specs.Steps.{with_empty_cache, own_core, core_of, line_of_rank, head_in_line, is_same_head, HeadRead, Same, Differs}
 use Rattle.sync_flags.specs.Tries.{NoTry, tries_at}
 use Rattle.send_recv.specs.Tries.{aim_of, aim_at}
 use Rattle.send_recv.specs.Turns.{IsSamePost, KeepsAllButMessages}
@@ -39,12 +39,12 @@ use Rattle.send_recv.specs.Ranks.{receiving}
 use Rattle.send_recv.proofs.Receiving.LookTurn.{recv_does, Turns, stands_after}
 
 -- what is there may be put
-pub put_self : {A : Type 0} (table : ℕ → A) (i : ℕ) (x : A) → table i ≡ x → table ≡ put table i x
+pub put_self : {A : Type 0} (table : ℕ → A) (i : ℕ) (x : A) → table i ≡ x → table ≡ table_with table i x
 put_self table i x is = λ p k. at k p
   where
-    at : (k : ℕ) → table k ≡ put table i x k
-    at k = same_or_other (table k ≡ put table i x k) k i
-        (λ t e. subst (λ j. table j ≡ put table i x j) (sym e) (is ∙ sym (put_here table i x)))
+    at : (k : ℕ) → table k ≡ table_with table i x k
+    at k = same_or_other (table k ≡ table_with table i x k) k i
+        (λ t e. subst (λ j. table j ≡ table_with table i x j) (sym e) (is ∙ sym (put_here table i x)))
         (λ t ne. sym (put_there table i x k ne))
 
 pub post_itself : (post : Option OnItsWay) → IsSamePost post post
@@ -64,22 +64,22 @@ is_head_is head h = record {
 }
 
 -- the words of a header line that was read from a rank that was seen are a valid head's
-pub words_head : (m : Notes) (words : List ℕ) → HasWords m 0 words → AreOfHead m → is_head (head_said words) ≡ true
+pub words_head : (m : Notes) (words : List ℕ) → HasWords m 0 words → AreOfHead m → is_head (head_in_line words) ≡ true
 words_head m words has of =
     let k0 = of.words 0 (slice_index words 0) (omega arith) (has 0 (omega arith)) in
     let k1 = of.words 1 (slice_index words 1) (omega arith) (has 1 (omega arith)) in
     let k2 = of.words 2 (slice_index words 2) (omega arith) (has 2 (omega arith)) in
     ap (λ (h : MessageHead). is_head h) (λ i. record { kind = k0 i; comm = k1 i; len = k2 i }) ∙ of.valid
 
-some_noted : (m : Notes) (words : List ℕ) → HasWords m 0 words → (k : ℕ) → k < 3 → is_some (noted m k) ≡ true
+some_noted : (m : Notes) (words : List ℕ) → HasWords m 0 words → (k : ℕ) → k < 3 → is_some (noted_word m k) ≡ true
 some_noted m words has zero below = ap (λ (o : Option ℕ). is_some o) (has 0 (omega arith))
 some_noted m words has (suc zero) below = ap (λ (o : Option ℕ). is_some o) (has 1 (omega arith))
 some_noted m words has (suc (suc zero)) below = ap (λ (o : Option ℕ). is_some o) (has 2 (omega arith))
 some_noted m words has (suc (suc (suc k))) below = absurd (omega (arith, below))
 
-words_say : (m : Notes) (words : List ℕ) → HasWords m 0 words → AreOfHead m → SaysHead m (head_said words)
+words_say : (m : Notes) (words : List ℕ) → HasWords m 0 words → AreOfHead m → SaysHead m (head_in_line words)
 words_say m words has of =
-    let same : head_of m ≡ head_said words = λ i. record {
+    let same : head_of m ≡ head_in_line words = λ i. record {
       kind = unwrap_or (has 0 (omega arith) i) 0;
       comm = unwrap_or (has 1 (omega arith) i) 0;
       len = unwrap_or (has 2 (omega arith) i) 0;
@@ -97,11 +97,11 @@ pub record HeaderRead (s : Sight) (op : RecvAt) (words : List ℕ) (t : Sight) :
   pub has : HasWords header 0 words
 
 pub header_read : (s t : Sight) (c d : Private) (op : RecvAt) (words : List ℕ) (header : Notes) → IsSetup s.seat.setup → op.from < s.seat.setup.nue → (record_in s).notes op.from ≡ Some header
-    → ReadsLine s (cleared c) (line_at s.seat op.from 0) words t d → HeaderRead s op words t
+    → ReadsLine s (with_empty_cache c) (line_of_rank s.seat op.from 0) words t d → HeaderRead s op words t
 header_read s t c d op words header valid below seen reads =
-    let line = line_at s.seat op.from 0 in
+    let line = line_of_rank s.seat op.from 0 in
     let is : record_in s ≡ with_header (record_in s) op.from header = ap (λ (f : ℕ → Option Notes). record (record_in s) { notes = f }) (put_self (record_in s).notes op.from (Some header) seen) in
-    let r = line_notes s t (cleared c) d s.seat line 0 (with_header (record_in s) op.from) (IsNotedHeader line) words header
+    let r = line_notes s t (with_empty_cache c) d s.seat line 0 (with_header (record_in s) op.from) (IsNotedHeader line) words header
     (header_source s.seat (record_in s) op.from valid below) (header_condition line) refl is tt reads in
     record { header = r.notes; seat_is = r.seat_is; record_is = r.record_is; has = r.has }
 
@@ -126,9 +126,9 @@ peer_below seat j valid peers =
     let other = p.other in
     omega (arith, within, other)
 
-head_elsewhere : (seat : Seat) (op : RecvAt) (es : List Event) (at : Spot) → IsSetup seat.setup → are_peers seat.setup seat.rank op.from ≡ true → NoTries (line_at seat op.from 0) es
+head_elsewhere : (seat : Seat) (op : RecvAt) (es : List Event) (at : Spot) → IsSetup seat.setup → are_peers seat.setup seat.rank op.from ≡ true → NoTries (line_of_rank seat op.from 0) es
     → IsRecvSpot seat op at → tries_at (aim_of seat.setup.layout at) es ≡ 0
-head_elsewhere seat op es at valid peers tries spot = read_elsewhere seat op (line_at seat op.from 0) es at (peer_below seat op.from valid peers) (inl refl) tries spot
+head_elsewhere seat op es at valid peers tries spot = read_elsewhere seat op (line_of_rank seat op.from 0) es at (peer_below seat op.from valid peers) (inl refl) tries spot
 
 head_fuller : (size : ℕ) (op : RecvAt) → op.stage ≡ Header → filled_to size op ≤ filled_to size (record op { stage = Lower })
 head_fuller size op header = let e = ap (λ (st : RecvStage). filled_by (chunk_start size op.chunk) op.head.len st (chunk_len size op.head.len op.chunk)) header in omega (arith, e)
@@ -161,15 +161,15 @@ head_work layout size op events a b at le =
     more events a b y x z le e = omega (arith, le, e)
 
 pub head_turn : (s t : Sight) (c d : Private) (op now : RecvAt) (bytes words : List ℕ) (answer : RecvTurn) → IsSetup s.seat.setup → RecvStands s c op bytes → op.stage ≡ Header → IsSoundPort t
-    → ReadsLine s (cleared c) (line_at s.seat op.from 0) words t d → HeadRead words op now answer → Turns s c op bytes t d now bytes answer
+    → ReadsLine s (with_empty_cache c) (line_of_rank s.seat op.from 0) words t d → HeadRead words op now answer → Turns s c op bytes t d now bytes answer
 head_turn s t c d op now bytes words answer valid r header sound reads (Same e now_is ans) =
     let size = chunk_of s.seat.setup in
-    let at : IsAtStage s.seat (record_in s) c op bytes Header = subst (λ (st : RecvStage). IsAtStage s.seat (record_in s) c op bytes st) header r.at in
+    let at : IsAtRecvStage s.seat (record_in s) c op bytes Header = subst (λ (st : RecvStage). IsAtRecvStage s.seat (record_in s) c op bytes st) header r.at in
     let p = peers_are s.seat.setup s.seat.rank op.from r.peers in
     let h = header_read s t c d op words at.2 valid p.other at.3 reads in
     let notes = header_notes s t op words h in
     let says = words_say h.header words h.has (sound.heads op.from h.header notes) in
-    let ev = reads_whole s t (cleared c) d (line_at s.seat op.from 0) words reads in
+    let ev = reads_whole s t (with_empty_cache c) d (line_of_rank s.seat op.from 0) words reads in
     let stage : (record_in t).stage ≡ Idle = ap (λ (x : Record). x.stage) h.record_is ∙ at.1 in
     let next : RecvAt = record op { stage = Lower } in
     let rest : KeepsAllButMessages (record_in s) (record_in t) = record {
@@ -206,12 +206,12 @@ head_turn s t c d op now bytes words answer valid r header sound reads (Same e n
     subst (λ (a : RecvTurn). Turns s c op bytes t d now bytes a) (sym ans) (subst (λ (n : RecvAt). Turns s c op bytes t d n bytes Moved) (sym now_is) turns)
 head_turn s t c d op now bytes words answer valid r header sound reads (Differs ne now_is ans) =
     let size = chunk_of s.seat.setup in
-    let at : IsAtStage s.seat (record_in s) c op bytes Header = subst (λ (st : RecvStage). IsAtStage s.seat (record_in s) c op bytes st) header r.at in
+    let at : IsAtRecvStage s.seat (record_in s) c op bytes Header = subst (λ (st : RecvStage). IsAtRecvStage s.seat (record_in s) c op bytes st) header r.at in
     let p = peers_are s.seat.setup s.seat.rank op.from r.peers in
     let h = header_read s t c d op words at.2 valid p.other at.3 reads in
     let notes = header_notes s t op words h in
     let says = words_say h.header words h.has (sound.heads op.from h.header notes) in
-    let ev = reads_whole s t (cleared c) d (line_at s.seat op.from 0) words reads in
+    let ev = reads_whole s t (with_empty_cache c) d (line_of_rank s.seat op.from 0) words reads in
     let same : (record_in t).stage ≡ (record_in s).stage = ap (λ (x : Record). x.stage) h.record_is in
     let calls : (record_in t).calls ≡ (record_in s).calls = ap (λ (x : Record). x.calls) h.record_is in
     let post = post_kept (record_in s).post (record_in t).post (ap (λ (x : Record). x.post) h.record_is) in
@@ -221,10 +221,10 @@ head_turn s t c d op now bytes words answer valid r header sound reads (Differs 
       heap = ap (λ (x : Record). x.heap) h.record_is;
     } in
     let le = ev.work in
-    let turns : Turns s c op bytes t d op bytes (Mismatch (head_said words)) = record {
+    let turns : Turns s c op bytes t d op bytes (Mismatch (head_in_line words)) = record {
       stands = subst (λ (x : Seat). IsReceiving x (record_in t) d op bytes) (sym h.seat_is)
           (stands_after s.seat (record_in s) (record_in t) c d op op bytes r refl refl refl (ev.out ∙ r.empty) rest.hold
-          (subst (λ (st : RecvStage). IsAtStage s.seat (record_in t) d op bytes st) (sym header) (at.0, same ∙ at.1, h.header, notes)));
+          (subst (λ (st : RecvStage). IsAtRecvStage s.seat (record_in t) d op bytes st) (sym header) (at.0, same ∙ at.1, h.header, notes)));
       turned = record {
         events = ev.events;
         did = ev.did;
@@ -247,24 +247,24 @@ head_turn s t c d op now bytes words answer valid r header sound reads (Differs 
         work = omega (arith, le);
       };
     } in
-    subst (λ (a : RecvTurn). Turns s c op bytes t d now bytes a) (sym ans) (subst (λ (n : RecvAt). Turns s c op bytes t d n bytes (Mismatch (head_said words))) (sym now_is) turns)
+    subst (λ (a : RecvTurn). Turns s c op bytes t d now bytes a) (sym ans) (subst (λ (n : RecvAt). Turns s c op bytes t d n bytes (Mismatch (head_in_line words))) (sym now_is) turns)
 
 -- ---- from the calls
 
 -- a line of a rank's buffer was read, with nothing cached
 pub read_at : (s t : Sight) (c c1 d : Private) (j i : ℕ) (core : ℕ) (line : LineAt) (words : List ℕ) → c1 ≡ record c { lines = [] } → line ≡ record { core = core; line = i } → core ≡ host_of s.seat.setup.hosts j
-    → ReadsLine s c1 line words t d → ReadsLine s (cleared c) (line_at s.seat j i) words t d
+    → ReadsLine s c1 line words t d → ReadsLine s (with_empty_cache c) (line_of_rank s.seat j i) words t d
 read_at s t c c1 d j i core line words empty is at reads =
-    subst (λ (l : LineAt). ReadsLine s (cleared c) l words t d) (is ∙ (λ p. record { core = at p; line = i })) (subst (λ (x : Private). ReadsLine s x line words t d) empty reads)
+    subst (λ (l : LineAt). ReadsLine s (with_empty_cache c) l words t d) (is ∙ (λ p. record { core = at p; line = i })) (subst (λ (x : Private). ReadsLine s x line words t d) empty reads)
 
 -- the header line of a rank that was seen says a valid head
 pub head_is_valid : (s t : Sight) (c c1 : Private) (op : RecvAt) (d : Private) (core : ℕ) (line : LineAt) (words : List ℕ) (header : Notes) → IsSetup s.seat.setup → are_peers s.seat.setup s.seat.rank op.from ≡ true
     → (record_in s).notes op.from ≡ Some header → IsSoundPort t → c1 ≡ record c { lines = [] } → line ≡ record { core = core; line = 0 } → core ≡ host_of s.seat.setup.hosts op.from
-    → ReadsLine s c1 line words t d → IsHead (head_said words)
+    → ReadsLine s c1 line words t d → IsHead (head_in_line words)
 head_is_valid s t c c1 op d core line words header valid peers seen sound empty is at reads =
     let p = peers_are s.seat.setup s.seat.rank op.from peers in
     let h = header_read s t c d op words header valid p.other seen (read_at s t c c1 d op.from 0 core line words empty is at reads) in
-    is_head_is (head_said words) (words_head h.header words h.has (sound.heads op.from h.header (header_notes s t op words h)))
+    is_head_is (head_in_line words) (words_head h.header words h.has (sound.heads op.from h.header (header_notes s t op words h)))
 
 pub same_head_is : (a b : MessageHead) → is_same_head a b ≡ true → a ≡ b
 same_head_is a b t =

@@ -4,7 +4,7 @@ use Rattle.std.proofs.lemmas.Bool.{cases_lt}
 use Rattle.scc_base.specs.Layouts.{first_chunk, chunk_lines, chunk_size}
 use Rattle.scc_base.specs.Setups.{IsSetup, host_of}
 use Rattle.scc_base.specs.declared.layouts.Layout.{Layout}
-use Rattle.scc_proto.specs.Messages.{Notes, noted, has_all, byte_at}
+use Rattle.scc_proto.specs.Messages.{Notes, noted_word, has_all, byte_at}
 use Rattle.scc_proto.specs.Stages.{Taking, Record}
 use Rattle.scc_proto.specs.Records.{chunk_of}
 use Rattle.scc_proto.specs.Ports.{Sight, record_in}
@@ -18,7 +18,7 @@ use Rattle.send_recv.specs.Bytes.{byte_of_line}
 use Rattle.send_recv.specs.Chunks.{chunk_start, chunk_len, chunk_lines_of}
 use Rattle.send_recv.specs.Ops.{RecvAt}
 use Rattle.send_recv.specs.Receiving.{IsRead, IsNotedLine, AreNoted, IsTakingLines, progress_at, lines_now}
-use Rattle.send_recv.specs.Steps.{cleared, before_line, line_at}
+use Rattle.send_recv.specs.Steps.{with_empty_cache, before_line, line_of_rank}
 use Rattle.send_recv.proofs.Lines.NotedReads.{Grows, HasWords, line_notes}
 use Rattle.send_recv.proofs.Lines.Sources.{with_taken, chunk_source, chunk_condition}
 
@@ -46,11 +46,11 @@ cached_before : (layout : Layout) (core : ℕ) (chunk : Notes) (i : ℕ) (c : Pr
 cached_before layout core chunk zero c a = tt
 cached_before layout core chunk (suc i) c a =
     let ne : suc i ≢ 0 = omega arith in
-    subst (λ (x : Private). EachEntry (IsNotedLine layout core chunk) x.lines) (sym (if_no (suc i == 0) (cleared c) c (eqb_other (suc i) 0 ne))) (each_noted layout core chunk c.lines (a ne))
+    subst (λ (x : Private). EachEntry (IsNotedLine layout core chunk) x.lines) (sym (if_no (suc i == 0) (with_empty_cache c) c (eqb_other (suc i) 0 ne))) (each_noted layout core chunk c.lines (a ne))
 
 -- ---- the notes
 
-grown_byte : (n m : Notes) (b : ℕ) → Grows n m → (v : ℕ) → noted n (b / 8) ≡ Some v → byte_at n b ≡ byte_at m b
+grown_byte : (n m : Notes) (b : ℕ) → Grows n m → (v : ℕ) → noted_word n (b / 8) ≡ Some v → byte_at n b ≡ byte_at m b
 grown_byte n m b grows v is = ap (λ (o : Option ℕ). unwrap_or o 0 / 256 ^ (b % 8) % 256) (is ∙ sym (grows (b / 8) v is))
 
 -- more words are noted
@@ -60,7 +60,7 @@ more_noted n m i words grows all has = has_all-from m (4 * (i + 1)) (λ k low. �
     (λ (new : 4 * i ≤ k).
     let at : k ≡ 4 * i + (k - 4 * i) = omega (arith, new) in
     let below : k - 4 * i < 4 = omega (arith, new, low) in
-    ap (λ j. is_some (noted m j)) at ∙ ap (λ (o : Option ℕ). is_some o) (has (k - 4 * i) below))
+    ap (λ j. is_some (noted_word m j)) at ∙ ap (λ (o : Option ℕ). is_some o) (has (k - 4 * i) below))
     (cases_lt k (4 * i)))
 
 -- a byte of the line that was read
@@ -69,8 +69,8 @@ line_byte m i k words low has =
     let at : (32 * i + k) / 8 ≡ 4 * i + k / 8 = omega arith in
     let part : (32 * i + k) % 8 ≡ k % 8 = omega arith in
     let below : k / 8 < 4 = omega (arith, low) in
-    sym (ap (λ j. unwrap_or (noted m j) 0 / 256 ^ ((32 * i + k) % 8) % 256) at
-    ∙ ap (λ j. unwrap_or (noted m (4 * i + k / 8)) 0 / 256 ^ j % 256) part
+    sym (ap (λ j. unwrap_or (noted_word m j) 0 / 256 ^ ((32 * i + k) % 8) % 256) at
+    ∙ ap (λ j. unwrap_or (noted_word m (4 * i + k / 8)) 0 / 256 ^ j % 256) part
     ∙ ap (λ (o : Option ℕ). unwrap_or o 0 / 256 ^ (k % 8) % 256) (has (k / 8) below))
 
 -- what a line that was read leaves of the chunk in hand
@@ -105,7 +105,7 @@ line_within layout len chunk i low = omega (arith, low)
 pub taken_line : (s t : Sight) (c d : Private) (op : RecvAt) (bytes after words : List ℕ) (i : ℕ) (chunk : Notes) → IsSetup s.seat.setup → op.from < s.seat.setup.nue → length bytes ≡ op.head.len
     → i < lines_now (chunk_of s.seat.setup) op → IsTakingLines (chunk_of s.seat.setup) (record_in s) op bytes chunk i
     → (i ≢ 0 → AreNoted s.seat.setup.layout (host_of s.seat.setup.hosts op.from) chunk c.lines)
-    → ReadsLine s (before_line i c) (line_at s.seat op.from (first_chunk s.seat.setup.layout + i)) words t d → length after ≡ length bytes
+    → ReadsLine s (before_line i c) (line_of_rank s.seat op.from (first_chunk s.seat.setup.layout + i)) words t d → length after ≡ length bytes
     → ((k : ℕ) → k < 32 → chunk_start (chunk_of s.seat.setup) op.chunk + 32 * i + k < length bytes → slice_index after (chunk_start (chunk_of s.seat.setup) op.chunk + 32 * i + k) ≡ byte_of_line words k)
     → ((k : ℕ) → k < chunk_start (chunk_of s.seat.setup) op.chunk + 32 * i → slice_index after k ≡ slice_index bytes k)
     → (m : Notes) × IsTakingLines (chunk_of s.seat.setup) (record_in t) op after m (i + 1) × AreNoted s.seat.setup.layout (host_of s.seat.setup.hosts op.from) m d.lines
@@ -117,7 +117,7 @@ taken_line s t c d op bytes after words i chunk valid below long low taking cach
     let message = progress_at size op.head op.chunk bytes in
     let within = line_within layout op.head.len op.chunk i low in
     let is : record_in s ≡ with_taken (record_in s) op.from message chunk = λ p. record (record_in s) { stage = taking.stage p } in
-    let r = line_notes s t (before_line i c) d s.seat (line_at s.seat op.from (first_chunk layout + i)) (4 * i) (with_taken (record_in s) op.from message) (IsNotedLine layout core) words chunk
+    let r = line_notes s t (before_line i c) d s.seat (line_of_rank s.seat op.from (first_chunk layout + i)) (4 * i) (with_taken (record_in s) op.from message) (IsNotedLine layout core) words chunk
     (chunk_source s.seat (record_in s) op.from i message valid below within) (chunk_condition s.seat op.from i within) refl is (cached_before layout core chunk i c cached) reads in
     let front : take (chunk_start size op.chunk) bytes ≡ take (chunk_start size op.chunk) after
     = take_agree (chunk_start size op.chunk) bytes after (sym same) (λ k small. sym (before k (omega (arith, small)))) in (

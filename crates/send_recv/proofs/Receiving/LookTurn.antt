@@ -25,7 +25,7 @@ use Rattle.send_recv.specs.declared.answers.RecvTurn.TheVariants.{Moved, Waiting
 use Rattle.send_recv.specs.Chunks.{chunk_count, chunk_start, chunk_len, lines_from}
 use Rattle.send_recv.specs.Flags.{Looks}
 use Rattle.send_recv.specs.Ops.{RecvAt, is_received}
-use Rattle.send_recv.specs.Receiving.{IsAtStage, IsReceiving, RecvStands, RecvDoes, RecvTurned, between, progress_at, spot_by, recv_spot, recv_left, recv_left_by, lines_now, lines_left, lines_left_by, flag_lines, is_look, filled_to, filled_by}
+use Rattle.send_recv.specs.Receiving.{IsAtRecvStage, IsReceiving, RecvStands, RecvDoes, RecvTurned, between, progress_at, spot_by, recv_spot, recv_left, recv_left_by, lines_now, lines_left, lines_left_by, flag_lines, is_look, filled_to, filled_by}
 use Rattle.send_recv.specs.Steps.{own_core, core_of, signal_flag, flag_spot, after_look, recv_or_waits}
 use Rattle.send_recv.specs.Turns.{HoldsNone, IsSamePost, KeepsAllButMessages}
 use Rattle.send_recv.specs.Ranks.{Receiver, receiving}
@@ -97,7 +97,7 @@ recv_does old stage done t d is does = subst (λ (st : RecvStage). RecvDoes old 
 
 -- what the stages of a receive that follow a look without a message word in between need
 pub stands_after : (seat : Seat) (rec new : Record) (c d : Private) (op now : RecvAt) (bytes : List ℕ) → IsReceiving seat rec c op bytes → now.from ≡ op.from → now.head ≡ op.head → now.chunk ≡ op.chunk
-    → d.out ≡ None → new.held ≡ rec.held → IsAtStage seat new d now bytes now.stage → IsReceiving seat new d now bytes
+    → d.out ≡ None → new.held ≡ rec.held → IsAtRecvStage seat new d now bytes now.stage → IsReceiving seat new d now bytes
 stands_after seat rec new c d op now bytes r from head chunk empty hold at = record {
   peers = ap (λ j. are_peers seat.setup seat.rank j) from ∙ r.peers;
   head = subst (λ h. IsHead h) (sym head) r.head;
@@ -119,7 +119,7 @@ look_waits : (s t : Sight) (c d : Private) (op : RecvAt) (bytes : List ℕ) → 
 look_waits s t c d op bytes valid r look looks =
     let size = chunk_of s.seat.setup in
     let l = looks_at Sent s t c d op.from false valid r.peers r.hands looks in
-    let at : (record_in s).stage ≡ between size op bytes = subst (λ (st : RecvStage). IsAtStage s.seat (record_in s) c op bytes st) look r.at in
+    let at : (record_in s).stage ≡ between size op bytes = subst (λ (st : RecvStage). IsAtRecvStage s.seat (record_in s) c op bytes st) look r.at in
     let stage : (record_in t).stage ≡ between size op bytes = looked_stage size (record_in s) (record_in t) op bytes l.looked at in
     let rest = looked_rest size (record_in s) (record_in t) l.looked in
     let post = looked_post size (record_in s) (record_in t) l.looked in
@@ -127,7 +127,7 @@ look_waits s t c d op bytes valid r look looks =
     record {
       stands = subst (λ (x : Seat). IsReceiving x (record_in t) d op bytes) (sym (seat_kept s _ t looks.looks.did))
           (stands_after s.seat (record_in s) (record_in t) c d op op bytes r refl refl refl (fills_out looks.looks.fills ∙ r.empty) rest.hold
-          (subst (λ (st : RecvStage). IsAtStage s.seat (record_in t) d op bytes st) (sym look) stage));
+          (subst (λ (st : RecvStage). IsAtRecvStage s.seat (record_in t) d op bytes st) (sym look) stage));
       turned = record {
         events = loads_of (line_of_word (flag_word (own_core s.seat) (signal_flag s.seat Sent op.from))) looks.words;
         did = looks.looks.did;
@@ -155,7 +155,7 @@ look_waits s t c d op bytes valid r look looks =
 
 -- what stands after a look that found the flag set
 seen_at : (seat : Seat) (new : Record) (d : Private) (op : RecvAt) (bytes : List ℕ) (b : Bool) → (op.chunk == 0) ≡ b → new.stage ≡ between (chunk_of seat.setup) op bytes → new.notes op.from ≡ Some []
-    → IsAtStage seat new d (record op { stage = if b then Header else Lower }) bytes (if b then Header else Lower)
+    → IsAtRecvStage seat new d (record op { stage = if b then Header else Lower }) bytes (if b then Header else Lower)
 seen_at seat new d op bytes true first stage notes =
     (grind (arith, nat_tests, first), stage ∙ ap (λ b. if b then Idle else Between op.from (progress_at (chunk_of seat.setup) op.head op.chunk bytes)) first, [], notes)
 seen_at seat new d op bytes false first stage notes = (stage, [], notes, λ zero_is. absurd (grind (arith, nat_tests, first, zero_is)))
@@ -201,7 +201,7 @@ look_finds s t c d op bytes b first valid r look looks =
     let size = chunk_of s.seat.setup in
     let now : RecvAt = record op { stage = if b then Header else Lower } in
     let l = looks_at Sent s t c d op.from true valid r.peers r.hands looks in
-    let at : (record_in s).stage ≡ between size op bytes = subst (λ (st : RecvStage). IsAtStage s.seat (record_in s) c op bytes st) look r.at in
+    let at : (record_in s).stage ≡ between size op bytes = subst (λ (st : RecvStage). IsAtRecvStage s.seat (record_in s) c op bytes st) look r.at in
     let stage : (record_in t).stage ≡ between size op bytes = looked_stage size (record_in s) (record_in t) op bytes l.looked at in
     let rest = looked_rest size (record_in s) (record_in t) l.looked in
     let post = looked_post size (record_in s) (record_in t) l.looked in

@@ -14,7 +14,7 @@ use Rattle.scc_proto.specs.Messages.{Notes, byte_at, bytes_from, is_last, with_c
 use Rattle.scc_proto.specs.Stages.{Stage, Idle, Between, Record}
 use Rattle.scc_proto.specs.Moves.{RaiseSignal, raise_ready, calls_received, finished_if, after}
 use Rattle.scc_proto.specs.Permission.{permits, has_taken}
-use Rattle.scc_proto.specs.Soundness.{is_taking}
+use Rattle.scc_proto.specs.Soundness.{is_taking_from}
 use Rattle.scc_proto.specs.Records.{chunk_of}
 use Rattle.scc_proto.specs.Ports.{Seat, Sight, record_in}
 use Rattle.scc_proto.proofs.Tests.{eqb_same, eqb_other}
@@ -25,7 +25,7 @@ use Rattle.send_recv.specs.declared.stages.RecvStage.TheVariants.{Look, Raise}
 use Rattle.send_recv.specs.Chunks.{chunk_count, chunk_start, chunk_len, chunk_lines_of, lines_from, is_last_chunk}
 use Rattle.send_recv.specs.Flags.{Changes, MayChange}
 use Rattle.send_recv.specs.Ops.{RecvAt}
-use Rattle.send_recv.specs.Receiving.{IsAtStage, IsReceiving, RecvStands, IsRead, IsTakingLines, between, progress_at, lines_now, flag_lines}
+use Rattle.send_recv.specs.Receiving.{IsAtRecvStage, IsReceiving, RecvStands, IsRead, IsTakingLines, between, progress_at, lines_now, flag_lines}
 use Rattle.send_recv.specs.Steps.{core_of, signal_flag}
 use Rattle.send_recv.proofs.Looks.FlagMoves.{MovesFlag, may_change, flag_moved, signal_raises, ready_is_clear}
 
@@ -36,14 +36,14 @@ pub record IsRaising (size : ℕ) (rec : Record) (op : RecvAt) (bytes : List ℕ
 
 pub is_raising : (seat : Seat) (rec : Record) (c : Private) (op : RecvAt) (bytes : List ℕ) → IsReceiving seat rec c op bytes → op.stage ≡ Raise → IsRaising (chunk_of seat.setup) rec op bytes
 is_raising seat rec c op bytes r raise =
-    let at : IsAtStage seat rec c op bytes Raise = subst (λ (st : RecvStage). IsAtStage seat rec c op bytes st) raise r.at in
+    let at : IsAtRecvStage seat rec c op bytes Raise = subst (λ (st : RecvStage). IsAtRecvStage seat rec c op bytes st) raise r.at in
     record { chunk = at.0; taking = at.1 }
 
 pub raise_permitted : (size : ℕ) (rec : Record) (op : RecvAt) (bytes : List ℕ) → IsRaising size rec op bytes → permits size (RaiseSignal Ready op.from) rec ≡ true
 raise_permitted size rec op bytes r = ap (λ (st : Stage). has_taken size op.from st) r.taking.stage ∙ (λ i. eqb_same op.from i && r.taking.read.loaded i)
 
-pub raise_takes : (size : ℕ) (rec : Record) (op : RecvAt) (bytes : List ℕ) → IsRaising size rec op bytes → is_taking op.from rec.stage ≡ true
-raise_takes size rec op bytes r = ap (λ (st : Stage). is_taking op.from st) r.taking.stage ∙ eqb_same op.from
+pub raise_takes : (size : ℕ) (rec : Record) (op : RecvAt) (bytes : List ℕ) → IsRaising size rec op bytes → is_taking_from op.from rec.stage ≡ true
+raise_takes size rec op bytes r = ap (λ (st : Stage). is_taking_from op.from st) r.taking.stage ∙ eqb_same op.from
 
 -- raising the flag is this move
 raises_ready : (s : Sight) (c : Private) (op : RecvAt) (bytes : List ℕ) → IsSetup s.seat.setup → RecvStands s c op bytes → op.stage ≡ Raise

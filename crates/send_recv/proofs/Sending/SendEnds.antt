@@ -20,7 +20,7 @@ use Rattle.send_recv.specs.Steps.{own_core, core_of, moves_on}
 use Rattle.sync_flags.specs.Tries.{Tried, NoTry}
 use Rattle.send_recv.specs.Tries.{aim_at}
 use Rattle.send_recv.specs.Turns.{LoadsLines, NoLoad, lines_for_try, waits_at}
-use Rattle.send_recv.specs.Ranks.{Sender, sending, with_slot}
+use Rattle.send_recv.specs.Ranks.{Sender, sending, holding_slot}
 use Rattle.send_recv.proofs.Receiving.LookTurn.{holds_kept}
 use Rattle.send_recv.proofs.Sending.SendFacts.{SendTurns, send_does, at_stage, left_at, spot_at}
 use Rattle.send_recv.proofs.Sending.SendWork.{none_work}
@@ -31,7 +31,7 @@ use Rattle.send_recv.proofs.Sending.SendWaits.{no_stores}
 left_by : (slot now lines p x : ℕ) → slot ≡ now + 1 → x ≡ now + 1 + lines + p → slot + 1 + lines + p ≡ x + 1
 left_by slot now lines p x fewer is = omega (arith, fewer, is)
 
-slot_means : (s t : Sight) (c d : Private) (op : SendAt) (slot now : SlotAt) (bytes : List ℕ) (answer : Turn) → op.stage ≡ Header → slot.to ≢ None → SlotTurned (with_slot s c slot) (with_slot t d now) answer
+slot_means : (s t : Sight) (c d : Private) (op : SendAt) (slot now : SlotAt) (bytes : List ℕ) (answer : Turn) → op.stage ≡ Header → slot.to ≢ None → SlotTurned (holding_slot s c slot) (holding_slot t d now) answer
     → SendMeans (sending s c op slot bytes) (sending t d op now bytes) answer
 slot_means s t c d op slot now bytes Moved header full turned =
     let size = chunk_of s.seat.setup in
@@ -48,12 +48,12 @@ slot_means s t c d op slot now bytes (Waiting spot) header full turned =
 slot_means s t c d op slot now bytes Done header full turned = absurd (full turned.means.0)
 
 -- a full slot's turn comes first
-slot_first : (old : Sender) (done : Bool) (t : Sight) (d : Private) (to : Option ℕ) → to ≢ None → SlotDoes (with_slot old.sight old.core old.slot) done t d → StartDoes old to done t d
+slot_first : (old : Sender) (done : Bool) (t : Sight) (d : Private) (to : Option ℕ) → to ≢ None → SlotDoes (holding_slot old.sight old.core old.slot) done t d → StartDoes old to done t d
 slot_first old done t d None full does = absurd (full refl)
 slot_first old done t d (Some to) full does = does
 
 pub slot_turn : (s t : Sight) (c d : Private) (op : SendAt) (slot now : SlotAt) (bytes : List ℕ) (answer : Turn) → SendStands s c op slot bytes → op.stage ≡ Header → slot.to ≢ None → SlotStands t.seat (record_in t) now
-    → SlotTurned (with_slot s c slot) (with_slot t d now) answer → SendTurns s c op slot bytes t d op now answer
+    → SlotTurned (holding_slot s c slot) (holding_slot t d now) answer → SendTurns s c op slot bytes t d op now answer
 slot_turn s t c d op slot now bytes answer r header full stands turned =
     let layout = s.seat.setup.layout in
     let at = at_stage s.seat (record_in s) c op slot bytes Header r header in

@@ -7,7 +7,7 @@ use Rattle.scc_base.specs.Setups.{IsSetup}
 use Rattle.scc_base.specs.declared.events.Spot.{Spot}
 use Rattle.scc_base.specs.declared.layouts.Layout.{Layout}
 use Rattle.scc_base.specs.declared.layouts.Layout.TheVariants.{LineFlags, BitFlags}
-use Rattle.scc_proto.specs.Messages.{Notes, noted, Progress}
+use Rattle.scc_proto.specs.Messages.{Notes, noted_word, Progress}
 use Rattle.scc_proto.specs.Stages.{Part, Raised, Answered, Stage, Sending, OnItsWay, Record}
 use Rattle.scc_proto.specs.Moves.{look_ready, post_answered}
 use Rattle.scc_proto.specs.Records.{chunk_of}
@@ -63,7 +63,7 @@ look_left rest p x is = omega (arith, is)
 -- what stands after the look
 look_at : (found : Bool) (seat : Seat) (new : Record) (d : Private) (op : SendAt) (bytes : List ℕ) (part : Part) (chunk : Notes) → op.stage ≡ Look → op.posted ≡ false → new.post ≡ None → d.out ≡ None → (part ≡ Raised) ⊎ (part ≡ Answered)
     → new.stage ≡ Sending op.to (part_seen found part) (progress_at (chunk_of seat.setup) op.head op.chunk bytes) chunk
-    → ((k : ℕ) → k < 4 * lines_in_hand (chunk_of seat.setup) op → noted chunk k ≡ Some (word_of_bytes bytes (chunk_start (chunk_of seat.setup) op.chunk + 8 * k)))
+    → ((k : ℕ) → k < 4 * lines_in_hand (chunk_of seat.setup) op → noted_word chunk k ≡ Some (word_of_bytes bytes (chunk_start (chunk_of seat.setup) op.chunk + 8 * k)))
     → IsAtSendStage seat new d (after_seen found op) bytes (after_seen found op).stage
 look_at true seat new d op bytes part chunk look plain post out or stage lines = (plain, post, out, record { chunk = chunk; stage_is = stage; lines = lines })
 look_at false seat new d op bytes part chunk look plain post out or stage lines =

@@ -9,7 +9,7 @@ use Rattle.scc_base.specs.Setups.{IsSetup}
 use Rattle.scc_base.specs.Events.{store_of}
 use Rattle.scc_base.specs.declared.layouts.Layout.{Layout}
 use Rattle.scc_base.specs.declared.layouts.Layout.TheVariants.{LineFlags, BitFlags}
-use Rattle.scc_proto.specs.Messages.{head_of, Progress, begun}
+use Rattle.scc_proto.specs.Messages.{head_of, Progress, fresh_message}
 use Rattle.scc_proto.specs.Stages.{Stage, OnItsWay, Record}
 use Rattle.scc_proto.specs.Moves.{RaiseSignal, after}
 use Rattle.scc_proto.specs.Permission.{permits, may_raise, is_drafted}
@@ -46,7 +46,7 @@ permitted_by seat rec c stage op slot bytes small r none (First header chunk fir
     let size = chunk_of seat.setup in
     let head : head_of header ≡ op.head = head_drafted header op words in
     let whole = header_whole header op r.head r.post_head words in
-    let drafted : is_drafted size (begun (head_of header)) chunk ≡ true = ap (λ (h : MessageHead). is_drafted size (begun h) chunk) head
+    let drafted : is_drafted size (fresh_message (head_of header)) chunk ≡ true = ap (λ (h : MessageHead). is_drafted size (fresh_message h) chunk) head
     ∙ ap (λ (m : Progress). is_drafted size m chunk) (begun_is size op.head op.chunk bytes first)
     ∙ drafted_is seat.setup.layout chunk op bytes small r.long r.in_hand lines in
     ap (λ (st : Stage). is_none rec.post && may_raise size op.to st) at ∙ (λ i. is_none (none i) && (whole i && drafted i))

@@ -6,7 +6,7 @@ use Rattle.scc_base.specs.Layouts.{chunk_size}
 use Rattle.scc_base.specs.declared.layouts.Layout.{Layout}
 use Rattle.scc_base.specs.declared.layouts.Layout.TheVariants.{LineFlags, BitFlags}
 use Rattle.scc_base.specs.declared.signals.Signal.TheVariants.{Sent}
-use Rattle.scc_proto.specs.Messages.{Notes, head_of, Progress, begun, with_chunk, message_of, post_to}
+use Rattle.scc_proto.specs.Messages.{Notes, head_of, Progress, fresh_message, with_chunk, message_of, post_to}
 use Rattle.scc_proto.specs.Stages.{Raised, Stage, Idle, Sending, OnItsWay, Record}
 use Rattle.scc_proto.specs.Moves.{RaiseSignal, raise_sent, post_raised, calls_raised, finished_if, is_posted, after}
 use Rattle.scc_proto.proofs.Layouts.Roles.{if_yes, if_no}
@@ -30,11 +30,11 @@ pub offered : (size : ℕ) (rec new : Record) (stage : Stage) (op : SendAt) (byt
     → IsOffered size rec new op bytes
 offered size rec new stage op bytes plain (First header chunk first at words lines) is =
     let not_posted : is_posted header ≡ false = posted_is header op words ∙ plain in
-    let message = begun (head_of header) in
+    let message = fresh_message (head_of header) in
     record {
       chunk = chunk;
       stage_is = ap (λ (r : Record). r.stage) is ∙ ap (λ (st : Stage). raise_sent op.to st) at ∙ if_no (is_posted header) Idle (Sending op.to Raised message chunk) not_posted
-          ∙ ap (λ (m : Progress). Sending op.to Raised m chunk) (ap (λ (h : MessageHead). begun h) (head_drafted header op words) ∙ begun_is size op.head op.chunk bytes first);
+          ∙ ap (λ (m : Progress). Sending op.to Raised m chunk) (ap (λ (h : MessageHead). fresh_message h) (head_drafted header op words) ∙ begun_is size op.head op.chunk bytes first);
       lines = lines;
       post = ap (λ (r : Record). r.post) is ∙ ap (λ (st : Stage). post_raised op.to st rec.post) at
           ∙ if_no (is_posted header) (Some (record { to = op.to; head = head_of header; chunk = chunk; is_answered = false })) rec.post not_posted;
@@ -70,8 +70,8 @@ pub posted_now : (layout : Layout) (rec new : Record) (stage : Stage) (op : Send
 posted_now layout rec new stage op bytes small posts head long below (First header chunk first at words lines) is =
     let size = chunk_size layout in
     let posted : is_posted header ≡ true = posted_is header op words ∙ posts in
-    let message = begun (head_of header) in
-    let begins : message ≡ progress_at size op.head op.chunk bytes = ap (λ (h : MessageHead). begun h) (head_drafted header op words) ∙ begun_is size op.head op.chunk bytes first in
+    let message = fresh_message (head_of header) in
+    let begins : message ≡ progress_at size op.head op.chunk bytes = ap (λ (h : MessageHead). fresh_message h) (head_drafted header op words) ∙ begun_is size op.head op.chunk bytes first in
     record {
       stage = ap (λ (r : Record). r.stage) is ∙ ap (λ (st : Stage). raise_sent op.to st) at ∙ if_yes (is_posted header) Idle (Sending op.to Raised message chunk) posted;
       to = ap (λ (r : Record). option_map (λ (p : OnItsWay). p.to) r.post) is ∙ ap (λ (st : Stage). option_map (λ (p : OnItsWay). p.to) (post_raised op.to st rec.post)) at

@@ -1,6 +1,6 @@
 use Rattle.std.proofs.Common.{◌≡◌, ◌<◌, ◌≤◌, List, ℕ, length, get_or, subst, arith}
 use Rattle.std.proofs.lemmas.Option.{get_or_from_slice_get}
-use Rattle.rcce_io.specs.Sending.{Waits}
+use Rattle.rcce_io.specs.Sending.{RestWaits}
 use Rattle.rcce_io.proofs.SendingLemmas.{cut_gathered, joined-all, joined-more, joined-parts, sends_err, sends_waiting, waits_none, waits_within}
 use Rattle.check_program.specs.Texts.{match_line}
 use Rattle.check_program.proofs.report.write_matches.Goals as goal
@@ -33,6 +33,6 @@ pub returns : goal.returns
 returns g c =
     let items = c.args.matches.now in
     let past : length items ≤ c.loop-i.i = omega arith in
-    let P : List ℕ → Type 0 = λ text. Waits text c.loop-i.buffer (g.S.Sink.seen c.args.sink.now) (g.S.Sink.seen c.loop-i.sink) in
+    let P : List ℕ → Type 0 = λ text. RestWaits text c.loop-i.buffer (g.S.Sink.seen c.args.sink.now) (g.S.Sink.seen c.loop-i.sink) in
     sends_waiting (g.S.Sink.seen c.args.sink.now) (g.S.Sink.seen c.loop-i.sink) (g.S.Sink.seen c.flush.new.sink) _ c.loop-i.buffer c.flush.result
     (subst P (joined-all match_line items c.loop-i.i past) c.loop-i.invariant) c.flush.ensures.sends

@@ -1,16 +1,16 @@
 use Rattle.std.specs.Prelude.{ℕ, ◌<◌}
 use Rattle.scc_mesh.specs.Scenes.{about_in}
-use Rattle.chip_run.specs.Away.{members_of}
+use Rattle.chip_run.specs.Away.{conduct_of_members}
 use Rattle.chip_run.specs.Crews.{CrewStands, all_left}
 use Rattle.chip_run.specs.Runs.{RoundsTo, rounds_of}
 use Rattle.chip_run.proofs.runs.run.Given as goal
 
 abbrev pub invariant-loop-end : goal.invariant-loop-end
 invariant-loop-end g l = record {
-  stands : CrewStands (members_of g.W.Worker.conduct) l.fn.chip l.fn.crew l.chip l.crew;
+  stands : CrewStands (conduct_of_members g.W.Worker.conduct) l.fn.chip l.fn.crew l.chip l.crew;
   threads : 0 < l.threads;
-  order : (n : ℕ) × RoundsTo (members_of g.W.Worker.conduct) (rounds_of l.fn.mode) n l.rounds l.fn.chip l.fn.crew l.chip l.crew;
+  order : (n : ℕ) × RoundsTo (conduct_of_members g.W.Worker.conduct) (rounds_of l.fn.mode) n l.rounds l.fn.chip l.fn.crew l.chip l.crew;
 }
 
 abbrev pub decreases-loop-end : goal.decreases-loop-end
-decreases-loop-end g l = all_left (members_of g.W.Worker.conduct) (about_in l.fn.chip) l.crew
+decreases-loop-end g l = all_left (conduct_of_members g.W.Worker.conduct) (about_in l.fn.chip) l.crew

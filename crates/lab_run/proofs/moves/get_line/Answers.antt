@@ -1,5 +1,5 @@
 use Rattle.std.proofs.Common.{◌∙◌, ap, subst, sym}
-use Rattle.line_cache.specs.Lines.{filled, held}
+use Rattle.line_cache.specs.Lines.{with_filled_line, cached_words}
 use Rattle.put_get.specs.Cores.{Private}
 use Rattle.put_get.specs.HeapStores.{AwaitsHeap}
 use Rattle.lab_plain.specs.Scenes.{line_in}
@@ -13,10 +13,10 @@ load_line-requires-clause-ready c =
     (subst (λ (x : Private). AwaitsHeap c.args.chip.now.setup x.out) (sym c.cl1invmb.ensures) c.requires.ready.awaits)
 
 pub load_line-requires-clause-new : goal.load_line-requires-clause-new
-load_line-requires-clause-new c = ap (λ (x : Private). held x.lines c.args.at) c.cl1invmb.ensures
+load_line-requires-clause-new c = ap (λ (x : Private). cached_words x.lines c.args.at) c.cl1invmb.ensures
 
 pub returns-clause-lines : goal.returns-clause-lines
-returns-clause-lines c = c.load_line.ensures.loads.lines ∙ ap (λ (x : Private). filled x.lines c.args.at (line_in (memory_in c.args.chip.now) c.args.at)) c.cl1invmb.ensures
+returns-clause-lines c = c.load_line.ensures.loads.lines ∙ ap (λ (x : Private). with_filled_line x.lines c.args.at (line_in (memory_in c.args.chip.now) c.args.at)) c.cl1invmb.ensures
 
 pub returns-clause-empty : goal.returns-clause-empty
 returns-clause-empty c = c.load_line.ensures.loads.out ∙ ap (λ (x : Private). x.out) c.cl1invmb.ensures ∙ c.requires.empty

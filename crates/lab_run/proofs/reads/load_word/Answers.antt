@@ -1,6 +1,6 @@
 use Rattle.std.proofs.Common.{◌++◌, ◌∷◌, [], ◌∙◌, ap, slice_index, sym}
 use Rattle.scc_base.specs.Places.{LineAt}
-use Rattle.line_cache.specs.Lines.{held}
+use Rattle.line_cache.specs.Lines.{cached_words}
 use Rattle.lab_plain.specs.declared.said.Said.TheVariants.{Answers, Loads}
 use Rattle.lab_plain.specs.declared.said.Source.TheVariants.{Words}
 use Rattle.lab_plain.specs.Scenes.{line_in, say_left}
@@ -9,7 +9,7 @@ use Rattle.lab_run.proofs.MoveLaws.{loaded_turn}
 use Rattle.lab_run.proofs.reads.load_word.Goals as goal
 
 pub load_line-left-requires-clause-new : goal.load_line-left-requires-clause-new
-load_line-left-requires-clause-new c = ap (λ (l : LineAt). held c.args.core.now.lines l) c.line.ensures.gives ∙ c.requires.new
+load_line-left-requires-clause-new c = ap (λ (l : LineAt). cached_words c.args.core.now.lines l) c.line.ensures.gives ∙ c.requires.new
 
 pub returns-clause-turned : goal.returns-clause-turned
 returns-clause-turned c =

@@ -1,6 +1,6 @@
 use Rattle.std.proofs.Common.{◌∙◌, ◌+◌, ℕ, sym, subst, arith, slice_index}
 use Rattle.std.proofs.lemmas.List.{length-map}
-use Rattle.rcce_audit.specs.Standings.{list_at, standing_of}
+use Rattle.rcce_audit.specs.Standings.{calls_at_rank, standing_of}
 use Rattle.rcce_audit.specs.Verdicts.{IsFirstLeft}
 use Rattle.rcce_audit.specs.Views.{data_list, data_lists, data_of}
 use Rattle.rcce_audit.proofs.StandingLemmas.{first_left, none_left, some_get}
@@ -11,7 +11,7 @@ returns-then-is_some c =
     let lists = data_lists c.args.lists.now in
     let p = c.args.progress.now in
     let some = some_get (λ call. data_of call.now) c.first.result _ c.first.ensures (sym c.is_some.ensures ∙ c.if-is_some.true) in
-    subst (λ (r : ℕ). IsFirstLeft (list_at lists) (standing_of lists p) r (slice_index p.next c.loop-number.number + 1)) (sym c.of.ensures.gives)
+    subst (λ (r : ℕ). IsFirstLeft (calls_at_rank lists) (standing_of lists p) r (slice_index p.next c.loop-number.number + 1)) (sym c.of.ensures.gives)
     (first_left lists p c.loop-number.number some c.loop-number.invariant)
 
 pub returns : goal.returns

@@ -1,12 +1,12 @@
 use Rattle.std.proofs.Common.{◌≡◌, ℕ, ◌<◌, ◌≤◌, List, [], ◌∷◌, length, get_or, map, None, refl, ◌∙◌, arith}
 use Rattle.scc_base.specs.declared.communicators.CommRule.{CommRule}
-use Rattle.rcce_audit.specs.Grammar.{comm_said, split_said}
+use Rattle.rcce_audit.specs.Grammar.{comm_said, log_split_said}
 use Rattle.rcce_audit.proofs.lines.comm_said.Goals as goal
 
 module _ {X : Type 0} (view : X → List ℕ) (last : ℕ) (comms : List CommRule) where
   -- what five words say, by their places
   five : (d : X) (ws : List X) → 5 ≤ length ws → length ws < 6
-      → split_said last comms (view (get_or ws 0 d)) (view (get_or ws 1 d)) (view (get_or ws 2 d)) (view (get_or ws 3 d)) (view (get_or ws 4 d)) ≡ comm_said last comms (map view ws)
+      → log_split_said last comms (view (get_or ws 0 d)) (view (get_or ws 1 d)) (view (get_or ws 2 d)) (view (get_or ws 3 d)) (view (get_or ws 4 d)) ≡ comm_said last comms (map view ws)
   five d (w0 ∷ w1 ∷ w2 ∷ w3 ∷ w4 ∷ []) least most = refl
   five d [] least most = absurd (omega arith)
   five d (w0 ∷ []) least most = absurd (omega arith)

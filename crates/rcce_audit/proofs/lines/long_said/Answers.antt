@@ -1,7 +1,7 @@
 use Rattle.std.proofs.Common.{◌≡◌, ℕ, List, [], ◌∷◌, length, get_or, map, Option, Some, None, IfOk, option_map, refl, sym, ◌∙◌, ap, subst, arith}
 use Rattle.scc_base.specs.Heads.{MessageHead}
 use Rattle.rcce_audit.specs.declared.lines.EndRanks.{EndRanks}
-use Rattle.rcce_audit.specs.Grammar.{RankedCall, ends_said, head_said, long_said, message_said}
+use Rattle.rcce_audit.specs.Grammar.{RankedCall, ends_said, log_head_said, long_said, message_said}
 use Rattle.rcce_audit.specs.Views.{ranked_of}
 use Rattle.rcce_audit.specs.Words.{◌>>=◌}
 use Rattle.rcce_audit.proofs.lines.long_said.Goals as goal
@@ -11,7 +11,7 @@ module _ {X : Type 0} (view : X → List ℕ) (nue : ℕ) (d : X) where
   ends_at ws = ends_said nue (view (get_or ws 0 d)) (view (get_or ws 2 d))
 
   abbrev head_at : List X → Option MessageHead
-  head_at ws = head_said (view (get_or ws 3 d)) (view (get_or ws 4 d)) (view (get_or ws 5 d))
+  head_at ws = log_head_said (view (get_or ws 3 d)) (view (get_or ws 4 d)) (view (get_or ws 5 d))
 
   abbrev message_at : List X → EndRanks → MessageHead → Option RankedCall
   message_at ws ends head = message_said ends head (view (get_or ws 1 d)) (view (get_or ws 6 d))

@@ -1,6 +1,6 @@
 use Rattle.std.proofs.Common.{◌∙◌, ℕ, List, ap, sym, slice_get, slice_index, option_map}
 use Rattle.scc_base.specs.Calls.{DataCall, Send, Recv, Post, Bar}
-use Rattle.rcce_audit.specs.Standings.{list_at}
+use Rattle.rcce_audit.specs.Standings.{calls_at_rank}
 use Rattle.rcce_audit.specs.Views.{data_lists, data_of}
 use Rattle.rcce_audit.proofs.StepLemmas.{front_of, none_first, tries_first}
 use Rattle.rcce_audit.proofs.steps.try_first.Goals as goal
@@ -37,4 +37,4 @@ pub returns-in-None : goal.returns-in-None
 returns-in-None c =
     let none = sym (ap (option_map (λ call. data_of call.now)) c.in-None.is) ∙ c.first.ensures in
     none_first c.args.setup.now (data_lists c.args.lists.now) c.args.rank c.args.progress.now
-    (sym (ap (λ (n : ℕ). slice_get (list_at (data_lists c.args.lists.now) n) (slice_index c.args.progress.now.next n)) c.number.ensures.gives) ∙ sym none)
+    (sym (ap (λ (n : ℕ). slice_get (calls_at_rank (data_lists c.args.lists.now) n) (slice_index c.args.progress.now.next n)) c.number.ensures.gives) ∙ sym none)

@@ -5,7 +5,7 @@ use Rattle.scc_base.specs.Calls.{Bar}
 use Rattle.scc_base.specs.Setups.{setup_key}
 use Rattle.scc_proto.specs.Legality.{in_group}
 use Rattle.rcce_audit.specs.Logs.{IsLogCall}
-use Rattle.rcce_audit.specs.Standings.{list_at}
+use Rattle.rcce_audit.specs.Standings.{calls_at_rank}
 use Rattle.rcce_audit.specs.Views.{data_lists}
 use Rattle.rcce_audit.proofs.StepLemmas.{all_get, meet_acts, no_meet, no_meet_root, rank_below}
 use Rattle.rcce_audit.proofs.steps.try_meet.Goals as goal
@@ -26,13 +26,13 @@ pub meet-requires-clause-comm_below : goal.meet-requires-clause-comm_below
 meet-requires-clause-comm_below c =
     let s = c.args.setup.now in
     let r : ℕ = c.args.rank in
-    (all_get (IsLogCall s.nue s.comms r) (list_at (data_lists c.args.lists.now) r) (slice_index c.args.progress.now.next r) (Bar c.args.comm) (c.requires.lists.calls r) c.requires.front).0
+    (all_get (IsLogCall s.nue s.comms r) (calls_at_rank (data_lists c.args.lists.now) r) (slice_index c.args.progress.now.next r) (Bar c.args.comm) (c.requires.lists.calls r) c.requires.front).0
 
 pub meet-requires-clause-present : goal.meet-requires-clause-present
 meet-requires-clause-present c =
     let s = c.args.setup.now in
     let r : ℕ = c.args.rank in
-    (all_get (IsLogCall s.nue s.comms r) (list_at (data_lists c.args.lists.now) r) (slice_index c.args.progress.now.next r) (Bar c.args.comm) (c.requires.lists.calls r) c.requires.front).1
+    (all_get (IsLogCall s.nue s.comms r) (calls_at_rank (data_lists c.args.lists.now) r) (slice_index c.args.progress.now.next r) (Bar c.args.comm) (c.requires.lists.calls r) c.requires.front).1
 
 pub returns : goal.returns
 returns c =

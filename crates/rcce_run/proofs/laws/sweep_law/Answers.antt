@@ -1,5 +1,5 @@
 use Rattle.script_plain.specs.Meaning.{next_of}
-use Rattle.script_plain.specs.Collectives.{started}
+use Rattle.script_plain.specs.Collectives.{start_of_rank}
 use Rattle.rcce_run.proofs.OpenCalls.{none_drafts, open_is_next}
 use Rattle.rcce_run.proofs.ScriptSweep.{script_calls, script_empty, script_ends, script_slots, script_still, script_waits}
 use Rattle.rcce_run.proofs.laws.sweep_law.Goals as goal
@@ -23,7 +23,7 @@ pub returns-clause-calls : goal.returns-clause-calls
 returns-clause-calls c = λ script s memory records states lasts sw. script_calls script s memory records states lasts sw
 
 pub returns-clause-opened : goal.returns-clause-opened
-returns-clause-opened c = λ script s memory records states lasts sw. open_is_next next_of s memory records (started script) states lasts sw.swept
+returns-clause-opened c = λ script s memory records states lasts sw. open_is_next next_of s memory records (start_of_rank script) states lasts sw.swept
 
 pub returns-clause-no_draft : goal.returns-clause-no_draft
-returns-clause-no_draft c = λ script s memory records states lasts sw. none_drafts next_of s memory records (started script) states lasts sw.swept
+returns-clause-no_draft c = λ script s memory records states lasts sw. none_drafts next_of s memory records (start_of_rank script) states lasts sw.swept

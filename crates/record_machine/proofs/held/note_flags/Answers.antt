@@ -1,6 +1,6 @@
 use Rattle.std.proofs.Common.{◌≡◌, ◌<◌, ℕ, Option, Some, length, option_map, slice_set, sym, ◌∙◌, ap, subst, arith}
 use Rattle.scc_proto.specs.Stages.{FlagWords}
-use Rattle.scc_proto.specs.Tables.{put}
+use Rattle.scc_proto.specs.Tables.{table_with}
 use Rattle.record_machine.specs.Held.{KeepsHeld, flag_words}
 use Rattle.record_machine.specs.Uses.{note_by}
 use Rattle.record_machine.specs.declared.held.NotedFlags.{NotedFlags}
@@ -19,5 +19,5 @@ returns-in-SignalFlags-clause-notes c = λ records keeps.
     let now : option_map flag_words slot ≡ option_map (note_by c.args.of.now value) (records core)
     = ap (λ (f : FlagWords). Some f) c.with_word-words.ensures.gives ∙ ap (λ (u : Use). Some (note_by u value (flag_words flags))) (sym c.in-SignalFlags.is) ∙ ap (option_map (note_by c.args.of.now value)) (sym was) in
     let within : core < length held = omega arith in
-    subst (λ (k : ℕ). KeepsHeld (slice_set held core slot) (put records k (option_map (note_by c.args.of.now value) (records k)))) c.number-at.ensures.gives
+    subst (λ (k : ℕ). KeepsHeld (slice_set held core slot) (table_with records k (option_map (note_by c.args.of.now value) (records k)))) c.number-at.ensures.gives
     (held_put held records core slot (option_map (note_by c.args.of.now value) (records core)) within now keeps)

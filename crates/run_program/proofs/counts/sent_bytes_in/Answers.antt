@@ -1,6 +1,6 @@
 use Rattle.std.proofs.Common.{◌≡◌, ◌<◌, ◌+◌, ◌-◌, ◌^◌, ℕ, ap, arith, min, sum_by, sym, ◌∙◌}
 use Rattle.chip_run.specs.declared.members.Member.{Member}
-use Rattle.rcce_ue.specs.Ues.{UeView, counted}
+use Rattle.rcce_ue.specs.Ues.{UeView, capped_count}
 use Rattle.script_gen.specs.Outcome.{sent_bytes_of}
 use Rattle.script_plain.specs.Meaning.{State}
 use Rattle.run_program.proofs.SentLemmas.{all_cells, bytes_more}
@@ -14,4 +14,4 @@ loop-number-preserved c =
     c.loop-number.invariant (c.saturating_add-sent.ensures ∙ ap (λ (n : ℕ). min (c.loop-number.sent + n) (2 ^ 64 - 1)) own)
 
 pub returns : goal.returns
-returns c = c.loop-number.invariant ∙ ap counted (all_cells c.args.scripts.now (λ (u : State). sum_by sent_bytes_of u.matched) c.loop-number.number (omega arith))
+returns c = c.loop-number.invariant ∙ ap capped_count (all_cells c.args.scripts.now (λ (u : State). sum_by sent_bytes_of u.matched) c.loop-number.number (omega arith))

@@ -1,5 +1,5 @@
 use Rattle.std.proofs.Common.{subst, List, ℕ}
-use Rattle.rcce_io.specs.Sending.{Waits}
+use Rattle.rcce_io.specs.Sending.{RestWaits}
 use Rattle.rcce_io.proofs.SendingLemmas.{cut_gathered, sends_err, sends_waiting, waits_none, waits_within}
 use Rattle.run_program.proofs.ValueLemmas.{values-all, values-more, values-parts}
 use Rattle.run_program.proofs.pieces.write_values.Goals as goal
@@ -20,6 +20,6 @@ loop-i-preserved g c =
 
 pub returns : goal.returns
 returns g c =
-    let P : List ℕ → Type 0 = λ text. Waits text c.loop-i.buffer (g.S.Sink.seen c.args.sink.now) (g.S.Sink.seen c.loop-i.sink) in
+    let P : List ℕ → Type 0 = λ text. RestWaits text c.loop-i.buffer (g.S.Sink.seen c.args.sink.now) (g.S.Sink.seen c.loop-i.sink) in
     sends_waiting (g.S.Sink.seen c.args.sink.now) (g.S.Sink.seen c.loop-i.sink) (g.S.Sink.seen c.flush.new.sink) _ c.loop-i.buffer c.flush.result
     (subst P (values-all c.args.ty c.args.bytes.now c.loop-i.i c.width-width.result c.width-width.ensures.gives c.loop-i-test.false) c.loop-i.invariant) c.flush.ensures.sends

@@ -1,6 +1,6 @@
 use Rattle.std.proofs.Common.{◌≡◌, ◌<◌, ◌≤◌, List, ℕ, length, get_or, subst, arith}
 use Rattle.std.proofs.lemmas.Option.{get_or_from_slice_get}
-use Rattle.rcce_io.specs.Sending.{Waits}
+use Rattle.rcce_io.specs.Sending.{RestWaits}
 use Rattle.rcce_io.proofs.SendingLemmas.{cut_gathered, joined-all, joined-more, joined-parts, sends_err, sends_waiting, waits_none, waits_within}
 use Rattle.script_plain.specs.Ends.{ended_at}
 use Rattle.run_program.specs.Reports.{printed_line}
@@ -37,6 +37,6 @@ returns g c =
     let items = (ended_at (g.T.Endings.ended c.args.run.now) c.args.rank).printed in
     let line = printed_line c.args.scripts.now.names c.args.rank in
     let past : length items ≤ c.loop-i.i = omega arith in
-    let P : List ℕ → Type 0 = λ text. Waits text c.loop-i.buffer (g.S.Sink.seen c.args.sink.now) (g.S.Sink.seen c.loop-i.sink) in
+    let P : List ℕ → Type 0 = λ text. RestWaits text c.loop-i.buffer (g.S.Sink.seen c.args.sink.now) (g.S.Sink.seen c.loop-i.sink) in
     sends_waiting (g.S.Sink.seen c.args.sink.now) (g.S.Sink.seen c.loop-i.sink) (g.S.Sink.seen c.flush.new.sink) _ c.loop-i.buffer c.flush.result
     (subst P (joined-all line items c.loop-i.i past) c.loop-i.invariant) c.flush.ensures.sends

@@ -2,9 +2,9 @@ use Rattle.std.proofs.Common.{refl}
 use Rattle.std.specs.Int.{int_wrap}
 use Rattle.texts.specs.Numbers.{number_of}
 use Rattle.script_machine.specs.Local.{local_next}
-use Rattle.script_machine.specs.Program.{unrolled}
+use Rattle.script_machine.specs.Program.{unrolled_items}
 use Rattle.script_examples.proofs.values.a_repeat_is_done_twice.Goals as goal
 
 pub returns : goal.returns
-unfolding int_wrap number_of local_next unrolled
+unfolding int_wrap number_of local_next unrolled_items
 returns c = record { doubles = refl }

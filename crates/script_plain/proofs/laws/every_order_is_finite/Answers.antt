@@ -1,4 +1,4 @@
-use Rattle.script_machine.specs.Local.{cost_of}
+use Rattle.script_machine.specs.Local.{most_steps_left}
 use Rattle.script_plain.specs.Meaning.{State, next_of}
 use Rattle.script_plain.proofs.Orders.EndLaws.{most_steps}
 use Rattle.script_plain.proofs.Runs.PlainLaws.{state_lowers}
@@ -6,7 +6,7 @@ use Rattle.script_plain.proofs.Runs.RunLaws.{falls}
 use Rattle.script_plain.proofs.laws.every_order_is_finite.Goals as goal
 
 pub returns-clause-lowers : goal.returns-clause-lowers
-returns-clause-lowers c = λ keys a before after. falls keys next_of (λ (u : State). cost_of u.local) state_lowers before after a
+returns-clause-lowers c = λ keys a before after. falls keys next_of (λ (u : State). most_steps_left u.local) state_lowers before after a
 
 pub returns-clause-most : goal.returns-clause-most
-returns-clause-most c = λ keys. most_steps keys next_of (λ (u : State). cost_of u.local) state_lowers
+returns-clause-most c = λ keys. most_steps keys next_of (λ (u : State). most_steps_left u.local) state_lowers

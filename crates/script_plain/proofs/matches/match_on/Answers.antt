@@ -8,7 +8,7 @@ use Rattle.script_plain.proofs.Runs.RunLaws.{falls_lowest, sound}
 use Rattle.script_plain.proofs.Orders.WayLaws.{further, run_ended}
 use Rattle.script_plain.specs.Code.{BringsLowest, config}
 use Rattle.script_plain.specs.Facing.{IsStillTo}
-use Rattle.script_machine.specs.Local.{Local, cost_of, local_next}
+use Rattle.script_machine.specs.Local.{Local, most_steps_left, local_next}
 use Rattle.script_plain.specs.Step.{Configuration, lowest_step}
 use Rattle.script_plain.proofs.matches.match_on.Goals as goal
 
@@ -17,7 +17,7 @@ loop-matches-smaller c =
     let keys = setup_key c.args.setup.now in
     let old = config c.loop-matches.ues c.loop-matches.slots in
     let new = config c.step_lowest.new.ues c.step_lowest.new.slots in
-    falls_lowest keys local_next cost_of local_lowers old new
+    falls_lowest keys local_next most_steps_left local_lowers old new
     (was_stepped keys (is_some c.in_ok-next.field-0) old new c.loop-matches.matches c.step_lowest.new.matches (ap is_some c.in-Some.is) c.in_ok-next.ensures.brings)
 
 pub loop-matches-preserved : goal.loop-matches-preserved
@@ -54,7 +54,7 @@ returns-clause-end c =
     let old = config c.loop-matches.ues c.loop-matches.slots in
     let new = config c.step_lowest.new.ues c.step_lowest.new.slots in
     let rested = subst (λ (b : Bool). BringsLowest keys b old new c.loop-matches.matches c.step_lowest.new.matches) (none_came c.in_ok-next.field-0 c.in_default.not-Some) c.in_ok-next.ensures.brings in
-    rested.1 ∙ run_ended keys old (sum_by cost_of c.loop-matches.ues) rested.0 ∙ c.loop-matches.invariant.same_end
+    rested.1 ∙ run_ended keys old (sum_by most_steps_left c.loop-matches.ues) rested.0 ∙ c.loop-matches.invariant.same_end
 
 pub returns-clause-still : goal.returns-clause-still
 returns-clause-still c =

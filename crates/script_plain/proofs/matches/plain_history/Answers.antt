@@ -2,7 +2,7 @@ use Rattle.std.proofs.Common.{◌≡◌, ◌∙◌, List, Option, None, ap, leng
 use Rattle.scc_base.specs.Communicators.{key_of}
 use Rattle.scc_base.specs.declared.communicators.CommRule.{CommRule}
 use Rattle.script_plain.specs.Code.{config}
-use Rattle.script_machine.specs.Local.{Local, cost_of, local_next, line_of}
+use Rattle.script_machine.specs.Local.{Local, most_steps_left, local_next, statement_line}
 use Rattle.script_plain.specs.Matches.{matches_on}
 use Rattle.script_plain.specs.Meaning.{ends_at, keys_of, locals_of, plain_end, seen_of, start_of}
 use Rattle.script_machine.specs.declared.posts.Posted.{Posted}
@@ -27,9 +27,9 @@ returns-clause-matches c =
     let start = locals_of (start_of script) in
     let slots : c.deref_mut-2.result.now ≡ replicate script.nue None = c.deref_mut-2.ensures.value ∙ c.in_ok-ues.ensures.slots in
     c.in_ok-history.ensures.matches
-    ∙ ap (λ (comms : List CommRule). matches_on (key_of comms) local_next line_of (sum_by cost_of c.deref_mut.result.now) (config c.deref_mut.result.now c.deref_mut-2.result.now)) c.setup_of-setup.ensures.communicators
-    ∙ ap (λ (us : List Local). matches_on (keys_of script) local_next line_of (sum_by cost_of us) (config us c.deref_mut-2.result.now)) (c.deref_mut.ensures.value ∙ c.in_ok-ues.ensures.cells)
-    ∙ ap (λ (ss : List (Option Posted)). matches_on (keys_of script) local_next line_of (sum_by cost_of start) (config start ss)) slots
+    ∙ ap (λ (comms : List CommRule). matches_on (key_of comms) local_next statement_line (sum_by most_steps_left c.deref_mut.result.now) (config c.deref_mut.result.now c.deref_mut-2.result.now)) c.setup_of-setup.ensures.communicators
+    ∙ ap (λ (us : List Local). matches_on (keys_of script) local_next statement_line (sum_by most_steps_left us) (config us c.deref_mut-2.result.now)) (c.deref_mut.ensures.value ∙ c.in_ok-ues.ensures.cells)
+    ∙ ap (λ (ss : List (Option Posted)). matches_on (keys_of script) local_next statement_line (sum_by most_steps_left start) (config start ss)) slots
     ∙ seen_matches script
 
 pub returns-clause-end : goal.returns-clause-end

@@ -3,7 +3,7 @@ use Rattle.scc_base.specs.Setups.{setup_key}
 use Rattle.script_plain.specs.declared.matches.Match.{Match}
 use Rattle.script_plain.specs.Code.{BringsAt, config}
 use Rattle.script_plain.specs.Facing.{AreAside, facing_at}
-use Rattle.script_machine.specs.Local.{Local, local_next, line_of}
+use Rattle.script_machine.specs.Local.{Local, local_next, statement_line}
 use Rattle.script_plain.specs.Matches.{step_brought}
 use Rattle.script_plain.specs.Step.{Configuration, lowest_step}
 use Rattle.script_plain.proofs.Orders.FacingLaws.{none_lowest, still_on, took_lowest}
@@ -20,8 +20,8 @@ returns-then-branch-clause-brings c =
     let within : i < length old.cells = omega (arith, c.loop-number-test.true, c.loop-number.auto.number-end, c.nue-number-end.ensures.gives, c.requires.run.ranks, ap (λ (x : Configuration Local). length x.cells) same) in
     let taken = took_lowest keys c.in_ok-step_by.field-0 old new i c.loop-number.matches c.step_by.new.matches c.if-branch.true step c.loop-number.invariant.still within in (
       ap (lowest_step keys local_next) (sym same) ∙ taken.0,
-      taken.1 ∙ ap (λ (l : List Match). l ++ step_brought keys local_next line_of old) c.loop-number.invariant.none_more
-          ∙ ap (λ (x : Configuration Local). c.args.matches.now ++ step_brought keys local_next line_of x) same,
+      taken.1 ∙ ap (λ (l : List Match). l ++ step_brought keys local_next statement_line old) c.loop-number.invariant.none_more
+          ∙ ap (λ (x : Configuration Local). c.args.matches.now ++ step_brought keys local_next statement_line x) same,
     )
 
 pub returns-then-branch-clause-still : goal.returns-then-branch-clause-still

@@ -3,7 +3,7 @@ use Rattle.std.proofs.lemmas.Option.{slice_get_read}
 use Rattle.scc_base.specs.Setups.{setup_key}
 use Rattle.script_plain.specs.Code.{HasLength, HasSent, HasTaken, IsAtReceive, IsAtSend}
 use Rattle.script_machine.specs.Local.{Local, local_next}
-use Rattle.script_machine.specs.Moves.{length_in}
+use Rattle.script_machine.specs.Moves.{length_asked}
 use Rattle.script_plain.proofs.CodeSteps.StandLaws.{delivered, delivered_long, receiver_stands, sender_stands, sender_there}
 use Rattle.script_plain.proofs.steps.deliver.Goals as goal
 
@@ -31,7 +31,7 @@ receive-requires-clause-long c =
     let here = slice_get_read ues (length ues) c.args.from c.index-ues-from.result refl (sender_there keys ues slots c.args.from c.args.to c.requires) c.index-ues-from.is in
     let long = subst (λ (u : Local). HasLength (local_next u) c.in_ok-bytes.bytes) (sym c.index-ues-from.is) c.in_ok-bytes.ensures.long in
     delivered_long keys ues slots c.args.from c.args.to c.index-ues-from.result c.send.new.self c.index-ues-to.result c.in_ok-bytes.bytes c.requires here long c.index-ues-to.is
-    ∙ ap (λ (u : Local). length_in (local_next u)) c.index-ues-to.is
+    ∙ ap (λ (u : Local). length_asked (local_next u)) c.index-ues-to.is
 
 pub returns : goal.returns
 returns c =

@@ -2,7 +2,7 @@ use Rattle.std.proofs.Common.{◌∙◌, sum_by}
 use Rattle.scc_base.specs.Setups.{setup_key}
 use Rattle.script_plain.proofs.Orders.WayLaws.{run_ended, swept_none, swept_some}
 use Rattle.script_plain.specs.Code.{config}
-use Rattle.script_machine.specs.Local.{cost_of}
+use Rattle.script_machine.specs.Local.{most_steps_left}
 use Rattle.script_plain.proofs.steps.run_on.Goals as goal
 
 pub loop-smaller : goal.loop-smaller
@@ -27,7 +27,7 @@ returns-clause-end c =
     let keys = setup_key c.args.setup.now in
     let old = config c.loop.ues c.loop.slots in
     let ended = swept_none keys c.in_ok-sweep.field-0 c.args.setup.now.nue old (config c.sweep.new.ues c.sweep.new.slots) c.loop.invariant.run.ranks c.if-branch.false c.in_ok-sweep.ensures in
-    ended.0 ∙ run_ended keys old (sum_by cost_of c.loop.ues) ended.1 ∙ c.loop.invariant.same_end
+    ended.0 ∙ run_ended keys old (sum_by most_steps_left c.loop.ues) ended.1 ∙ c.loop.invariant.same_end
 
 pub returns-clause-still : goal.returns-clause-still
 returns-clause-still c =

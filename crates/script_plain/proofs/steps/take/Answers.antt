@@ -3,7 +3,7 @@ use Rattle.std.proofs.lemmas.Option.{slice_get_read}
 use Rattle.scc_base.specs.Setups.{setup_key}
 use Rattle.script_plain.specs.Code.{HasTaken, IsAtReceive, config}
 use Rattle.script_machine.specs.Local.{Local, local_next}
-use Rattle.script_machine.specs.Moves.{length_in}
+use Rattle.script_machine.specs.Moves.{length_asked}
 use Rattle.script_machine.specs.declared.posts.Posted.{Posted}
 use Rattle.script_plain.proofs.CodeSteps.CodeLaws.{fetched, fetcher_there, fetches, slot_here}
 use Rattle.script_plain.proofs.CodeSteps.StandLaws.{fetcher_stands, slot_within}
@@ -39,7 +39,7 @@ receive-requires-clause-long c =
     let within : c.args.to < length ues = fetcher_there ues slots c.args.to c.args.from fetch in
     let here = slice_get_read ues (length ues) c.args.to c.index-ues-to.result refl within c.index-ues-to.is in
     ap length c.bytes.ensures.same ∙ fetched_long keys ues slots c.args.to c.args.from c.index-ues-to.result c.in-Some.message c.requires here slot c.bytes.ensures.even
-    ∙ ap (λ (u : Local). length_in (local_next u)) c.index-ues-to.is
+    ∙ ap (λ (u : Local). length_asked (local_next u)) c.index-ues-to.is
 
 pub returns : goal.returns
 returns c =

@@ -1,12 +1,12 @@
 use Rattle.std.specs.Prelude.{◌≡◌, length}
 use Rattle.rand_pcg.specs.Pcg.{pcg32}
-use Rattle.chip_run.specs.Orders.{TurnsOf, drawn, named}
+use Rattle.chip_run.specs.Orders.{TurnsOf, generator_after, named_ranks}
 use Rattle.trace_run.specs.Seen.{HasSeenAll}
 use Rattle.trace_run.proofs.crews.round.Given as goal
 
 abbrev pub invariant-loop-turn : goal.invariant-loop-turn
 invariant-loop-turn g l = record {
-  picks : l.picks ≡ drawn pcg32 l.turn l.fn.picks;
-  order : TurnsOf g.W.Worker.conduct (named pcg32 (length l.fn.crew) l.turn l.fn.picks) l.fn.chip l.fn.crew l.chip l.crew;
+  picks : l.picks ≡ generator_after pcg32 l.turn l.fn.picks;
+  order : TurnsOf g.W.Worker.conduct (named_ranks pcg32 (length l.fn.crew) l.turn l.fn.picks) l.fn.chip l.fn.crew l.chip l.crew;
   seen : HasSeenAll (g.N.Witness.setup l.witness) (g.N.Witness.noted l.witness) l.chip;
 }

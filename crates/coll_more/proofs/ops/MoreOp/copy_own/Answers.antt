@@ -3,7 +3,7 @@ use Rattle.std.specs.Prelude.{IsTrue}
 use Rattle.coll_more.specs.Ops.{MoreAt, taking_part}
 use Rattle.coll_more.specs.Standing.{Stands}
 use Rattle.coll_more.specs.Tables.{has_own}
-use Rattle.coll_more.specs.Turns.{is_own}
+use Rattle.coll_more.specs.Turns.{is_copying_own}
 use Rattle.coll_more.proofs.OpAnswers.{at_own, has_there, owned, room_given, room_within}
 use Rattle.coll_more.proofs.ops.MoreOp.copy_own.Goals as goal
 
@@ -26,6 +26,6 @@ returns-clause-turns g c =
     let m : MoreAt = record { more = c.self.inside.more; len = c.self.inside.len; ended = c.self.inside.ended; stage = c.self.inside.stage } in
     let long : length c.copy_if.new.dst ≡ length c.args.dst.now = omega (arith, c.copy_if.auto.dst) in
     λ core slot fit. owned m c.args.self.now _ (g.P.Port.sight c.args.port.now) core slot c.args.src.now c.args.dst.now fit c.copy_if.new.dst
-    (sym c.self.view_is ∙ at_own m (subst (λ (x : MoreAt). IsTrue (is_own x.stage)) (sym c.self.view_is) c.requires.own)) refl long
+    (sym c.self.view_is ∙ at_own m (subst (λ (x : MoreAt). IsTrue (is_copying_own x.stage)) (sym c.self.view_is) c.requires.own)) refl long
     (has_there m (g.P.Port.sight c.args.port.now) c.args.src.now c.copy_if.new.dst c.number.result c.copies_own.result (c.number.ensures.gives ∙ c.rank-rank.ensures.gives)
     (c.copies_own.ensures.gives ∙ ap (has_own m.more) c.rank-rank.ensures.gives) c.copy_if.ensures.copied)

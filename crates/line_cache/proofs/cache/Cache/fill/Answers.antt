@@ -1,7 +1,7 @@
 use Rattle.std.proofs.Common.{◌≡◌, ◌≢◌, ◌∙◌, ◌<◌, ◌≤◌, None, length, refl, sym, subst, ap, take, List, arith}
 use Rattle.std.proofs.lemmas.List.Edits.{length-remove}
 use Rattle.line_cache.specs.declared.cache.Entry.{Entry}
-use Rattle.line_cache.specs.Lines.{held}
+use Rattle.line_cache.specs.Lines.{cached_words}
 use Rattle.line_cache.proofs.LineLemmas.{held-remove}
 use Rattle.line_cache.proofs.PlaceLemmas.{len_first, marked_filled}
 use Rattle.line_cache.proofs.cache.Cache.fill.Goals as goal
@@ -9,12 +9,12 @@ use Rattle.line_cache.proofs.cache.Cache.fill.Goals.{then-self-eq-MOST_LINES, el
 
 pub invariant_of-self : goal.invariant_of-self
 invariant_of-self c =
-    let none : held (take c.self-2.inside.len c.self-2.inside.entries) c.args.line ≡ None
-    = subst (λ (es : List Entry). held es c.args.line ≡ None) (sym c.self-2.view_is)
+    let none : cached_words (take c.self-2.inside.len c.self-2.inside.entries) c.args.line ≡ None
+    = subst (λ (es : List Entry). cached_words es c.args.line ≡ None) (sym c.self-2.view_is)
     (elim c.if-self-eq-MOST_LINES.branch [
       | then-self-eq-MOST_LINES w ↦
-          subst (λ (es : List Entry). held es c.args.line ≡ None) (sym w.drop_at.ensures.lines ∙ sym w.self-is) (held-remove c.args.self.now 0 c.args.line c.requires)
-      | else-self-eq-MOST_LINES w ↦ subst (λ (es : List Entry). held es c.args.line ≡ None) (sym w.self-is) c.requires
+          subst (λ (es : List Entry). cached_words es c.args.line ≡ None) (sym w.drop_at.ensures.lines ∙ sym w.self-is) (held-remove c.args.self.now 0 c.args.line c.requires)
+      | else-self-eq-MOST_LINES w ↦ subst (λ (es : List Entry). cached_words es c.args.line ≡ None) (sym w.self-is) c.requires
     ]) in
     let old : length c.args.self.now ≡ c.self.inside.len
     = ap length (sym c.self.view_is) ∙ len_first c.self.inside.entries c.self.inside.len c.self.invariant.few in

@@ -1,11 +1,11 @@
 use Rattle.std.proofs.Common.{◌≡◌, ◌∙◌, [], None, refl, sym, subst, ap, slice_index, arith}
 use Rattle.scc_base.specs.Places.{LineAt}
-use Rattle.line_cache.specs.Lines.{held}
+use Rattle.line_cache.specs.Lines.{cached_words}
 use Rattle.put_get.specs.Cores.{Private, Fills, Fetch, Loaded}
 use Rattle.put_get.proofs.cores.Core.fresh_word.Goals as goal
 
 pub bring-requires : goal.bring-requires
-bring-requires g c = subst (λ (x : Private). held x.lines c.line_at-line.result ≡ None) (sym c.cl1invmb.ensures) refl
+bring-requires g c = subst (λ (x : Private). cached_words x.lines c.line_at-line.result ≡ None) (sym c.cl1invmb.ensures) refl
 
 pub returns-clause-reads : goal.returns-clause-reads
 returns-clause-reads g c = record {

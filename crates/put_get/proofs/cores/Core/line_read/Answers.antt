@@ -1,6 +1,6 @@
 use Rattle.std.proofs.Common.{◌≡◌, ◌∙◌, None, Some, sym, subst, arith}
 use Rattle.scc_base.specs.Places.{WordAt}
-use Rattle.line_cache.specs.Lines.{held}
+use Rattle.line_cache.specs.Lines.{cached_words}
 use Rattle.put_get.specs.Cores.{Private, ReadsWord}
 use Rattle.put_get.proofs.CoreLemmas.{made_by, steps_four, word_made}
 use Rattle.put_get.proofs.ReadLemmas.{line_held, first_loaded, line_kept}
@@ -10,7 +10,7 @@ use Rattle.put_get.proofs.cores.Core.line_read.Goals as goal
 pub returns-in-Some-clause-reads : goal.returns-in-Some-clause-reads
 returns-in-Some-clause-reads g c =
     line_held (g.P.Port.sight c.args.port.now) c.args.self.now c.args.line c.in-Some.words
-    (subst (λ (x : Private). held x.lines c.args.line ≡ Some c.in-Some.words) c.self.view_is (sym c.look.ensures ∙ c.in-Some.is))
+    (subst (λ (x : Private). cached_words x.lines c.args.line ≡ Some c.in-Some.words) c.self.view_is (sym c.look.ensures ∙ c.in-Some.is))
 
 pub returns-in-Some-clause-steps : goal.returns-in-Some-clause-steps
 returns-in-Some-clause-steps g c = steps_none g.P.Port.stepped (g.P.Port.sight c.args.port.now)
@@ -18,7 +18,7 @@ returns-in-Some-clause-steps g c = steps_none g.P.Port.stepped (g.P.Port.sight c
 pub returns-then-kept-clause-reads : goal.returns-then-kept-clause-reads
 returns-then-kept-clause-reads g c =
     line_kept _ _ _ _ _ _
-    (subst (λ (x : Private). held x.lines c.args.line ≡ None) c.self.view_is (sym c.look.ensures ∙ c.in_default.is)) (omega arith) c.load_line-words.ensures.did
+    (subst (λ (x : Private). cached_words x.lines c.args.line ≡ None) c.self.view_is (sym c.look.ensures ∙ c.in_default.is)) (omega arith) c.load_line-words.ensures.did
     c.bring-kept.ensures.fills (c.bring-kept.ensures.kept c.if-kept.true)
 
 pub returns-clause-reads : goal.returns-clause-reads
@@ -26,7 +26,7 @@ returns-clause-reads g c = record {
   s1 = g.P.Port.sight c.load_line-words.new.port;
   c1 = c.bring-kept.new.self;
   word0 = first_loaded _ _ _ _ _ _
-      (subst (λ (x : Private). held x.lines c.args.line ≡ None) c.self.view_is (sym c.look.ensures ∙ c.in_default.is)) (omega arith) c.load_line-words.ensures.did
+      (subst (λ (x : Private). cached_words x.lines c.args.line ≡ None) c.self.view_is (sym c.look.ensures ∙ c.in_default.is)) (omega arith) c.load_line-words.ensures.did
       c.bring-kept.ensures.fills;
   s2 = g.P.Port.sight c.word_read-second.new.port;
   c2 = c.word_read-second.new.self;

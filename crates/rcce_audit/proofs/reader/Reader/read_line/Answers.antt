@@ -4,7 +4,7 @@ use Rattle.std.specs.Result.{IsErr}
 use Rattle.std.specs.declared.alloc.AllocError.{AllocError}
 use Rattle.std.proofs.lemmas.Bool.{cond-true, cond-false, false≢true}
 use Rattle.rcce_audit.specs.Grammar.{Reading, TakesLine, begins_comm, take_call, take_comm}
-use Rattle.rcce_audit.specs.Words.{words_of}
+use Rattle.rcce_audit.specs.Words.{log_words_of}
 use Rattle.rcce_audit.proofs.reader.Reader.read_line.Goals as goal
 
 -- of a call that failed nothing is asked
@@ -12,7 +12,7 @@ failed : (r : Result Bool AllocError) (P : Bool → Type 0) → IsErr r → IfOk
 failed (Ok taken) P is = absurd (false≢true is)
 failed (Err error) P is = tt
 
-module _ (reading next : Reading) (line : List ℕ) (words : List (List ℕ)) (begins : Bool) (same : words ≡ words_of line) (told : begins ≡ begins_comm line) where
+module _ (reading next : Reading) (line : List ℕ) (words : List (List ℕ)) (begins : Bool) (same : words ≡ log_words_of line) (told : begins ≡ begins_comm line) where
   comm_taken : (taken : Bool) → begins ≡ true → MatchBool taken (take_comm reading words ≡ Some next) (take_comm reading words ≡ None) → TakesLine reading line next taken
   comm_taken true is took = cond-true _ _ _ (sym told ∙ is) ∙ ap (take_comm reading) (sym same) ∙ took
   comm_taken false is took = cond-true _ _ _ (sym told ∙ is) ∙ ap (take_comm reading) (sym same) ∙ took

@@ -3,8 +3,8 @@ use Rattle.std.proofs.lemmas.List.{with_items_is}
 use Rattle.std.specs.Vec.{with_items}
 use Rattle.script_machine.specs.Local.{local_next}
 use Rattle.script_machine.specs.Machine.{MachineView}
-use Rattle.script_machine.specs.Moves.{length_in, refused, taken}
-use Rattle.rcce_ue.specs.Ues.{UeView, entered}
+use Rattle.script_machine.specs.Moves.{length_asked, after_refusal, after_take}
+use Rattle.rcce_ue.specs.Ues.{UeView, at_next_call}
 use Rattle.rcce_ue.specs.declared.calls.Open.TheVariants.{Receiving}
 use Rattle.rcce_ue.proofs.OpAnswers.{alone_slot, alone_stopped, alone_went, head_fits, meeting_done, meeting_moved, meeting_waited, receives, receiving_done, receiving_moved, receiving_refused, receiving_waited, recv_before, recv_fits, sending_done, sending_moved, sending_waited}
 use Rattle.rcce_ue.proofs.ues.Ue.turn.Goals as goal
@@ -14,7 +14,7 @@ returns-then-is_going g c =
     let b : UeView = record { machine = c.self.inside.machine; core = c.self.inside.core; slot = c.self.inside.slot; parity = c.self.inside.parity; op = c.self.inside.op; inbox = c.self.inside.inbox.items; posted = c.self.inside.posted; sent = c.self.inside.sent; sent_bytes = c.self.inside.sent_bytes } in
     let before = sym c.self.view_is ∙ (λ i. record b { op = c.in-Nothing.is i }) in
     let done = alone_went b c.args.self.now _ (g.P.Port.sight c.args.port.now) before c.requires.tied
-    (c.enter.ensures ∙ ap (λ (m : MachineView). entered (record b { machine = m })) c.go.ensures) (sym c.is_going.ensures ∙ c.if-is_going.true) in
+    (c.enter.ensures ∙ ap (λ (m : MachineView). at_next_call (record b { machine = m })) c.go.ensures) (sym c.is_going.ensures ∙ c.if-is_going.true) in
     record { tied = done.tied; turned = done.turned; steps = λ spot is. absurd (cc (is)) }
 
 pub returns-then-is_stopped : goal.returns-then-is_stopped
@@ -84,7 +84,7 @@ returns-in-Done-turn g c =
     let long : length c.turn-in-Receiving.new.inbox ≡ c.self.inside.inbox.len = omega (arith, given, room, c.self.inside.inbox.ok.0) in
     let back : (with_items c.self.inside.inbox c.turn-in-Receiving.new.inbox).items ≡ c.turn-in-Receiving.new.inbox = with_items_is c.self.inside.inbox c.turn-in-Receiving.new.inbox long in
     let done = receiving_done b c.args.self.now _ (g.P.Port.sight c.args.port.now) (g.P.Port.sight c.turn-in-Receiving.new.port) c.in-Receiving.op (sym c.self.view_is ∙ (λ i. record b { op = c.in-Receiving.is i; inbox = sym c.as_mut_slice.ensures.value i })) c.requires.tied
-    c.turn-in-Receiving.new.self c.turn-in-Receiving.new.core c.turn-in-Receiving.new.inbox room c.in-Done-turn.ensures.stands (c.receive.ensures ∙ (λ i. entered (record b { machine = record b.machine { local = taken (local_next b.machine.local) (take (length_in (local_next b.machine.local)) (back i)) b.machine.local }; core = c.turn-in-Receiving.new.core; inbox = back i }))) c.in-Done-turn.ensures.turned in
+    c.turn-in-Receiving.new.self c.turn-in-Receiving.new.core c.turn-in-Receiving.new.inbox room c.in-Done-turn.ensures.stands (c.receive.ensures ∙ (λ i. at_next_call (record b { machine = record b.machine { local = after_take (local_next b.machine.local) (take (length_asked (local_next b.machine.local)) (back i)) b.machine.local }; core = c.turn-in-Receiving.new.core; inbox = back i }))) c.in-Done-turn.ensures.turned in
     record { tied = done.tied; turned = done.turned; steps = λ spot is. absurd (cc (is)) }
 
 pub returns-in-Mismatch : goal.returns-in-Mismatch
@@ -96,8 +96,8 @@ returns-in-Mismatch g c =
     let back : (with_items c.self.inside.inbox c.turn-in-Receiving.new.inbox).items ≡ c.turn-in-Receiving.new.inbox = with_items_is c.self.inside.inbox c.turn-in-Receiving.new.inbox long in
     let done = receiving_refused b c.args.self.now _ (g.P.Port.sight c.args.port.now) (g.P.Port.sight c.turn-in-Receiving.new.port) c.in-Receiving.op (sym c.self.view_is ∙ (λ i. record b { op = c.in-Receiving.is i; inbox = sym c.as_mut_slice.ensures.value i })) c.requires.tied
     c.turn-in-Receiving.new.self c.turn-in-Receiving.new.core c.turn-in-Receiving.new.inbox room c.in-Mismatch.ensures.stands c.in-Mismatch.sent (c.enter-in-Mismatch.ensures
-    ∙ ap (λ (m : MachineView). entered (record b { machine = m; core = c.turn-in-Receiving.new.core; inbox = (with_items c.self.inside.inbox c.turn-in-Receiving.new.inbox).items })) c.refuse.ensures
-    ∙ (λ i. entered (record b { machine = record b.machine { local = refused (local_next b.machine.local) c.in-Mismatch.sent b.machine.local }; core = c.turn-in-Receiving.new.core; inbox = back i }))) c.in-Mismatch.ensures.turned in
+    ∙ ap (λ (m : MachineView). at_next_call (record b { machine = m; core = c.turn-in-Receiving.new.core; inbox = (with_items c.self.inside.inbox c.turn-in-Receiving.new.inbox).items })) c.refuse.ensures
+    ∙ (λ i. at_next_call (record b { machine = record b.machine { local = after_refusal (local_next b.machine.local) c.in-Mismatch.sent b.machine.local }; core = c.turn-in-Receiving.new.core; inbox = back i }))) c.in-Mismatch.ensures.turned in
     record { tied = done.tied; turned = done.turned; steps = λ spot is. absurd (cc (is)) }
 
 pub returns-in-Moved-turn-2 : goal.returns-in-Moved-turn-2
@@ -144,5 +144,5 @@ receive-requires-clause-room g c =
     let room : length c.turn-in-Receiving.new.inbox ≡ length c.as_mut_slice.result.now = omega (arith, c.turn-in-Receiving.auto.inbox) in
     let long : length c.turn-in-Receiving.new.inbox ≡ c.self.inside.inbox.len = omega (arith, given, room, c.self.inside.inbox.ok.0) in
     let back : (with_items c.self.inside.inbox c.turn-in-Receiving.new.inbox).items ≡ c.turn-in-Receiving.new.inbox = with_items_is c.self.inside.inbox c.turn-in-Receiving.new.inbox long in
-    subst (λ (n : ℕ). length_in (local_next b.machine.local) ≤ n) (sym (ap length back ∙ room))
+    subst (λ (n : ℕ). length_asked (local_next b.machine.local) ≤ n) (sym (ap length back ∙ room))
     (recv_fits b c.args.self.now c.args.self.now (g.P.Port.sight c.args.port.now) (g.P.Port.sight c.args.port.now) c.in-Receiving.op (sym c.self.view_is ∙ (λ i. record b { op = c.in-Receiving.is i; inbox = sym c.as_mut_slice.ensures.value i })) c.requires.tied)

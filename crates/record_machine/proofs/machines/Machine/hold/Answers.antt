@@ -1,7 +1,7 @@
 use Rattle.std.proofs.Common.{◌≡◌, ◌==◌, ◌<◌, ℕ, Option, Some, None, length, slice_set, true, refl, sym, ◌∙◌, ap, subst, arith}
 use Rattle.scc_base.specs.declared.events.Access.TheVariants.{Take}
 use Rattle.scc_proto.specs.Stages.{FlagWords}
-use Rattle.scc_proto.specs.Tables.{put}
+use Rattle.scc_proto.specs.Tables.{table_with}
 use Rattle.scc_proto.proofs.Tests.{eqb_other}
 use Rattle.record_machine.specs.Following.{event_of}
 use Rattle.record_machine.specs.Held.{KeepsHeld}
@@ -33,11 +33,11 @@ returns-clause-takes c =
     let held = held_put m.held rec.held c.number-at.result slot now within refl f.held in (
       free,
       (
-        record rec { held = put rec.held c.args.place.core now },
+        record rec { held = table_with rec.held c.args.place.core now },
         becomes,
         record {
-          stands = stands_held m.work rec (put rec.held c.args.place.core now) f.stands;
-          held = subst (λ (k : ℕ). KeepsHeld (slice_set m.held c.number-at.result slot) (put rec.held k now)) at held;
+          stands = stands_held m.work rec (table_with rec.held c.args.place.core now) f.stands;
+          held = subst (λ (k : ℕ). KeepsHeld (slice_set m.held c.number-at.result slot) (table_with rec.held k now)) at held;
         },
         refl,
       ),

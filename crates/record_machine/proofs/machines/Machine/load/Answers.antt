@@ -3,7 +3,7 @@ use Rattle.scc_base.specs.declared.events.Access.TheVariants.{Load}
 use Rattle.scc_proto.specs.Moves.{after}
 use Rattle.scc_proto.specs.Permission.{permits}
 use Rattle.scc_proto.specs.Records.{change_held, record_after}
-use Rattle.scc_proto.specs.Tables.{put}
+use Rattle.scc_proto.specs.Tables.{table_with}
 use Rattle.record_machine.specs.Following.{event_of}
 use Rattle.record_machine.specs.Held.{KeepsHeld}
 use Rattle.record_machine.specs.Steps.{move_of}
@@ -22,7 +22,7 @@ returns-then-note_flags-clause-takes c =
     let noted : (is_flags_use u && is_some (rec.held place.core)) ≡ true
     = ap (λ (k : ℕ). is_flags_use u && is_some (rec.held k)) (sym core) ∙ sym (c.note_flags.ensures.tells rec.held f.held) ∙ c.if-note_flags.true in
     let becomes = load_notes m.setup m.rank rec place c.args.value u c.use_of-of.ensures.role noted in
-    let held = subst (λ (k : ℕ). KeepsHeld c.note_flags.new.held (put rec.held k (option_map (note_by u c.args.value) (rec.held k)))) core (c.note_flags.ensures.notes rec.held f.held) in
+    let held = subst (λ (k : ℕ). KeepsHeld c.note_flags.new.held (table_with rec.held k (option_map (note_by u c.args.value) (rec.held k)))) core (c.note_flags.ensures.notes rec.held f.held) in
     (refl, (change_held (note_by u c.args.value) place.core rec, becomes, record { stands = stands_held m.work rec (change_held (note_by u c.args.value) place.core rec).held f.stands; held = held }, refl)))
 
 pub returns-clause-takes : goal.returns-clause-takes

@@ -3,7 +3,7 @@ use Rattle.scc_base.specs.declared.events.Access.TheVariants.{Store}
 use Rattle.scc_proto.specs.Moves.{after}
 use Rattle.scc_proto.specs.Permission.{permits}
 use Rattle.scc_proto.specs.Records.{change_held, is_permitted, record_after}
-use Rattle.scc_proto.specs.Tables.{put}
+use Rattle.scc_proto.specs.Tables.{table_with}
 use Rattle.record_machine.specs.Following.{event_of}
 use Rattle.record_machine.specs.Held.{KeepsHeld}
 use Rattle.record_machine.specs.Steps.{move_of}
@@ -41,6 +41,6 @@ returns-clause-takes c =
     let moved = c.make-call.ensures.moves rec f.stands permitted in
     let becomes : record_after m.setup m.rank rec (event_of Store place c.args.value) ≡ change_held (forget_by u) place.core (after m.work.size (move_of step) rec)
     = store_moves m.setup m.rank rec place c.args.value u role may ∙ (λ i. change_held (forget_by u) place.core (after (sym m.size i) (sym gives i) rec)) in
-    let held = subst (λ (k : ℕ). KeepsHeld c.forget_flags.new.held (put rec.held k (option_map (forget_by u) (rec.held k)))) c.core-2.ensures.gives (c.forget_flags.ensures.forgets rec.held f.held) in
+    let held = subst (λ (k : ℕ). KeepsHeld c.forget_flags.new.held (table_with rec.held k (option_map (forget_by u) (rec.held k)))) c.core-2.ensures.gives (c.forget_flags.ensures.forgets rec.held f.held) in
     let now = change_held (forget_by u) place.core (after m.work.size (move_of step) rec) in
     (may, (now, becomes, record { stands = stands_held c.make-call.new.self (after m.work.size (move_of step) rec) now.held moved.stands; held = held }, moved.adds)))

@@ -1,6 +1,6 @@
 use Rattle.std.proofs.Common.{Bool, Option, ◌&&◌, min, ◌∙◌, ap, subst}
 use Rattle.scc_base.specs.Heads.{MessageHead}
-use Rattle.scc_proto.specs.Messages.{begun, head_of}
+use Rattle.scc_proto.specs.Messages.{fresh_message, head_of}
 use Rattle.record_machine.specs.Noted.{TellsHead}
 use Rattle.record_machine.specs.declared.works.Standing.TheVariants as standing
 use Rattle.record_machine.proofs.NotedLaws.{line_no_head}
@@ -37,5 +37,5 @@ returns c = record {
       let w = c.args.self.now in
       c.both-2.ensures.tells ∙ raise_first w.size w.header w.chunk w.bytes.items rec.stage (keeps_at w rec standing.Drafting c.in-Drafting.is f) c.args.to c.is_whole-line.result c.is_drafted-drafted-2.result
       (λ words is. c.is_whole-line.ensures.tells words is)
-      (λ line words is are. c.is_drafted-drafted-2.ensures.tells (begun (head_of line)) words are (c.min-count.ensures ∙ (λ i. min (c.len.ensures.gives i) w.size) ∙ count_first w.size c.in-Some.head line (subst (λ (o : Option MessageHead). TellsHead line o) c.in-Some.is (c.head.ensures.says line is)).1));
+      (λ line words is are. c.is_drafted-drafted-2.ensures.tells (fresh_message (head_of line)) words are (c.min-count.ensures ∙ (λ i. min (c.len.ensures.gives i) w.size) ∙ count_first w.size c.in-Some.head line (subst (λ (o : Option MessageHead). TellsHead line o) c.in-Some.is (c.head.ensures.says line is)).1));
 }

@@ -2,7 +2,7 @@ use Rattle.std.proofs.Common.{◌≡◌, ◌<◌, ℕ, [], Option, Some, None, l
 use Rattle.scc_proto.specs.Messages.{Notes}
 use Rattle.scc_proto.specs.Moves.{lower_sent}
 use Rattle.scc_proto.specs.Permission.{may_take}
-use Rattle.scc_proto.specs.Tables.{put}
+use Rattle.scc_proto.specs.Tables.{table_with}
 use Rattle.scc_proto.proofs.Tests.{true_not_false}
 use Rattle.record_machine.specs.Standing.{KeepsSaid, KeepsStage}
 use Rattle.record_machine.proofs.PartLaws.{said_here, said_put, unsaid_here}
@@ -30,7 +30,7 @@ returns-clause-moves c = λ rec f may.
       stands = record {
         keeps = subst (λ (h : Option Notes). KeepsStage n.size n.header n.chunk n.bytes.items n.standing (lower_sent from (unwrap_or h []) rec.stage)) (sym x.1) o.keeps;
         post = o.post;
-        said = subst (λ (k : ℕ). KeepsSaid (slice_set n.said k None) (put rec.notes from None)) (sym c.number-at.ensures.gives) (said_put n.said rec.notes from None None within tt o.said);
+        said = subst (λ (k : ℕ). KeepsSaid (slice_set n.said k None) (table_with rec.notes from None)) (sym c.number-at.ensures.gives) (said_put n.said rec.notes from None None within tt o.said);
         flags = o.flags;
       };
       adds = refl;

@@ -3,7 +3,7 @@ use Rattle.script_plain.specs.Code.{HasTaken, IsAtReceive}
 use Rattle.script_plain.specs.Kept.{Fits, reckoned_at}
 use Rattle.script_machine.specs.Local.{Local, local_next}
 use Rattle.script_machine.specs.Machine.{MachineView}
-use Rattle.script_machine.specs.Moves.{length_in}
+use Rattle.script_machine.specs.Moves.{length_asked}
 use Rattle.script_machine.specs.Next.{Next}
 use Rattle.script_plain.proofs.ProgramLengths.LengthPaths.{fits_next}
 use Rattle.script_plain.proofs.CodeSteps.UeLaws.{fits_taken, receiving, taken_as}
@@ -22,7 +22,7 @@ receive-requires-clause-long c =
     let m = c.self.inside.machine in
     let n = local_next m.local in
     let here : n ≡ local_next c.args.self.now = ap local_next c.self.view_is in
-    let long = ap length c.as_slice.ensures ∙ c.requires.long ∙ ap length_in (sym here) in
+    let long = ap length c.as_slice.ensures ∙ c.requires.long ∙ ap length_asked (sym here) in
     long
 
 pub invariant_of-self : goal.invariant_of-self
@@ -31,7 +31,7 @@ invariant_of-self c =
     let n = local_next m.local in
     let here : n ≡ local_next c.args.self.now = ap local_next c.self.view_is in
     let at = subst IsAtReceive (sym here) c.requires.at_receive in
-    let long = ap length c.as_slice.ensures ∙ c.requires.long ∙ ap length_in (sym here) in
+    let long = ap length c.as_slice.ensures ∙ c.requires.long ∙ ap length_asked (sym here) in
     let had = reckoned_at m.script m.rank in
     let fits = fits_next had m.local c.self.invariant in
     let P : MachineView → Type 0 = λ v. Fits (reckoned_at v.script v.rank) v.local in

@@ -3,7 +3,7 @@ use Rattle.script_plain.specs.Code.{HasRefused, IsAtReceive}
 use Rattle.script_plain.specs.Kept.{reckoned_at}
 use Rattle.script_machine.specs.Local.{Local, local_next}
 use Rattle.script_machine.specs.Machine.{MachineView}
-use Rattle.script_machine.specs.Moves.{refused}
+use Rattle.script_machine.specs.Moves.{after_refusal}
 use Rattle.script_plain.proofs.ProgramLengths.LengthPaths.{fits_next}
 use Rattle.script_plain.proofs.CodeSteps.UeLaws.{fits_refused, receiving, refused_as}
 use Rattle.script_plain.proofs.CodeSteps.UeViews.{fits_behind, of_shown, to_shown}
@@ -20,7 +20,7 @@ invariant_of-self c =
     let n = local_next m.local in
     let at = of_shown m.local c.args.self.now c.self.view_is IsAtReceive c.requires in
     let had = reckoned_at m.script m.rank in
-    fits_behind m c.refuse.new.self (refused n c.args.sent m.local) c.refuse.ensures
+    fits_behind m c.refuse.new.self (after_refusal n c.args.sent m.local) c.refuse.ensures
     (fits_refused had n m.local c.args.sent (fits_next had m.local c.self.invariant) (receiving n at))
 
 pub returns : goal.returns

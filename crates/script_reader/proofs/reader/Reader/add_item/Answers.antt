@@ -10,9 +10,9 @@ use Rattle.script_reader.specs.declared.repeats.Open.{Open}
 use Rattle.script_reader.specs.declared.script.Item.{Item}
 use Rattle.script_reader.specs.declared.script.Who.{Who}
 use Rattle.script_reader.specs.declared.tally.Tally.{Tally}
-use Rattle.script_reader.specs.Checks.{is_too_deep, opened, refuses, some_rank, turns_in, turns_too_often}
+use Rattle.script_reader.specs.Checks.{is_too_deep, repeats_after, refuses, some_rank, turns_in, turns_too_often}
 use Rattle.script_reader.specs.Effects.{effect_of}
-use Rattle.script_reader.specs.Progress.{Progress}
+use Rattle.script_reader.specs.Progress.{ReadingSoFar}
 use Rattle.script_reader.specs.Script.{rules_of}
 use Rattle.script_reader.specs.Settled.{IsNamed}
 use Rattle.script_reader.specs.Tally.{IsAimed, IsKept, IsMade, is_new_split, noted_at}
@@ -26,12 +26,12 @@ use Rattle.script_reader.proofs.reader.Reader.add_item.Goals as goal
 -- a statement without a fault opens no repeat too many, nor does it turn too often
 pub note_repeat-requires-clause-flat : goal.note_repeat-requires-clause-flat
 note_repeat-requires-clause-flat c =
-    let sound = subst (λ (p : Progress). IsSound p c.args.effect.now) (sym c.self.view_is) (no-fault _ c.args.effect.now c.requires.passed) in
+    let sound = subst (λ (p : ReadingSoFar). IsSound p c.args.effect.now) (sym c.self.view_is) (no-fault _ c.args.effect.now c.requires.passed) in
     subst (λ (repeats : List Open). is_too_deep repeats c.args.effect.now.nesting ≡ false) (sym c.self.invariant.repeats_are) sound.flat
 
 pub note_repeat-requires-clause-turning : goal.note_repeat-requires-clause-turning
 note_repeat-requires-clause-turning c =
-    let sound = subst (λ (p : Progress). IsSound p c.args.effect.now) (sym c.self.view_is) (no-fault _ c.args.effect.now c.requires.passed) in
+    let sound = subst (λ (p : ReadingSoFar). IsSound p c.args.effect.now) (sym c.self.view_is) (no-fault _ c.args.effect.now c.requires.passed) in
     subst (λ (repeats : List Open). turns_too_often (turns_in repeats) c.args.effect.now.nesting ≡ false) (sym c.self.invariant.repeats_are) sound.turning
 
 pub new-self-inside-requires-clause-rules : goal.new-self-inside-requires-clause-rules
@@ -40,7 +40,7 @@ new-self-inside-requires-clause-rules c =
     let item = c.args.item in
     let e = effect_of item.stmt in
     let meant = c.requires.meant in
-    let sound = subst (λ (p : Progress). IsSound p e) (sym c.self.view_is) (sound-at _ c.args.effect.now item.stmt meant c.requires.passed) in
+    let sound = subst (λ (p : ReadingSoFar). IsSound p e) (sym c.self.view_is) (sound-at _ c.args.effect.now item.stmt meant c.requires.passed) in
     let made = subst (λ (e : Effect). IsMade e) meant c.requires.made in
     let splits = c.is_new_split-is_split.ensures ∙ ap (λ (x : Effect). is_new_split inside.run x.group) meant ∙ ap (λ (run : SetupView). is_new_split run e.group) c.self.invariant.run_is in
     let new = sym splits ∙ c.if-is_split.true in
@@ -57,7 +57,7 @@ invariant_of-self-then-is_split c =
     let after = had ++ item ∷ [] in
     let noted = c.note_item.new.tallies in
     let pushed = c.in_ok-push.ensures.items in
-    let sound = subst (λ (p : Progress). IsSound p e) (sym c.self.view_is) (sound-at _ c.args.effect.now item.stmt meant c.requires.passed) in
+    let sound = subst (λ (p : ReadingSoFar). IsSound p e) (sym c.self.view_is) (sound-at _ c.args.effect.now item.stmt meant c.requires.passed) in
     let made = subst (λ (e : Effect). IsMade e) meant c.requires.made in
     let place : length had ≡ c.len-place.result = omega (arith, c.len-place.ensures, inside.items.ok.0) in
     let last : c.index-last.result.now ≡ item = c.index-last.ensures ∙ ap (λ items. get_or items c.len-place.result c.index-last.result.now) pushed ∙ get_or_push had item c.index-last.result.now c.len-place.result place in
@@ -71,15 +71,15 @@ invariant_of-self-then-is_split c =
     ∙ ap (λ (x : Effect). noted_at inside.run c.turns_in-turns.result item.who x rank (get_or c.deref_mut.result.now rank d)) meant
     ∙ ap (λ ts. noted_at inside.run c.turns_in-turns.result item.who e rank (get_or ts rank d)) c.deref_mut.ensures.value
     ∙ ap (λ (t : ℕ). noted_at inside.run t item.who e rank (get_or inside.tallies.items rank d)) turns in
-    let opens = c.note_repeat.ensures ∙ ap (λ (x : Effect). opened x.nesting c.len-place.result inside.repeats.items) meant ∙ ap (λ (n : ℕ). opened e.nesting n inside.repeats.items) (sym place) in
+    let opens = c.note_repeat.ensures ∙ ap (λ (x : Effect). repeats_after x.nesting c.len-place.result inside.repeats.items) meant ∙ ap (λ (n : ℕ). repeats_after e.nesting n inside.repeats.items) (sym place) in
     let splits = c.is_new_split-is_split.ensures ∙ ap (λ (x : Effect). is_new_split inside.run x.group) meant ∙ ap (λ (run : SetupView). is_new_split run e.group) c.self.invariant.run_is in
     let rules = c.rules_of.ensures ∙ ap rules_of (c.as_slice-then-is_split.ensures.value ∙ pushed) in
     let run = c.new-self-inside.ensures ∙ run-after inside.nue after c.rules_of.result rules in
     let new = sym splits ∙ c.if-is_split.true in
     let valid = rules-made e.group had item inside.version inside.nue refl made.split sound.unknown sound.parented new c.self.invariant.rules in
-    let named = subst (λ (x : Effect). IsNamed (length inside.names.items) x) meant (subst (λ (p : Progress). IsNamed (length p.names) c.args.effect.now) (sym c.self.view_is) c.requires.named) in
-    let aimed = subst (λ (x : Effect). IsAimed inside.nue x) meant (subst (λ (p : Progress). IsAimed p.nue c.args.effect.now) (sym c.self.view_is) c.requires.aimed) in
-    let section = subst (λ (p : Progress). p.section ≡ Some item.who) (sym c.self.view_is) c.requires.opened in
+    let named = subst (λ (x : Effect). IsNamed (length inside.names.items) x) meant (subst (λ (p : ReadingSoFar). IsNamed (length p.names) c.args.effect.now) (sym c.self.view_is) c.requires.named) in
+    let aimed = subst (λ (x : Effect). IsAimed inside.nue x) meant (subst (λ (p : ReadingSoFar). IsAimed p.nue c.args.effect.now) (sym c.self.view_is) c.requires.aimed) in
+    let section = subst (λ (p : ReadingSoFar). p.section ≡ Some item.who) (sym c.self.view_is) c.requires.opened in
     let none = λ (kind : FaultKind). subst (λ (who : Option Who). some_rank inside.nue who (refuses kind inside.nue (reverse had) e) ≡ false) section (passed-all _ e sound kind) in
     let settled = settled-new inside.version inside.nue had item c.self.invariant.some aimed c.self.invariant.have sound.unknown (none kind.SelfMessage) (none kind.RankRange) (none kind.NotSplit) in
     let kept = kept-more inside.version inside.nue had inside.names.items item inside.run c.new-self-inside.result inside.repeats.items c.note_repeat.new.repeats.items inside.tallies.items noted
@@ -97,7 +97,7 @@ invariant_of-self-else-is_split c =
     let after = had ++ item ∷ [] in
     let noted = c.note_item.new.tallies in
     let pushed = c.in_ok-push.ensures.items in
-    let sound = subst (λ (p : Progress). IsSound p e) (sym c.self.view_is) (sound-at _ c.args.effect.now item.stmt meant c.requires.passed) in
+    let sound = subst (λ (p : ReadingSoFar). IsSound p e) (sym c.self.view_is) (sound-at _ c.args.effect.now item.stmt meant c.requires.passed) in
     let made = subst (λ (e : Effect). IsMade e) meant c.requires.made in
     let place : length had ≡ c.len-place.result = omega (arith, c.len-place.ensures, inside.items.ok.0) in
     let last : c.index-last.result.now ≡ item = c.index-last.ensures ∙ ap (λ items. get_or items c.len-place.result c.index-last.result.now) pushed ∙ get_or_push had item c.index-last.result.now c.len-place.result place in
@@ -111,15 +111,15 @@ invariant_of-self-else-is_split c =
     ∙ ap (λ (x : Effect). noted_at inside.run c.turns_in-turns.result item.who x rank (get_or c.deref_mut.result.now rank d)) meant
     ∙ ap (λ ts. noted_at inside.run c.turns_in-turns.result item.who e rank (get_or ts rank d)) c.deref_mut.ensures.value
     ∙ ap (λ (t : ℕ). noted_at inside.run t item.who e rank (get_or inside.tallies.items rank d)) turns in
-    let opens = c.note_repeat.ensures ∙ ap (λ (x : Effect). opened x.nesting c.len-place.result inside.repeats.items) meant ∙ ap (λ (n : ℕ). opened e.nesting n inside.repeats.items) (sym place) in
+    let opens = c.note_repeat.ensures ∙ ap (λ (x : Effect). repeats_after x.nesting c.len-place.result inside.repeats.items) meant ∙ ap (λ (n : ℕ). repeats_after e.nesting n inside.repeats.items) (sym place) in
     let splits = c.is_new_split-is_split.ensures ∙ ap (λ (x : Effect). is_new_split inside.run x.group) meant ∙ ap (λ (run : SetupView). is_new_split run e.group) c.self.invariant.run_is in
     let old = sym splits ∙ c.if-is_split.false in
     let same = rules-kept e.group had item inside.version inside.nue refl sound.unknown old in
     let run = run-stays inside.nue had item inside.run c.self.invariant.run_is same in
     let valid = subst (λ (r : List CommRule). AreRules r) (sym same) c.self.invariant.rules in
-    let named = subst (λ (x : Effect). IsNamed (length inside.names.items) x) meant (subst (λ (p : Progress). IsNamed (length p.names) c.args.effect.now) (sym c.self.view_is) c.requires.named) in
-    let aimed = subst (λ (x : Effect). IsAimed inside.nue x) meant (subst (λ (p : Progress). IsAimed p.nue c.args.effect.now) (sym c.self.view_is) c.requires.aimed) in
-    let section = subst (λ (p : Progress). p.section ≡ Some item.who) (sym c.self.view_is) c.requires.opened in
+    let named = subst (λ (x : Effect). IsNamed (length inside.names.items) x) meant (subst (λ (p : ReadingSoFar). IsNamed (length p.names) c.args.effect.now) (sym c.self.view_is) c.requires.named) in
+    let aimed = subst (λ (x : Effect). IsAimed inside.nue x) meant (subst (λ (p : ReadingSoFar). IsAimed p.nue c.args.effect.now) (sym c.self.view_is) c.requires.aimed) in
+    let section = subst (λ (p : ReadingSoFar). p.section ≡ Some item.who) (sym c.self.view_is) c.requires.opened in
     let none = λ (kind : FaultKind). subst (λ (who : Option Who). some_rank inside.nue who (refuses kind inside.nue (reverse had) e) ≡ false) section (passed-all _ e sound kind) in
     let settled = settled-new inside.version inside.nue had item c.self.invariant.some aimed c.self.invariant.have sound.unknown (none kind.SelfMessage) (none kind.RankRange) (none kind.NotSplit) in
     let kept = kept-more inside.version inside.nue had inside.names.items item inside.run inside.run inside.repeats.items c.note_repeat.new.repeats.items inside.tallies.items noted

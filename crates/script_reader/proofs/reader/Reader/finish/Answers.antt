@@ -4,7 +4,7 @@ use Rattle.scc_base.specs.declared.communicators.CommRule.{CommRule}
 use Rattle.script_reader.specs.declared.script.Item.{Item}
 use Rattle.script_reader.specs.Ends.{with_ends}
 use Rattle.script_reader.specs.Checks.{last_comm}
-use Rattle.script_reader.specs.Progress.{Progress}
+use Rattle.script_reader.specs.Progress.{ReadingSoFar}
 use Rattle.script_reader.specs.Script.{Script, rules_of}
 use Rattle.scc_base.specs.declared.communicators.CommRule.TheVariants as rule
 use Rattle.script_reader.specs.Settled.{IsAccepted, IsSettled}
@@ -43,5 +43,5 @@ returns-clause-low c = λ comm above.
     let back = written-back c.self.inside.items.len told (drop (length told) had) long in
     let is = c.tell_ends.ensures.gives ∙ ap (λ (items : List Item). with_ends (length items) items) c.deref_mut.ensures.value in
     let rules = ap (λ (s : Script). rules_of s.items) c.new.ensures ∙ ap rules_of (back ∙ is) ∙ rules-with_ends (length had) had in
-    let higher = subst (λ (p : Progress). last_comm p.version < comm → last_comm c.self.inside.version < comm) c.self.view_is (λ h. h) above in
+    let higher = subst (λ (p : ReadingSoFar). last_comm p.version < comm → last_comm c.self.inside.version < comm) c.self.view_is (λ h. h) above in
     subst (λ (r : List CommRule). rule_of r comm ≡ rule.Absent) (sym rules) (rules-low had comm (omega (arith, higher)) (c.self.invariant.low comm higher))

@@ -2,7 +2,7 @@ use Rattle.std.proofs.Common.{◌≡◌, ◌||◌, ◌==◌, ℕ, not, ◌∙◌
 use Rattle.std.specs.Prelude.{is_some}
 use Rattle.scc_base.specs.Setups.{SetupView}
 use Rattle.script_reader.specs.Checks.{has_no_parent, run_of}
-use Rattle.script_reader.specs.Progress.{Progress, has_fault, past}
+use Rattle.script_reader.specs.Progress.{ReadingSoFar, has_fault, past}
 use Rattle.script_reader.specs.Tally.{reads}
 use Rattle.script_reader.proofs.CheckLemmas.{neither}
 use Rattle.script_reader.proofs.FaultLemmas.{of-world, without-peer, without-read, without-register, without-root}
@@ -41,7 +41,7 @@ returns-else-needed-ne0 c =
     let p = c.args.self.now in
     let e = c.args.effect.now in
     let parented : has_no_parent (run_of p.nue (past p)) e.group ≡ false =
-    subst (λ (p : Progress). has_no_parent (run_of p.nue (past p)) e.group ≡ false) c.self.view_is
+    subst (λ (p : ReadingSoFar). has_no_parent (run_of p.nue (past p)) e.group ≡ false) c.self.view_is
     (sym (ap (λ (run : SetupView). has_no_parent run e.group) c.self.invariant.run_is) ∙ sym c.has_no_parent.ensures ∙ c.if-has_no_parent.false) in
     let world = of-world p e (ap (λ (n : ℕ). not (n == 0)) (sym c.needed.ensures ∙ c.if-needed-ne0.false)) in
     ap (λ (n : ℕ). not (n == 0)) c.if-needed-ne0.false ∙ sym (ap (has_fault p e) c.in-NotSplit.is ∙ neither (has_no_parent (run_of p.nue (past p)) e.group) _ parented world)

@@ -2,7 +2,7 @@ use Rattle.std.proofs.Common.{◌≤◌, ap, arith, length, length-append}
 use Rattle.std.proofs.lemmas.Bool.{ltb-false}
 use Rattle.script_reader.specs.declared.script.Item.{Item}
 use Rattle.script_reader.specs.Limits.{most_names}
-use Rattle.script_reader.specs.Progress.{Progress}
+use Rattle.script_reader.specs.Progress.{ReadingSoFar}
 use Rattle.script_reader.proofs.FaultLemmas.{no-fault}
 use Rattle.script_reader.proofs.reader.Reader.place.Goals as goal
 
@@ -13,7 +13,7 @@ returns-clause-kept c =
     let sound = no-fault c.args.self.now c.effect_of-effect.result c.in_ok-who.ensures.passed in
     let few : length c.args.self.now.names ≤ most_names = ltb-false most_names (length c.args.self.now.names) sound.few in
     record {
-      same = ap (λ (p : Progress). p.version) new;
-      named = omega (arith, few, ap (λ (p : Progress). length p.names) new);
-      counted = omega (arith, c.requires.counted, ap (λ (p : Progress). length p.items) new, length-append {A = Item});
+      same = ap (λ (p : ReadingSoFar). p.version) new;
+      named = omega (arith, few, ap (λ (p : ReadingSoFar). length p.names) new);
+      counted = omega (arith, c.requires.counted, ap (λ (p : ReadingSoFar). length p.items) new, length-append {A = Item});
     }

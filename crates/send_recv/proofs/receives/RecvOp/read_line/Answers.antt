@@ -7,18 +7,18 @@ use Rattle.send_recv.specs.declared.stages.RecvStage.TheVariants.{Lines, Raise}
 use Rattle.send_recv.specs.Chunks.{chunk_lines_of}
 use Rattle.send_recv.specs.Ops.{RecvAt}
 use Rattle.send_recv.specs.Sights.{chunk_at}
-use Rattle.send_recv.specs.Steps.{cleared, before_line, after_line}
+use Rattle.send_recv.specs.Steps.{with_empty_cache, before_line, after_line}
 use Rattle.send_recv.proofs.receives.RecvOp.read_line.Goals.{then-line-eq0, else-line-eq0}
 use Rattle.send_recv.proofs.receives.RecvOp.read_line.Goals as goal
 
 -- Answered by name, so that the branch before the read is split once, and not in each search.
 
 -- the cache was emptied before the first line, and before no other
-at_first : (line : ℕ) (c d : Private) → line ≡ 0 → d ≡ cleared c → d ≡ before_line line c
-at_first line c d first is = is ∙ subst (λ (x : ℕ). cleared c ≡ before_line x c) (sym first) refl
+at_first : (line : ℕ) (c d : Private) → line ≡ 0 → d ≡ with_empty_cache c → d ≡ before_line line c
+at_first line c d first is = is ∙ subst (λ (x : ℕ). with_empty_cache c ≡ before_line x c) (sym first) refl
 
 at_later : (line : ℕ) (c d : Private) → line ≢ 0 → d ≡ c → d ≡ before_line line c
-at_later line c d later is = is ∙ ap (λ (b : Bool). if b then cleared c else c) (sym (ne_eqb line 0 later))
+at_later line c d later is = is ∙ ap (λ (b : Bool). if b then with_empty_cache c else c) (sym (ne_eqb line 0 later))
 
 -- how many lines the chunk has
 lines_are : (s : Sight) (op now : RecvAt) (len lines : ℕ) (layout : Layout) → lines ≡ chunk_lines_of (chunk_size layout) len now.chunk → len ≡ now.head.len → layout ≡ s.seat.setup.layout → now ≡ op

@@ -3,7 +3,7 @@ use Rattle.send_recv.specs.declared.answers.RecvTurn.TheVariants.{Moved}
 use Rattle.send_recv.specs.declared.stages.RecvStage.{RecvStage}
 use Rattle.send_recv.specs.Ops.{RecvAt}
 use Rattle.send_recv.specs.Ranks.{receiving}
-use Rattle.send_recv.specs.Receiving.{IsAtStage}
+use Rattle.send_recv.specs.Receiving.{IsAtRecvStage}
 use Rattle.scc_proto.specs.Ports.{record_in}
 use Rattle.send_recv.specs.Stretches.{is_reading}
 use Rattle.send_recv.proofs.Receiving.LookTurn.{Turns}
@@ -17,13 +17,13 @@ lines-init g c = (c.requires.stands, NoLineRead)
 pub read_line-requires : goal.read_line-requires
 read_line-requires g c =
     let stage = ap (λ (x : RecvAt). x.stage) (sym c.self.view_is) ∙ c.in-Lines.is in
-    let at = subst (λ (st : RecvStage). IsAtStage (g.P.Port.sight c.lines.port).seat (record_in (g.P.Port.sight c.lines.port)) c.lines.core c.lines.self c.lines.bytes st) stage c.lines.invariant.0.at in
+    let at = subst (λ (st : RecvStage). IsAtRecvStage (g.P.Port.sight c.lines.port).seat (record_in (g.P.Port.sight c.lines.port)) c.lines.core c.lines.self c.lines.bytes st) stage c.lines.invariant.0.at in
     record { peers = c.lines.invariant.0.peers; empty = c.lines.invariant.0.empty; in_chunk = at.0 }
 
 pub lines-smaller : goal.lines-smaller
 lines-smaller g c =
     let stage = ap (λ (x : RecvAt). x.stage) (sym c.self.view_is) ∙ c.in-Lines.is in
-    let at = subst (λ (st : RecvStage). IsAtStage (g.P.Port.sight c.lines.port).seat (record_in (g.P.Port.sight c.lines.port)) c.lines.core c.lines.self c.lines.bytes st) stage c.lines.invariant.0.at in
+    let at = subst (λ (st : RecvStage). IsAtRecvStage (g.P.Port.sight c.lines.port).seat (record_in (g.P.Port.sight c.lines.port)) c.lines.core c.lines.self c.lines.bytes st) stage c.lines.invariant.0.at in
     subst (λ (n : ℕ). to_read c.read_line.new.self.stage < n) (sym (ap to_read stage))
     (subst (λ (x : RecvAt). to_read x.stage < 256 - c.in-Lines.line) (sym c.read_line.ensures.next)
     (reads_nearer (g.P.Port.sight c.lines.port).seat.setup.layout c.in-Lines.line c.lines.self at.0))

@@ -1,7 +1,7 @@
 use Rattle.std.proofs.Common.{◌≡◌, ℕ, List, [], length, None, refl, subst, arith}
 use Rattle.std.proofs.lemmas.List.{nil_from_length}
 use Rattle.groups.specs.declared.collectives.Coll.TheVariants.{Bcast}
-use Rattle.station.specs.Groups.{HasRun, IsInGroup, held_in, in_group_call, op_in, start_at}
+use Rattle.station.specs.Groups.{HasRunGroup, IsInGroup, held_in, in_group_call, op_in, start_at}
 use Rattle.station.specs.declared.steps.GroupOp.{GroupOp}
 use Rattle.station.proofs.BeginLemmas.{begins_as}
 use Rattle.station.proofs.ReduceLemmas.{bcast_kept, bcast_made}
@@ -29,7 +29,7 @@ returns-clause-calls g c =
     let later = held_in c.run_steps.new.output c.run_steps.new.work in
     let is = begins_as s c.args.self.now (Bcast c.args.comm c.args.root (length c.args.buffer.now)) None [] held _ c.begun.ensures.starts c.requires.free c.requires.callable refl in
     ok_later c.run_steps.result c.run_steps.ensures.ended (λ d ended. bcast_made s t c.run_steps.new.self held later c.args.comm c.args.root (length c.args.buffer.now) c.run_steps.ensures.seat
-    (subst (λ (x : GroupOp). HasRun (start_at s held) (in_group_call t c.run_steps.new.self x [] later)) c.begun.ensures.starts (ended (start_at s held) is)))
+    (subst (λ (x : GroupOp). HasRunGroup (start_at s held) (in_group_call t c.run_steps.new.self x [] later)) c.begun.ensures.starts (ended (start_at s held) is)))
 
 pub returns-clause-kept : goal.returns-clause-kept
 returns-clause-kept g c =
@@ -39,7 +39,7 @@ returns-clause-kept g c =
     let later = held_in c.run_steps.new.output c.run_steps.new.work in
     let is = begins_as s c.args.self.now (Bcast c.args.comm c.args.root (length c.args.buffer.now)) None [] held _ c.begun.ensures.starts c.requires.free c.requires.callable refl in
     ok_later c.run_steps.result c.run_steps.ensures.ended (λ d ended. bcast_kept s t c.run_steps.new.self held later c.args.comm c.args.root (length c.args.buffer.now) c.run_steps.ensures.seat
-    (subst (λ (x : GroupOp). HasRun (start_at s held) (in_group_call t c.run_steps.new.self x [] later)) c.begun.ensures.starts (ended (start_at s held) is)))
+    (subst (λ (x : GroupOp). HasRunGroup (start_at s held) (in_group_call t c.run_steps.new.self x [] later)) c.begun.ensures.starts (ended (start_at s held) is)))
 
 pub returns-clause-open : goal.returns-clause-open
 returns-clause-open g c =
