@@ -14,15 +14,11 @@ use Rattle.sync_flags.specs.Flags.{flag_value}
 use Rattle.sync_flags.specs.Tries.{Tried}
 use Rattle.sync_flags.specs.Looks.{LooksAt}
 use Rattle.sync_flags.specs.Writes.{StoresWord}
+use Rattle.sync_flags.specs.Turns.{waits_at}
 use Rattle.barrier.specs.declared.stages.BarStage.{BarStage}
 use Rattle.barrier.specs.declared.stages.BarStage.TheVariants.{Flip, Gather, Release, Await, Finished}
 use Rattle.barrier.specs.Flags.{value_at, member_at, gather_word, release_word}
 use Rattle.barrier.specs.Stages.{Member, is_bar_finished, is_gather, bar_left, barrier_aim_at, bar_call}
-
--- where a turn waits
-abbrev pub bar_waits_at : Turn → Option Spot
-bar_waits_at (turn.Waiting spot) = Some spot
-bar_waits_at answer = None
 
 -- what each stage does: it writes one flag, looks at one, or does nothing. Eight parameters: of the stage its place (the
 -- seat, the communicator), itself and the value that this barrier writes; of the rank its sight and its core, before the
@@ -65,7 +61,7 @@ pub record BarTurned (old now : Member) (answer : Turn) : Type 0 where
       now.sight now.core
   -- it waits exactly where its one look was vain
   pub tried : Tried (barrier_aim_at old.sight.seat old.op.comm old.op.stage (flag_value (value_at now.parity old.op.comm))) events
-      (bar_waits_at answer)
+      (waits_at answer)
   pub same : now.op.comm ≡ old.op.comm
   pub means : BarMeans old now answer
   pub flips : (record_in now.sight).flips ≡ flips_by old.op.comm old.op.stage (record_in old.sight).flips

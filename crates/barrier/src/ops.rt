@@ -40,9 +40,10 @@ impl BarOp {
     ghost use Rattle.put_get.specs.Cores.{MadeSteps};
     ghost use Rattle.barrier.specs.declared.stages.BarStage.TheVariants.{Flip, Gather, Release, Await, Finished};
     ghost use Rattle.sync_flags.specs.Flags.{flag_value};
+    ghost use Rattle.sync_flags.specs.Turns.{waits_at};
     ghost use Rattle.barrier.specs.Flags.{value_at, gather_word, release_word, member_at};
     ghost use Rattle.barrier.specs.Stages.{BarStands, new_barrier, group_size, own_place, after_flip, after_member_seen, after_release, meeting};
-    ghost use Rattle.barrier.specs.Turns.{BarTurned, bar_waits_at};
+    ghost use Rattle.barrier.specs.Turns.{BarTurned};
 
     /// A barrier that is not yet entered.
     pub fn new(comm: u8) -> BarOp
@@ -66,7 +67,7 @@ impl BarOp {
         ensures stands { BarStands (P.sight port.new) core.new self.new parity.new }
         ensures turned { BarTurned (meeting (P.sight port.old) core.old self.old parity.old)
             (meeting (P.sight port.new) core.new self.new parity.new) result }
-        ensures goes_on { bar_waits_at result ≡ None }
+        ensures goes_on { waits_at result ≡ None }
     {
         let own = port.rank();
         let size = port.setup().group_size(self.comm, own);
@@ -127,7 +128,7 @@ impl BarOp {
         ensures stands { BarStands (P.sight port.new) core.new self.new parity.now }
         ensures turned { BarTurned (meeting (P.sight port.old) core.old self.old parity.now)
             (meeting (P.sight port.new) core.new self.new parity.now) result }
-        ensures goes_on { bar_waits_at result ≡ None }
+        ensures goes_on { waits_at result ≡ None }
     {
         let own = port.rank();
         let size = port.setup().group_size(self.comm, own);
@@ -182,7 +183,7 @@ impl BarOp {
         ensures stands { BarStands (P.sight port.new) core.new self.new parity.new }
         ensures turned { BarTurned (meeting (P.sight port.old) core.old self.old parity.old)
             (meeting (P.sight port.new) core.new self.new parity.new) result }
-        ensures steps { (spot : Spot) → bar_waits_at result ≡ Some spot → MadeSteps P.stepped (P.sight port.old) (P.sight port.new) }
+        ensures steps { (spot : Spot) → waits_at result ≡ Some spot → MadeSteps P.stepped (P.sight port.old) (P.sight port.new) }
     {
         match self.stage {
             BarStage::Flip => self.flip(core, port, parity),

@@ -8,6 +8,7 @@ use Rattle.std.proofs.lemmas.Bool.Decides.{nat_tests}
 use Rattle.std.proofs.lemmas.Fmt.{decimal_by_steps}
 use Rattle.std.proofs.lemmas.List.Elements.{All-nil, All-cons, All-head, All-tail}
 use Rattle.std.proofs.lemmas.List.Splits.{slice_split_none, slice_split_at}
+use Rattle.scc_proto.specs.Words.{is_present_rule}
 use Rattle.hex.specs.Hex.{IsBytes, encode_with, lower_digits}
 use Rattle.scc_base.specs.Calls.{DataCall, Send, Recv, Post, Bar}
 use Rattle.scc_base.specs.Communicators.{rule_of}
@@ -17,7 +18,7 @@ use Rattle.scc_base.specs.declared.communicators.CommRule.TheVariants.{Absent, W
 use Rattle.scc_base.specs.declared.kinds.Kind.{Kind}
 use Rattle.scc_base.specs.declared.kinds.Kind.TheVariants.{Plain, Bcast, Reduce, AllUp, AllDown}
 use Rattle.rcce_audit.specs.declared.lines.EndRanks.{EndRanks}
-use Rattle.rcce_audit.specs.Grammar.{Reading, RankedCall, log_rank_said, end_ranks, ends_said, log_head_of, log_head_said, log_bytes_said, is_post, call_named, message_said, has_rule, call_said, with_call, is_in_order, add_call, begins_comm, line_said}
+use Rattle.rcce_audit.specs.Grammar.{Reading, RankedCall, log_rank_said, end_ranks, ends_said, log_head_of, log_head_said, log_bytes_said, is_post, call_named, message_said, call_said, with_call, is_in_order, add_call, begins_comm, line_said}
 use Rattle.rcce_audit.specs.Logs.{IsMessage, IsLogCall}
 use Rattle.rcce_io.specs.Digits.{hex_text}
 use Rattle.rcce_audit.specs.Texts.{message_words, call_words, line_of, text_of}
@@ -190,7 +191,7 @@ message_told nue comms r peer verb head bytes call ranks below valid named =
 post_is : (head : MessageHead) → IsPostHead head → is_post head ≡ true
 post_is head valid = and_from (head.kind == 0) (head.comm == 0 && nat_le head.len 3584) (eq-eqb head.kind 0 valid.plain) (and_from (head.comm == 0) (nat_le head.len 3584) (eq-eqb head.comm 0 valid.in_world) (le-leb head.len 3584 valid.len_within))
 
-pub present_is : (rule : CommRule) → rule ≢ Absent → has_rule rule ≡ true
+pub present_is : (rule : CommRule) → rule ≢ Absent → is_present_rule rule ≡ true
 present_is Absent stands = absurd (stands refl)
 present_is World stands = refl
 present_is (Mod parent k) stands = refl
@@ -202,9 +203,9 @@ call_told nue comms r (Recv from head bytes) ranks below valid = message_told nu
 call_told nue comms r (Post to head bytes) ranks below (valid, post) =
     message_told nue comms r to (codes "post") head bytes (Post to head bytes) ranks below valid (cond-true (is_post head) (Some (Post to head bytes)) None (post_is head post))
 call_told nue comms r (Bar comm) ranks below (within, stands) =
-    ap (λ (o : Option ℕ). o >>= λ x. exact_range_said 0 15 (decimal comm) >>= λ c. only_if (bytes_eq (codes "bar") (codes "bar") && has_rule (rule_of comms c)) (record { rank = x; call = Bar c })) (rank_told nue r ranks below)
-    ∙ ap (λ (o : Option ℕ). o >>= λ c. only_if (bytes_eq (codes "bar") (codes "bar") && has_rule (rule_of comms c)) (record { rank = r; call = Bar c })) (range_said-decimal 0 15 comm (omega arith) (omega arith) (omega arith))
-    ∙ cond-true (has_rule (rule_of comms comm)) (Some (record { rank = r; call = Bar comm })) None (present_is (rule_of comms comm) stands)
+    ap (λ (o : Option ℕ). o >>= λ x. exact_range_said 0 15 (decimal comm) >>= λ c. only_if (bytes_eq (codes "bar") (codes "bar") && is_present_rule (rule_of comms c)) (record { rank = x; call = Bar c })) (rank_told nue r ranks below)
+    ∙ ap (λ (o : Option ℕ). o >>= λ c. only_if (bytes_eq (codes "bar") (codes "bar") && is_present_rule (rule_of comms c)) (record { rank = r; call = Bar c })) (range_said-decimal 0 15 comm (omega arith) (omega arith) (omega arith))
+    ∙ cond-true (is_present_rule (rule_of comms comm)) (Some (record { rank = r; call = Bar comm })) None (present_is (rule_of comms comm) stands)
 
 -- a call's line does not begin as one of a communicator
 abbrev pub BeginsLow : List ℕ → Type 0

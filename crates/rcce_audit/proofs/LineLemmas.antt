@@ -5,6 +5,7 @@ use Rattle.std.specs.Str.{bytes_eq}
 use Rattle.std.proofs.lemmas.Bool.{and_parts, eqb-true, eqb-false, leb-true, not-true}
 use Rattle.std.proofs.lemmas.Bool.Decides.{nat_tests}
 use Rattle.std.proofs.lemmas.List.Splits.{join_with_byte-slice_split}
+use Rattle.scc_proto.specs.Words.{is_present_rule}
 use Rattle.hex.specs.Hex.{IsBytes}
 use Rattle.scc_base.specs.Calls.{DataCall, Send, Recv, Post, Bar}
 use Rattle.scc_base.specs.Communicators.{rule_of}
@@ -15,7 +16,7 @@ use Rattle.scc_base.specs.declared.kinds.Kind.{Kind}
 use Rattle.scc_base.specs.declared.kinds.Kind.TheVariants.{Plain, Bcast, Reduce, AllUp, AllDown}
 use Rattle.rcce_audit.specs.declared.lines.CommSplit.{CommSplit}
 use Rattle.rcce_audit.specs.declared.lines.EndRanks.{EndRanks}
-use Rattle.rcce_audit.specs.Grammar.{RankedCall, log_rank_said, end_ranks, ends_said, log_head_of, log_head_said, log_bytes_said, is_post, call_named, message_said, has_rule, log_barrier_said, long_said, short_said, call_said, rule_named, log_split_said, comm_said, nue_of}
+use Rattle.rcce_audit.specs.Grammar.{RankedCall, log_rank_said, end_ranks, ends_said, log_head_of, log_head_said, log_bytes_said, is_post, call_named, message_said, log_barrier_said, long_said, short_said, call_said, rule_named, log_split_said, comm_said, nue_of}
 use Rattle.rcce_audit.specs.Logs.{IsMessage, IsLogCall}
 use Rattle.rcce_io.specs.Digits.{hex_text}
 use Rattle.rcce_audit.specs.Texts.{head_words, split_words, message_words, call_words, line_of, rule_lines}
@@ -172,7 +173,7 @@ message_line nue comms rank verb peer kind comm len hex ranked some said =
     let is : record { rank = ends.rank; call = call } ≡ ranked = cc in
     subst P is (record { rank_below = rank_below; text = of_call.text ∙ words; valid = of_call.valid })
 
-present : (rule : CommRule) → has_rule rule ≡ true → rule ≢ Absent
+present : (rule : CommRule) → is_present_rule rule ≡ true → rule ≢ Absent
 present Absent test is = absurd cc
 present World test is = absurd cc
 present (Mod parent k) test is = absurd cc
@@ -181,10 +182,10 @@ present (Div parent k) test is = absurd cc
 barrier_line : (nue : ℕ) (comms : List CommRule) (rank verb comm : List ℕ) (ranked : RankedCall) → 1 ≤ nue → log_barrier_said nue comms rank verb comm ≡ Some ranked
     → IsRankedWords nue comms ranked (rank ∷ verb ∷ comm ∷ [])
 barrier_line nue comms rank verb comm ranked some said =
-    let (r, is_r, later) = then_some (log_rank_said nue rank) (λ r. exact_range_said 0 15 comm >>= λ c. only_if (bytes_eq verb (codes "bar") && has_rule (rule_of comms c)) (record { rank = r; call = Bar c })) ranked said in
-    let (c, is_c, gives) = then_some (exact_range_said 0 15 comm) (λ c. only_if (bytes_eq verb (codes "bar") && has_rule (rule_of comms c)) (record { rank = r; call = Bar c })) ranked later in
-    let (test, value) = only_some (bytes_eq verb (codes "bar") && has_rule (rule_of comms c)) (record { rank = r; call = Bar c }) ranked gives in
-    let parts = and_parts (bytes_eq verb (codes "bar")) (has_rule (rule_of comms c)) test in
+    let (r, is_r, later) = then_some (log_rank_said nue rank) (λ r. exact_range_said 0 15 comm >>= λ c. only_if (bytes_eq verb (codes "bar") && is_present_rule (rule_of comms c)) (record { rank = r; call = Bar c })) ranked said in
+    let (c, is_c, gives) = then_some (exact_range_said 0 15 comm) (λ c. only_if (bytes_eq verb (codes "bar") && is_present_rule (rule_of comms c)) (record { rank = r; call = Bar c })) ranked later in
+    let (test, value) = only_some (bytes_eq verb (codes "bar") && is_present_rule (rule_of comms c)) (record { rank = r; call = Bar c }) ranked gives in
+    let parts = and_parts (bytes_eq verb (codes "bar")) (is_present_rule (rule_of comms c)) test in
     let of_rank = range_word 0 (nue - 1) rank r is_r in
     let of_comm = range_word 0 15 comm c is_c in
     let rank_text = of_rank.text in
@@ -221,8 +222,8 @@ call_line nue comms words ranked some said = by_length (length words == 7) said
 
 -- what a line says as a communicator
 pub data IsSplitRule (comms : List CommRule) : CommRule → Type 0 where
-  ByMod : (parent k : ℕ) → has_rule (rule_of comms parent) ≡ true → 1 ≤ k → k ≤ 48 → IsSplitRule comms (Mod parent k)
-  ByDiv : (parent k : ℕ) → has_rule (rule_of comms parent) ≡ true → 1 ≤ k → k ≤ 48 → IsSplitRule comms (Div parent k)
+  ByMod : (parent k : ℕ) → is_present_rule (rule_of comms parent) ≡ true → 1 ≤ k → k ≤ 48 → IsSplitRule comms (Mod parent k)
+  ByDiv : (parent k : ℕ) → is_present_rule (rule_of comms parent) ≡ true → 1 ≤ k → k ≤ 48 → IsSplitRule comms (Div parent k)
 
 pub record IsSplitWords (last : ℕ) (comms : List CommRule) (split : CommSplit) (words : List (List ℕ)) : Type 0 where
   pub above : last < split.comm
@@ -230,7 +231,7 @@ pub record IsSplitWords (last : ℕ) (comms : List CommRule) (split : CommSplit)
   pub rule : IsSplitRule comms split.rule
   pub text : rule_lines split.comm split.rule ≡ line_of words ∷ []
 
-rule_line : (last : ℕ) (comms : List CommRule) (c p k : ℕ) (word comm parent how parts : List ℕ) (rule : CommRule) → last < c → c < 16 → has_rule (rule_of comms p) ≡ true → 1 ≤ k → k ≤ 48
+rule_line : (last : ℕ) (comms : List CommRule) (c p k : ℕ) (word comm parent how parts : List ℕ) (rule : CommRule) → last < c → c < 16 → is_present_rule (rule_of comms p) ≡ true → 1 ≤ k → k ≤ 48
     → codes "comm" ≡ word → decimal c ≡ comm → decimal p ≡ parent → decimal k ≡ parts → rule_named how p k ≡ Some rule
     → IsSplitWords last comms (record { comm = c; rule = rule }) (word ∷ comm ∷ parent ∷ how ∷ parts ∷ [])
 rule_line last comms c p k word comm parent how parts rule above below stands some most is_word is_comm is_parent is_parts named =
@@ -258,8 +259,8 @@ split_line last comms word comm parent how k split said =
     let (p, is_p, s2) = then_some (exact_range_said 0 15 parent) _ split s1 in
     let (n, is_n, s3) = then_some (exact_range_said 1 48 k) _ split s2 in
     let (rule, is_rule, gives) = then_some (rule_named how p n) _ split s3 in
-    let (test, value) = only_some (bytes_eq word (codes "comm") && has_rule (rule_of comms p)) (record { comm = c; rule = rule }) split gives in
-    let parts = and_parts (bytes_eq word (codes "comm")) (has_rule (rule_of comms p)) test in
+    let (test, value) = only_some (bytes_eq word (codes "comm") && is_present_rule (rule_of comms p)) (record { comm = c; rule = rule }) split gives in
+    let parts = and_parts (bytes_eq word (codes "comm")) (is_present_rule (rule_of comms p)) test in
     let of_comm = range_word (last + 1) 15 comm c is_c in
     let of_parent = range_word 0 15 parent p is_p in
     let of_parts = range_word 1 48 k n is_n in

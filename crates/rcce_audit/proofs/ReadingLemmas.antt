@@ -8,15 +8,17 @@ use Rattle.std.proofs.lemmas.List.{append-nil, get_or-set_other, get_or-set_same
 use Rattle.std.proofs.lemmas.List.Elements.{All-nil, All-push}
 use Rattle.std.proofs.lemmas.List.Splits.{join_with_byte-slice_split, length-slice_split}
 use Rattle.std.proofs.lemmas.List.Sums.{count_by-le-length}
+use Rattle.scc_proto.specs.Words.{is_present_rule}
 use Rattle.scc_base.specs.Calls.{DataCall}
 use Rattle.scc_base.specs.Communicators.{AreRules, IsRule, rule_of}
 use Rattle.scc_base.specs.declared.communicators.CommRule.{CommRule}
 use Rattle.scc_base.specs.declared.communicators.CommRule.TheVariants.{Absent, World, Mod, Div}
 use Rattle.scc_base.proofs.WorldRules as world
+use Rattle.scc_base.specs.Worlds.{world_alone}
 use Rattle.rcce_audit.specs.declared.faults.LogFault.{LogFault}
 use Rattle.rcce_audit.specs.declared.faults.LogKind.TheVariants as kind
 use Rattle.rcce_audit.specs.declared.lines.CommSplit.{CommSplit}
-use Rattle.rcce_audit.specs.Grammar.{Reading, RankedCall, with_comm, with_call, is_in_order, add_call, begins_comm, comm_said, call_said, line_said, kind_of, lines_said, end_said, nue_of, first_rules, no_calls, reading_start, first_said, all_said, parts_said, log_of, has_rule, ◌>=>◌}
+use Rattle.rcce_audit.specs.Grammar.{Reading, RankedCall, with_comm, with_call, is_in_order, add_call, begins_comm, comm_said, call_said, line_said, kind_of, lines_said, end_said, nue_of, no_calls, reading_start, first_said, all_said, parts_said, log_of, ◌>=>◌}
 use Rattle.rcce_audit.specs.Logs.{LogView, calls_in_log, IsLogCall, IsLog, most_log_bytes}
 use Rattle.rcce_audit.specs.Texts.{head_words, line_of, rule_lines, call_words, call_lines, table_lines, log_lines, text_of, log_text, IsFileLog}
 use Rattle.rcce_audit.specs.Words.{◌>>=◌, log_words_of}
@@ -58,11 +60,11 @@ pub record IsReading (r : Reading) : Type 0 where
   pub unbegun : r.rank ≡ None → (q : ℕ) → calls_in_log r.log q ≡ []
   pub begun : (last : ℕ) → r.rank ≡ Some last → (q : ℕ) → last < q → calls_in_log r.log q ≡ []
 
-pub no_rules : (c : ℕ) → rule_of first_rules (suc c) ≡ Absent
+pub no_rules : (c : ℕ) → rule_of world_alone (suc c) ≡ Absent
 no_rules c = world.absent_after c
 
-pub world_rules : AreRules first_rules
-world_rules = world.world_alone first_rules refl
+pub world_rules : AreRules world_alone
+world_rules = world.world_alone world_alone refl
 
 no_lists : (q : ℕ) → get_or no_calls q [] ≡ []
 unfolding no_calls
@@ -81,7 +83,7 @@ start_reads nue some most = record {
     rules = world_rules;
     ranks = no_lists_length;
     no_others = λ r above. no_lists r;
-    calls = λ r. subst (All (IsLogCall nue first_rules r)) (sym (no_lists r)) (All-nil (IsLogCall nue first_rules r));
+    calls = λ r. subst (All (IsLogCall nue world_alone r)) (sym (no_lists r)) (All-nil (IsLogCall nue world_alone r));
   };
   last_below = omega arith;
   later = λ c above. later_of c above;
@@ -89,7 +91,7 @@ start_reads nue some most = record {
   begun = λ last is q above. no_lists q;
 }
   where
-    later_of : (c : ℕ) → 0 < c → rule_of first_rules c ≡ Absent
+    later_of : (c : ℕ) → 0 < c → rule_of world_alone c ≡ Absent
     later_of zero above = absurd (omega arith)
     later_of (suc c) above = no_rules c
 
@@ -134,7 +136,7 @@ pub split_stands : (comms : List CommRule) (rule : CommRule) → IsSplitRule com
 split_stands comms rule (ByMod parent k had some most) is = absurd cc
 split_stands comms rule (ByDiv parent k had some most) is = absurd cc
 
-had_rule : (rule : CommRule) → has_rule rule ≡ true → rule ≢ Absent
+had_rule : (rule : CommRule) → is_present_rule rule ≡ true → rule ≢ Absent
 had_rule Absent test is = absurd cc
 had_rule World test is = absurd cc
 had_rule (Mod parent k) test is = absurd cc

@@ -6,6 +6,7 @@ use Rattle.std.specs.Str.{bytes_eq}
 use Rattle.std.proofs.lemmas.Bool.{cases_lt, cond-true, cond-false, le-leb, le-ltb, leb-true}
 use Rattle.std.proofs.lemmas.List.{append-nil}
 use Rattle.std.proofs.lemmas.List.Elements.{All-head, All-tail}
+use Rattle.scc_proto.specs.Words.{is_present_rule}
 use Rattle.scc_base.specs.Calls.{DataCall}
 use Rattle.scc_base.specs.Communicators.{IsRule, rule_of}
 use Rattle.scc_base.specs.declared.communicators.CommRule.{CommRule}
@@ -13,7 +14,7 @@ use Rattle.scc_base.specs.declared.communicators.CommRule.TheVariants.{Absent, W
 use Rattle.rcce_audit.specs.declared.faults.LogFault.{LogFault}
 use Rattle.rcce_audit.specs.declared.faults.LogKind.TheVariants as kind
 use Rattle.rcce_audit.specs.declared.lines.CommSplit.{CommSplit}
-use Rattle.rcce_audit.specs.Grammar.{Reading, has_rule, rule_named, comm_said, nue_of, with_comm, with_call, is_in_order, line_said, kind_of, lines_said, end_said, no_calls, reading_start, first_said, all_said, parts_said, log_of, ◌>=>◌}
+use Rattle.rcce_audit.specs.Grammar.{Reading, rule_named, comm_said, nue_of, with_comm, with_call, is_in_order, line_said, kind_of, lines_said, end_said, no_calls, reading_start, first_said, all_said, parts_said, log_of, ◌>=>◌}
 use Rattle.rcce_audit.specs.Logs.{LogView, IsLogCall, IsLog, most_log_bytes}
 use Rattle.rcce_audit.specs.Texts.{head_words, split_words, call_words, line_of, rule_lines, call_lines, table_lines, log_lines, log_text, IsFileLog}
 use Rattle.rcce_audit.specs.Words.{◌>>=◌, only_if, log_words_of, exact_range_said}
@@ -95,17 +96,17 @@ lists_lead r front (l ∷ ls) n o ranks at ordered valid none =
     (rest.0, leads_append (at_lists r (front ++ [] ∷ replicate (length ls) []) o) (at_lists r (front ++ l ∷ replicate (length ls) []) first.0) (at_lists r (front ++ l ∷ ls) rest.0) (call_lines n l) (table_lines call_lines (n + 1) ls) first.2 joined)
 
 -- the line of a communicator says it
-pub split_told : (last : ℕ) (comms : List CommRule) (c p k : ℕ) (how : List ℕ) (rule : CommRule) → last < c → c < 16 → p < c → has_rule (rule_of comms p) ≡ true → 1 ≤ k → k ≤ 48 → rule_named how p k ≡ Some rule
+pub split_told : (last : ℕ) (comms : List CommRule) (c p k : ℕ) (how : List ℕ) (rule : CommRule) → last < c → c < 16 → p < c → is_present_rule (rule_of comms p) ≡ true → 1 ≤ k → k ≤ 48 → rule_named how p k ≡ Some rule
     → comm_said last comms (split_words c p how k) ≡ Some (record { comm = c; rule = rule })
 split_told last comms c p k how rule above below low stands some most named =
-    ap (λ (o : Option ℕ). o >>= λ x. exact_range_said 0 15 (decimal p) >>= λ y. exact_range_said 1 48 (decimal k) >>= λ z. rule_named how y z >>= λ w. only_if (bytes_eq (codes "comm") (codes "comm") && has_rule (rule_of comms y)) (record { comm = x; rule = w }))
+    ap (λ (o : Option ℕ). o >>= λ x. exact_range_said 0 15 (decimal p) >>= λ y. exact_range_said 1 48 (decimal k) >>= λ z. rule_named how y z >>= λ w. only_if (bytes_eq (codes "comm") (codes "comm") && is_present_rule (rule_of comms y)) (record { comm = x; rule = w }))
     (range_said-decimal (last + 1) 15 c (omega arith) (omega arith) (omega arith))
-    ∙ ap (λ (o : Option ℕ). o >>= λ y. exact_range_said 1 48 (decimal k) >>= λ z. rule_named how y z >>= λ w. only_if (bytes_eq (codes "comm") (codes "comm") && has_rule (rule_of comms y)) (record { comm = c; rule = w }))
+    ∙ ap (λ (o : Option ℕ). o >>= λ y. exact_range_said 1 48 (decimal k) >>= λ z. rule_named how y z >>= λ w. only_if (bytes_eq (codes "comm") (codes "comm") && is_present_rule (rule_of comms y)) (record { comm = c; rule = w }))
     (range_said-decimal 0 15 p (omega arith) (omega arith) (omega arith))
-    ∙ ap (λ (o : Option ℕ). o >>= λ z. rule_named how p z >>= λ w. only_if (bytes_eq (codes "comm") (codes "comm") && has_rule (rule_of comms p)) (record { comm = c; rule = w }))
+    ∙ ap (λ (o : Option ℕ). o >>= λ z. rule_named how p z >>= λ w. only_if (bytes_eq (codes "comm") (codes "comm") && is_present_rule (rule_of comms p)) (record { comm = c; rule = w }))
     (range_said-decimal 1 48 k some most (omega arith))
-    ∙ ap (λ (o : Option CommRule). o >>= λ w. only_if (bytes_eq (codes "comm") (codes "comm") && has_rule (rule_of comms p)) (record { comm = c; rule = w })) named
-    ∙ cond-true (has_rule (rule_of comms p)) (Some (record { comm = c; rule = rule })) None stands
+    ∙ ap (λ (o : Option CommRule). o >>= λ w. only_if (bytes_eq (codes "comm") (codes "comm") && is_present_rule (rule_of comms p)) (record { comm = c; rule = w })) named
+    ∙ cond-true (is_present_rule (rule_of comms p)) (Some (record { comm = c; rule = rule })) None stands
 
 split_are : (c p k : ℕ) (how : List ℕ) → c < 16 → p < c → k ≤ 48 → IsWord how → AreWords (split_words c p how k)
 split_are c p k how below low most is = (refl, (small_word c (omega arith), (small_word p (omega arith), (is, (small_word k (omega arith), tt)))))
@@ -114,7 +115,7 @@ split_are c p k how below low most is = (refl, (small_word c (omega arith), (sma
 abbrev at_comms : Reading → List CommRule → ℕ → Reading
 at_comms r comms last = record r { log = record r.log { comms = comms }; comm = last }
 
-split_leads : (r : Reading) (front back : List CommRule) (c p k : ℕ) (how : List ℕ) (rule : CommRule) (last : ℕ) → r.rank ≡ None → c ≡ length front → last < c → c < 16 → p < c → has_rule (rule_of (front ++ Absent ∷ back) p) ≡ true → 1 ≤ k → k ≤ 48 → rule_named how p k ≡ Some rule → IsWord how
+split_leads : (r : Reading) (front back : List CommRule) (c p k : ℕ) (how : List ℕ) (rule : CommRule) (last : ℕ) → r.rank ≡ None → c ≡ length front → last < c → c < 16 → p < c → is_present_rule (rule_of (front ++ Absent ∷ back) p) ≡ true → 1 ≤ k → k ≤ 48 → rule_named how p k ≡ Some rule → IsWord how
     → LeadsTo (at_comms r (front ++ Absent ∷ back) last) (line_of (split_words c p how k) ∷ []) (at_comms r (front ++ rule ∷ back) c)
 split_leads r front back c p k how rule last none at above below low stands some most named is =
     let comms = front ++ Absent ∷ back in
@@ -128,7 +129,7 @@ split_leads r front back c p k how rule last none at above below low stands some
       refl,
     )
 
-pub present_before : (front back rs : List CommRule) (p : ℕ) → p < length front → rule_of (front ++ rs) p ≢ Absent → has_rule (rule_of (front ++ back) p) ≡ true
+pub present_before : (front back rs : List CommRule) (p : ℕ) → p < length front → rule_of (front ++ rs) p ≢ Absent → is_present_rule (rule_of (front ++ back) p) ≡ true
 present_before front back rs p below stands =
     present_is (rule_of (front ++ back) p) (λ is. stands (get_or-front front rs p Absent below ∙ sym (get_or-front front back p Absent below) ∙ is))
 

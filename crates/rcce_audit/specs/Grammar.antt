@@ -2,12 +2,14 @@
 use Rattle.std.specs.Prelude.{◌≡◌, ℕ, ◌+◌, ◌-◌, ◌==◌, ◌&&◌, nat_le, nat_lt, not, Bool, true, false, if◌then◌else◌, List, [], ◌∷◌, ◌++◌, codes, length, replicate, slice_index_or, slice_set, take, Option, Some, None, option_map, Result, Ok, Err}
 use Rattle.std.specs.Option.{ok_or}
 use Rattle.std.specs.Str.{bytes_eq}
+use Rattle.scc_proto.specs.Words.{is_present_rule}
 use Rattle.scc_base.specs.declared.communicators.CommRule.{CommRule}
 use Rattle.scc_base.specs.declared.communicators.CommRule.TheVariants.{Absent, World, Mod, Div}
 use Rattle.scc_base.specs.declared.kinds.Kind.{Kind}
 use Rattle.scc_base.specs.Heads.{MessageHead, kind_number, most_message, most_post}
 use Rattle.scc_base.specs.Calls.{DataCall, Send, Recv, Post, Bar}
 use Rattle.scc_base.specs.Communicators.{rule_of}
+use Rattle.scc_base.specs.Worlds.{world_alone}
 use Rattle.rcce_audit.specs.declared.faults.LogKind.{LogKind}
 use Rattle.rcce_audit.specs.declared.faults.LogKind.TheVariants as kind
 use Rattle.rcce_audit.specs.declared.faults.LogFault.{LogFault}
@@ -74,18 +76,11 @@ message_said ends head verb hex =
     log_bytes_said head.len hex >>= λ bytes. call_named verb ends.peer head bytes
     >>= λ call. Some (record { rank = ends.rank; call = call })
 
--- whether a communicator has a rule
-abbrev pub has_rule : CommRule → Bool
-has_rule Absent = false
-has_rule World = true
-has_rule (Mod parent k) = true
-has_rule (Div parent k) = true
-
 -- the barrier that three words say: a rank, `bar` and a communicator that has a rule
 abbrev pub log_barrier_said : ℕ → List CommRule → (rank verb comm : List ℕ) → Option RankedCall
 log_barrier_said nue comms rank verb comm =
     log_rank_said nue rank >>= λ r. exact_range_said 0 15 comm >>= λ c.
-    only_if (bytes_eq verb (codes "bar") && has_rule (rule_of comms c)) (record { rank = r; call = Bar c })
+    only_if (bytes_eq verb (codes "bar") && is_present_rule (rule_of comms c)) (record { rank = r; call = Bar c })
 
 -- the call of a line of seven words: a message
 abbrev pub long_said : ℕ → List (List ℕ) → Option RankedCall
@@ -116,7 +111,7 @@ abbrev pub log_split_said : ℕ → List CommRule → (word comm parent how k : 
 log_split_said last comms word comm parent how k =
     exact_range_said (last + 1) 15 comm >>= λ c. exact_range_said 0 15 parent >>= λ p. exact_range_said 1 48 k >>= λ parts.
     rule_named how p parts >>= λ rule.
-    only_if (bytes_eq word (codes "comm") && has_rule (rule_of comms p)) (record { comm = c; rule = rule })
+    only_if (bytes_eq word (codes "comm") && is_present_rule (rule_of comms p)) (record { comm = c; rule = rule })
 
 -- the communicator of a line, by its words: above the last one, with a parent that has a rule
 abbrev pub comm_said : ℕ → List CommRule → List (List ℕ) → Option CommSplit
@@ -193,18 +188,13 @@ nue_of (first ∷ second ∷ nue ∷ []) =
     exact_range_said 1 48 nue >>= λ n. only_if (bytes_eq first (codes "rcce") && bytes_eq second (codes "log")) n
 nue_of words = None
 
--- the rules where the world alone stands
-abbrev pub first_rules : List CommRule
-first_rules = World ∷ Absent ∷ Absent ∷ Absent ∷ Absent ∷ Absent ∷ Absent ∷ Absent ∷ Absent ∷ Absent ∷ Absent ∷ Absent ∷ Absent ∷ Absent
-    ∷ Absent ∷ Absent ∷ []
-
 -- the lists where no rank has a call
 unfoldable pub no_calls : List (List DataCall)
 no_calls = replicate 48 []
 
 -- the reading behind the first line, which says the number of ranks
 abbrev pub reading_start : ℕ → Reading
-reading_start nue = record { log = record { nue = nue; comms = first_rules; lists = no_calls }; comm = 0; rank = None }
+reading_start nue = record { log = record { nue = nue; comms = world_alone; lists = no_calls }; comm = 0; rank = None }
 
 -- what the first line says, or BadHead
 abbrev pub first_said : List ℕ → Result Reading LogFault

@@ -1,7 +1,8 @@
 //! The lines of a log, each by its words.
 
 ghost use Rattle.std.specs.Prelude.{◌≡◌, ◌<◌, ◌≤◌, IfOk, IfSome, length, map, option_map};
-ghost use Rattle.rcce_audit.specs.Grammar.{begins_comm, log_bytes_said, call_named, call_said, log_barrier_said, comm_said, ends_said, log_head_said, has_rule, long_said, message_said, nue_of, log_rank_said, rule_named, short_said, log_split_said};
+ghost use Rattle.scc_proto.specs.Words.{is_present_rule};
+ghost use Rattle.rcce_audit.specs.Grammar.{begins_comm, log_bytes_said, call_named, call_said, log_barrier_said, comm_said, ends_said, log_head_said, long_said, message_said, nue_of, log_rank_said, rule_named, short_said, log_split_said};
 ghost use Rattle.rcce_audit.specs.Views.{data_of, ranked_of};
 
 use crate::logs::LogCall;
@@ -132,7 +133,7 @@ fn message_said(
 }
 
 fn is_present(rule: CommRule) -> bool
-    ensures { result ≡ has_rule rule }
+    ensures { result ≡ is_present_rule rule }
 {
     rule != CommRule::Absent
 }

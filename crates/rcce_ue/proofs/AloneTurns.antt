@@ -12,11 +12,12 @@ use Rattle.scc_proto.specs.Ports.{Sight, record_in}
 use Rattle.scc_proto.proofs.PortLaws.{did_nothing, seat_kept}
 use Rattle.put_get.specs.Cores.{Private}
 use Rattle.sync_flags.specs.Tries.{Aim, NoTry, Tried}
+use Rattle.sync_flags.specs.Turns.{waits_at}
 use Rattle.send_recv.specs.Ops.{SlotAt, slot_left, slot_left_by}
 use Rattle.send_recv.specs.Sending.{IsSameOrEmpty, SlotDoes, SlotStands, SlotTurned, slot_spot_by}
 use Rattle.send_recv.specs.Steps.{moves_on}
 use Rattle.send_recv.specs.Tries.{aim_at}
-use Rattle.send_recv.specs.Turns.{NoLoad, waits_at}
+use Rattle.send_recv.specs.Turns.{NoLoad}
 use Rattle.send_recv.specs.Ranks.{holding_slot}
 use Rattle.script_plain.specs.Collectives.{start_of_rank}
 use Rattle.script_machine.specs.Local.{Local, local_next}

@@ -15,8 +15,9 @@ use Rattle.send_recv.specs.Ops.{SlotAt, slot_left, slot_left_by}
 use Rattle.send_recv.specs.Sending.{IsSameOrEmpty, SlotStands}
 use Rattle.send_recv.specs.Steps.{moves_on}
 use Rattle.send_recv.specs.Tries.{aim_at}
-use Rattle.send_recv.specs.Turns.{LastHeld, OnlyTries, StoresFromBuffer, waits_at}
+use Rattle.send_recv.specs.Turns.{LastHeld, OnlyTries, StoresFromBuffer}
 use Rattle.sync_flags.specs.Tries.{NoTry, Vain, Fruitful, Tried}
+use Rattle.sync_flags.specs.Turns.{waits_at}
 use Rattle.barrier.specs.Flags.{IsParityOf}
 use Rattle.script_plain.specs.Collectives.{start_of_rank}
 use Rattle.script_machine.specs.Local.{Local, local_next}

@@ -16,6 +16,7 @@ use Rattle.scc_proto.proofs.Tests.{both_first, both_second}
 use Rattle.put_get.specs.Accesses.{WereSteps}
 use Rattle.put_get.specs.Cores.{MadeSteps}
 use Rattle.sync_flags.specs.Tries.{Aim}
+use Rattle.sync_flags.specs.Turns.{waits_at}
 use Rattle.send_recv.specs.Ops.{RecvAt, SendAt}
 use Rattle.send_recv.specs.Turns as sr
 use Rattle.barrier.specs.Flags.{IsParityOf}
@@ -219,14 +220,14 @@ has_moved : (x : UeView) (s t : Sight) (now : UeView) → UeTurned x s now t tur
 has_moved x s t now turned = record { moves = record { script = turned.program.0; went = turned.means.2 }; less = turned.means.0 }
 
 means_by : (stepped : List Event → Event → Type 0) (x : UeView) (s t : Sight) (now : UeView) (answer : Turn) (tied : Tied x s) (later : Tied now t) (turned : UeTurned x s now t answer)
-    → ((spot : Spot) → sr.waits_at answer ≡ Some spot → WereSteps stepped s.events turned.events) → TurnMeans ue_conduct stepped s.seat.setup s.seat.rank s.events turned.events x now answer
+    → ((spot : Spot) → waits_at answer ≡ Some spot → WereSteps stepped s.events turned.events) → TurnMeans ue_conduct stepped s.seat.setup s.seat.rank s.events turned.events x now answer
 means_by stepped x s t now turn.Moved tied later turned steps = has_moved x s t now turned
 means_by stepped x s t now (turn.Waiting spot) tied later turned steps = has_waited stepped x s t now spot tied later turned (steps spot refl)
 means_by stepped x s t now turn.Done tied later turned steps = is_done x s t now tied turned
 
 -- a turn of a UE is one of a worker
 pub ue_turned : (stepped : Seat → List Event → Event → Type 0) (x : UeView) (s t : Sight) (now : UeView) (answer : Turn) → Tied x s → Tied now t → UeTurned x s now t answer
-    → ((spot : Spot) → sr.waits_at answer ≡ Some spot → MadeSteps stepped s t) → Turned ue_conduct (stepped s.seat) x s now t answer
+    → ((spot : Spot) → waits_at answer ≡ Some spot → MadeSteps stepped s t) → Turned ue_conduct (stepped s.seat) x s now t answer
 ue_turned stepped x s t now answer tied later turned steps = record {
   events = turned.events;
   did = turned.did;
@@ -248,7 +249,7 @@ ue_in_a_row stepped x s t now moves = InARow (ue_moves stepped x s t now moves) 
 
 -- one turn, of a UE that stands as it stood
 pub ue_once : (stepped : Seat → List Event → Event → Type 0) (x mid now : UeView) (s m t : Sight) (answer : Turn) → mid ≡ x → m ≡ s → Tied mid m → Tied now t → UeTurned mid m now t answer
-    → ((spot : Spot) → sr.waits_at answer ≡ Some spot → MadeSteps stepped m t) → Stretched ue_conduct (stepped s.seat) x s now t answer
+    → ((spot : Spot) → waits_at answer ≡ Some spot → MadeSteps stepped m t) → Stretched ue_conduct (stepped s.seat) x s now t answer
 ue_once stepped x mid now s m t answer same there tied later turned steps =
     subst (λ (y : Sight). Stretched ue_conduct (stepped y.seat) x y now t answer) there
     (subst (λ (y : UeView). Stretched ue_conduct (stepped m.seat) y m now t answer) same (OneTurn (ue_turned stepped mid m t now answer tied later turned steps)))

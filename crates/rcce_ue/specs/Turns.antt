@@ -15,9 +15,10 @@ use Rattle.send_recv.specs.Receiving.{RecvDoes, recv_spot}
 use Rattle.send_recv.specs.Sending.{SendDoes, SlotDoes, send_spot, slot_spot}
 use Rattle.send_recv.specs.Steps.{moves_on}
 use Rattle.send_recv.specs.Tries.{aim_at}
-use Rattle.send_recv.specs.Turns.{IsAtRest, LastHeld, OnlyTries, StoresFromBuffer, waits_at}
+use Rattle.send_recv.specs.Turns.{IsAtRest, LastHeld, OnlyTries, StoresFromBuffer}
 use Rattle.sync_flags.specs.Flags.{flag_value}
 use Rattle.sync_flags.specs.Tries.{Aim, Tried}
+use Rattle.sync_flags.specs.Turns.{waits_at}
 use Rattle.barrier.specs.Flags.{value_at}
 use Rattle.barrier.specs.Stages as barrier
 use Rattle.barrier.specs.Turns as barrier_turn

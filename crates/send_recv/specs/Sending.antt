@@ -32,10 +32,11 @@ use Rattle.send_recv.specs.Ops.{SendAt, SlotAt, is_sent, slot_left}
 use Rattle.send_recv.specs.Ranks.{Sender, SlotHolder, holding_slot}
 use Rattle.send_recv.specs.Receiving.{progress_at}
 use Rattle.sync_flags.specs.Tries.{Aim, Tried, vain_from, changing_after}
+use Rattle.sync_flags.specs.Turns.{waits_at}
 use Rattle.send_recv.specs.Sights.{chunk_at, layout_at, own_header_line, own_chunk_line, words_of_line, LooksFor, Raises, Lowers}
 use Rattle.send_recv.specs.Steps.{flag_spot, moves_on}
 use Rattle.send_recv.specs.Tries.{aim_at}
-use Rattle.send_recv.specs.Turns.{HoldsNone, IsSamePost, KeepsAllButMessages, IsAtRest, OnlyTries, is_no_draft, LastHeld, LoadsLines, StoresFromBuffer, lines_for_try, waits_at}
+use Rattle.send_recv.specs.Turns.{HoldsNone, IsSamePost, KeepsAllButMessages, IsAtRest, OnlyTries, is_no_draft, LastHeld, LoadsLines, StoresFromBuffer, lines_for_try}
 
 -- ---- the slot
 

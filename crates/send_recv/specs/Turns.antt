@@ -92,11 +92,6 @@ pub record StoresFromBuffer (s : SetupView) (c : Private) (es : List Event) : Ty
   pub none_or_all : IsNoneOrAll front (stores_of c.out)
   pub no_draft : list_all (is_no_draft s) rest ≡ true
 
--- the spot at which a turn waits, by its answer, if it waits
-abbrev pub waits_at : Turn → Option Spot
-waits_at (Waiting spot) = Some spot
-waits_at turn = None
-
 -- the lines that a turn of a send or of a slot loads at most: 1 for a try, 0 without one
 abbrev pub lines_for_try : Option Spot → ℕ
 lines_for_try None = 0

@@ -49,6 +49,7 @@ fn after_lines(layout: Layout) -> SendStage
 
 impl SendOp {
     ghost use Rattle.std.specs.Prelude.{◌≡◌, ◌<◌, None, Some, true, false};
+    ghost use Rattle.sync_flags.specs.Turns.{waits_at};
     ghost use Rattle.scc_base.specs.declared.events.Spot.{Spot};
     ghost use Rattle.scc_base.specs.declared.events.Turn.TheVariants.{Moved};
     ghost use Rattle.scc_proto.specs.Ports.{MayMakeAll, record_in};
@@ -61,7 +62,6 @@ impl SendOp {
     ghost use Rattle.scc_base.specs.declared.signals.Signal.TheVariants.{Sent, Ready};
     ghost use Rattle.send_recv.specs.Sights.{chunk_at, IsSeatPeer, own_header_line, own_chunk_line, words_of_line, LooksFor, Raises, Lowers, MayRaise, MayLower, signal_spot, own_register, register_spot};
     ghost use Rattle.send_recv.specs.Steps.{moves_on, moved_or_waits, after_header, after_written, after_flush, after_sent, sent_answer, slot_sent, after_seen, after_through, through_answer};
-    ghost use Rattle.send_recv.specs.Turns.{waits_at};
     ghost use Rattle.send_recv.specs.Ranks.{sending};
     ghost use Rattle.send_recv.specs.Stretches.{WroteLines, is_writing};
 

@@ -26,6 +26,7 @@ impl Model for Slot {
 
 impl Slot {
     ghost use Rattle.std.specs.Prelude.{◌≡◌, None, Some, true, false};
+    ghost use Rattle.sync_flags.specs.Turns.{waits_at};
     ghost use Rattle.scc_base.specs.declared.events.Spot.{Spot};
     ghost use Rattle.scc_proto.specs.Ports.{record_in};
     ghost use Rattle.put_get.specs.Cores.{MadeSteps};
@@ -34,7 +35,7 @@ impl Slot {
     ghost use Rattle.scc_base.specs.declared.signals.Signal.TheVariants.{Ready};
     ghost use Rattle.send_recv.specs.Sights.{LooksFor, Lowers, MayLower, signal_spot, own_register};
     ghost use Rattle.send_recv.specs.Steps.{moves_on, moved_or_waits, slot_seen, slot_lowered};
-    ghost use Rattle.send_recv.specs.Turns.{HoldsNone, waits_at};
+    ghost use Rattle.send_recv.specs.Turns.{HoldsNone};
     ghost use Rattle.send_recv.specs.Ranks.{holding_slot};
 
     /// No message is on its way.

@@ -7,7 +7,6 @@ use Rattle.std.proofs.lemmas.List.{length-map}
 use Rattle.std.proofs.lemmas.List.Splits.{length-slice_split}
 use Rattle.std.proofs.lemmas.List.FromFn.{get_or-map-range_with_len}
 use Rattle.rcce_io.specs.Sending.{joined_texts}
-use Rattle.rcce_audit.specs.Grammar.{first_rules}
 use Rattle.rcce_audit.specs.Texts.{rule_lines, table_lines, text_of}
 use Rattle.texts.specs.Cuts.{lines_of}
 use Rattle.rcce_audit.proofs.TextLemmas.{text_of-append}
@@ -15,6 +14,7 @@ use Rattle.scc_base.specs.Communicators.{IsRule, rule_of}
 use Rattle.scc_base.specs.Setups.{AreApart, SetupView, host_of}
 use Rattle.scc_base.specs.declared.communicators.CommRule.{CommRule}
 use Rattle.scc_base.specs.declared.communicators.CommRule.TheVariants.{Absent, World, Mod, Div}
+use Rattle.scc_base.specs.Worlds.{world_alone}
 use Rattle.scc_proto.specs.Words.{RankEvent}
 use Rattle.trace_writer.specs.Lines.{comm_line_behind, event_line, trace_text}
 use Rattle.trace_text.specs.Grammar.{TraceReading, all_taken, last_taken, lines_taken, parts_taken, trace_of, ◌>->◌}
@@ -154,7 +154,7 @@ module _ (s : SetupView) (rs : List CommRule) (run : List RankEvent) (is : IsTol
   told = record { setup = told_setup s; events = run }
 
   -- of the lines behind the first
-  later_told : (lines_taken 2 (at_rules (told_setup s) first_rules 0) later >-> last_taken (length later + 2) []) ≡ Ok told
+  later_told : (lines_taken 2 (at_rules (told_setup s) world_alone 0) later >-> last_taken (length later + 2) []) ≡ Ok told
   later_told =
       let full = fifteen in
       let done = last_taken (length later + 2) [] in

@@ -6,8 +6,9 @@ use Rattle.std.specs.Option.{ok_or}
 use Rattle.std.proofs.lemmas.Bool.{cond-false, le-ltb}
 use Rattle.std.proofs.lemmas.Fmt.{length-decimal-le}
 use Rattle.std.proofs.lemmas.List.{append-nil}
+use Rattle.scc_proto.specs.Words.{is_present_rule}
 use Rattle.rcce_io.specs.Sending.{joined_texts}
-use Rattle.rcce_audit.specs.Grammar.{begins_comm, has_rule, rule_named}
+use Rattle.rcce_audit.specs.Grammar.{begins_comm, rule_named}
 use Rattle.rcce_audit.specs.Texts.{line_of, rule_lines, split_words, table_lines, text_of}
 use Rattle.rcce_audit.specs.Words.{◌>>=◌, log_words_of}
 use Rattle.rcce_audit.specs.declared.lines.CommSplit.{CommSplit}
@@ -68,7 +69,7 @@ split_short c p k how below low most three =
 abbrev pub at_rules : SetupView → List CommRule → ℕ → TraceReading
 at_rules t comms last = record { trace = record { setup = record t { comms = comms }; events = [] }; comm = last }
 
-split_line_taken : (t : SetupView) (comms : List CommRule) (last c p k : ℕ) (how : List ℕ) (rule : CommRule) → last < c → c < 16 → p < c → has_rule (rule_of comms p) ≡ true → 1 ≤ k → k ≤ 48 → rule_named how p k ≡ Some rule
+split_line_taken : (t : SetupView) (comms : List CommRule) (last c p k : ℕ) (how : List ℕ) (rule : CommRule) → last < c → c < 16 → p < c → is_present_rule (rule_of comms p) ≡ true → 1 ≤ k → k ≤ 48 → rule_named how p k ≡ Some rule
     → IsFrom 33 how → length how ≡ 3 → line_taken (at_rules t comms last) (line_of (split_words c p how k)) ≡ Some (at_rules t (set comms c rule) c)
 split_line_taken t comms last c p k how rule above below low stands some most named is three =
     let r = at_rules t comms last in

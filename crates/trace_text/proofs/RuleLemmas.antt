@@ -5,7 +5,8 @@ use Rattle.std.proofs.lemmas.List.{get_or-set_other}
 use Rattle.scc_base.specs.Communicators.{AreRules, rule_of}
 use Rattle.scc_base.specs.declared.communicators.CommRule.{CommRule}
 use Rattle.scc_base.specs.declared.communicators.CommRule.TheVariants.{Absent}
-use Rattle.rcce_audit.specs.Grammar.{comm_said, first_rules}
+use Rattle.scc_base.specs.Worlds.{world_alone}
+use Rattle.rcce_audit.specs.Grammar.{comm_said}
 use Rattle.rcce_audit.specs.declared.lines.CommSplit.{CommSplit}
 use Rattle.rcce_audit.proofs.LineLemmas.{comm_line}
 use Rattle.rcce_audit.proofs.ReadingLemmas.{no_rules, rules_more, split_rule_is, split_stands, world_rules}
@@ -25,9 +26,9 @@ module _ (last : ℕ) (comms : List CommRule) (words : List (List ℕ)) (split :
       let is = comm_line last comms words split said in
       get_or-set_other comms split.comm c split.rule Absent (λ at. omega (arith, at, above)) ∙ later c (omega (arith, is.above, above))
 
-pub world_rules_are : (comms : List CommRule) → comms ≡ first_rules → AreRules comms
+pub world_rules_are : (comms : List CommRule) → comms ≡ world_alone → AreRules comms
 world_rules_are comms is = subst AreRules (sym is) world_rules
 
-pub world_later : (comms : List CommRule) → comms ≡ first_rules → (c : ℕ) → 0 < c → rule_of comms c ≡ Absent
+pub world_later : (comms : List CommRule) → comms ≡ world_alone → (c : ℕ) → 0 < c → rule_of comms c ≡ Absent
 world_later comms is zero above = absurd (omega (arith, above))
 world_later comms is (suc c) above = subst (λ (x : List CommRule). rule_of x (suc c) ≡ Absent) (sym is) (no_rules c)

@@ -17,9 +17,10 @@ use Rattle.scc_base.specs.Setups.{AreApart, IsSetup}
 use Rattle.scc_base.specs.declared.communicators.CommRule.TheVariants.{Absent}
 use Rattle.scc_base.specs.declared.events.Event.{Event}
 use Rattle.scc_base.specs.declared.layouts.Layout.{Layout}
+use Rattle.scc_base.specs.Worlds.{world_alone}
 use Rattle.scc_proto.specs.Words.{RankEvent, rank_below}
 use Rattle.rcce_audit.specs.declared.lines.CommSplit.{CommSplit}
-use Rattle.rcce_audit.specs.Grammar.{begins_comm, comm_said, log_rank_said, first_rules}
+use Rattle.rcce_audit.specs.Grammar.{begins_comm, comm_said, log_rank_said}
 use Rattle.rcce_audit.specs.Words.{◌>>=◌, is_lower, only_if, exact_range_said, log_words_of}
 use Rattle.texts.specs.Cuts.{lines_of}
 use Rattle.rcce_audit.proofs.ReadingLemmas.{no_rules, world_rules}
@@ -239,7 +240,7 @@ head_reads head is = record {
   made = All-nil (IsOfRank head.nue);
 }
   where
-    none : (c : ℕ) → 0 < c → rule_of first_rules c ≡ Absent
+    none : (c : ℕ) → 0 < c → rule_of world_alone c ≡ Absent
     none zero above = absurd (omega (arith, above))
     none (suc c) above = no_rules c
 

@@ -5,9 +5,10 @@ use Rattle.std.specs.Str.{bytes_eq}
 use Rattle.scc_base.specs.declared.events.Event.{Event}
 use Rattle.scc_base.specs.declared.layouts.Layout.{Layout}
 use Rattle.scc_base.specs.Events.{load_of, store_of, take_of, free_of}
+use Rattle.scc_base.specs.Worlds.{world_alone}
 use Rattle.scc_proto.specs.Words.{RankEvent, rank_below}
 use Rattle.rcce_audit.specs.declared.lines.CommSplit.{CommSplit}
-use Rattle.rcce_audit.specs.Grammar.{log_rank_said, comm_said, begins_comm, first_rules}
+use Rattle.rcce_audit.specs.Grammar.{log_rank_said, comm_said, begins_comm}
 use Rattle.rcce_audit.specs.Words.{◌>>=◌, only_if, log_words_of, exact_range_said}
 use Rattle.texts.specs.Cuts.{lines_of}
 use Rattle.trace_text.specs.declared.faults.TraceKind.{TraceKind}
@@ -111,7 +112,7 @@ abbrev pub behind_head : TraceHead → TraceReading
 behind_head head =
     record {
       trace = record {
-        setup = record { nue = head.nue; layout = head.layout; hosts = head.hosts; comms = first_rules };
+        setup = record { nue = head.nue; layout = head.layout; hosts = head.hosts; comms = world_alone };
         events = [];
       };
       comm = 0;

@@ -31,8 +31,9 @@ use Rattle.send_recv.specs.Ops.{SlotAt, slot_left, slot_left_by}
 use Rattle.send_recv.specs.Sending.{SlotStands, SlotTurned, SlotMeans, SlotDoes, SlotDoesBy, slot_spot, slot_spot_by, was_answered}
 use Rattle.send_recv.specs.Steps.{moves_on, own_core, signal_flag, flag_spot, slot_seen, slot_lowered, moved_or_waits}
 use Rattle.sync_flags.specs.Tries.{Aim, Tried, NoTry}
+use Rattle.sync_flags.specs.Turns.{waits_at}
 use Rattle.send_recv.specs.Tries.{aim_at}
-use Rattle.send_recv.specs.Turns.{HoldsNone, OnlyTries, NoLoad, waits_at}
+use Rattle.send_recv.specs.Turns.{HoldsNone, OnlyTries, NoLoad}
 use Rattle.send_recv.specs.Ranks.{SlotHolder, holding_slot}
 use Rattle.send_recv.proofs.Posts.SlotApart.{is_apart, apart_in}
 use Rattle.send_recv.proofs.Lines.DraftNone.{signal_is_flag, look_drafts_none, change_drafts_none}

@@ -18,8 +18,9 @@ use Rattle.send_recv.specs.Ops.{SendAt, SlotAt, is_sent, slot_left}
 use Rattle.send_recv.specs.Sending.{SlotStands, SlotTurned, SlotMeans, IsAtSendStage, IsSending, SendStands, SendTurned, SendMeans, SlotDoes, StartDoes, of_chunk, send_spot_by, slot_spot}
 use Rattle.send_recv.specs.Steps.{own_core, core_of, moves_on}
 use Rattle.sync_flags.specs.Tries.{Tried, NoTry}
+use Rattle.sync_flags.specs.Turns.{waits_at}
 use Rattle.send_recv.specs.Tries.{aim_at}
-use Rattle.send_recv.specs.Turns.{LoadsLines, NoLoad, lines_for_try, waits_at}
+use Rattle.send_recv.specs.Turns.{LoadsLines, NoLoad, lines_for_try}
 use Rattle.send_recv.specs.Ranks.{Sender, sending, holding_slot}
 use Rattle.send_recv.proofs.Receiving.LookTurn.{holds_kept}
 use Rattle.send_recv.proofs.Sending.SendFacts.{SendTurns, send_does, at_stage, left_at, spot_at}

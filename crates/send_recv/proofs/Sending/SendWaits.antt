@@ -1,6 +1,7 @@
 -- The turn of a send that found the register of a flag taken, and the answers of one that changed the flag.
 use Rattle.std.proofs.Common.{◌≡◌, inl, ℕ, Bool, true, false, if◌then◌else◌, List, [], Some, None, refl, sym, ap, subst}
 use Rattle.std.specs.List.{list_all}
+use Rattle.sync_flags.specs.Turns.{waits_at}
 use Rattle.scc_base.specs.declared.signals.Signal.{Signal}
 use Rattle.scc_base.specs.Setups.{SetupView, IsSetup}
 use Rattle.scc_base.specs.declared.events.Event.{Event}
@@ -19,7 +20,7 @@ use Rattle.send_recv.specs.Ops.{SendAt, SlotAt}
 use Rattle.send_recv.specs.Sending.{IsSending, SendStands, SendDoes, send_spot}
 use Rattle.send_recv.specs.Ranks.{sending}
 use Rattle.send_recv.specs.Steps.{signal_flag, moves_on}
-use Rattle.send_recv.specs.Turns.{KeepsAllButMessages, StoresFromBuffer, is_no_draft, waits_at}
+use Rattle.send_recv.specs.Turns.{KeepsAllButMessages, StoresFromBuffer, is_no_draft}
 use Rattle.send_recv.proofs.Receiving.HeadTurn.{post_kept}
 use Rattle.send_recv.proofs.Looks.ChangeFacts.{change_facts}
 use Rattle.send_recv.proofs.Receiving.RecvTurns.{missed_by, waits_tried}
