@@ -1,5 +1,6 @@
 pub mod ChipLemmas
 pub mod EvictorLemmas
+pub mod LineLemmas
 pub mod LoadLemmas
 pub mod ReportLemmas
 pub mod RunLemmas

@@ -2,7 +2,6 @@ pub mod Asking
 pub mod Evictors
 pub mod History
 pub mod Loading
-pub mod Pieces
 pub mod Program
 pub mod Reports
 pub mod Runs

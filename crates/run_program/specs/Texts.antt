@@ -37,9 +37,17 @@ type_text Long = codes "long"
 abbrev pub value_text : Ty → List ℕ → ℕ → List ℕ
 value_text ty bytes i = codes " " ++ signed_decimal (typed_value_at ty bytes i)
 
+-- the values of a list of bytes from one of them on, so many, each behind a blank
+abbrev pub values_text_from : Ty → List ℕ → (first count : ℕ) → List ℕ
+values_text_from ty bytes first count = joined_texts (map (value_text ty bytes) (range_with_len first count))
+
 -- the values of a list of bytes, each behind a blank
 abbrev pub values_text : Ty → List ℕ → List ℕ
-values_text ty bytes = joined_texts (map (value_text ty bytes) (range_with_len 0 (length bytes / bytes_in ty)))
+values_text ty bytes = values_text_from ty bytes 0 (length bytes / bytes_in ty)
+
+-- the front of the line of a printed register: the rank, and the name
+abbrev pub item_front : (rank : ℕ) (name : List ℕ) → List ℕ
+item_front rank name = codes "ue " ++ ((decimal rank ++ codes " ") ++ (name ++ codes " "))
 
 -- a register that a unit of execution printed, by the form that it was printed in
 abbrev pub item_line : ℕ → List ℕ → Form → List ℕ → List ℕ

@@ -4,13 +4,14 @@
 mod counts;
 mod crew;
 mod endings;
+mod items;
 mod launcher;
 mod lines;
 mod loaded;
 mod loading;
-mod pieces;
 mod report;
 mod run;
+mod values;
 
 pub use crew::crew_of;
 pub use endings::Endings;

@@ -1,72 +1,15 @@
-//! The lines of units of execution: what each printed, and where one stands that has not finished.
+//! The lines of units of execution that have not finished: where each stands.
 
 ghost use Rattle.std.specs.Prelude.{◌≡◌, [], ◌∷◌, codes, decimal};
 ghost use Rattle.rcce_io.specs.Sending.{Sends};
 ghost use Rattle.script_plain.specs.Ends.{is_rank_finished};
 ghost use Rattle.run_program.specs.Reports.{end_text};
-ghost use Rattle.run_program.specs.Texts.{call_pieces, item_line, message_pieces, mismatch_line, type_text, waiting_line};
+ghost use Rattle.run_program.specs.Texts.{call_pieces, message_pieces, mismatch_line, waiting_line};
 
-use crate::pieces::Part;
-use groups::Ty;
-use rcce_io::Piece::{Hex, Number, Text};
-use rcce_io::{Sink, TextSource, WriteFault, write_texts};
+use rcce_io::Piece::{Number, Text};
+use rcce_io::{Sink, WriteFault, write_texts};
 use scc_base::{Call, Head, Rank};
-use script_machine::{PrintedItem, UeEnd};
-use script_reader::Form;
-
-/// The name of a type of values.
-fn type_text(ty: Ty) -> &'static str
-    ensures { result.now ≡ type_text ty }
-{
-    match ty {
-        Ty::Int => "int",
-        Ty::Long => "long",
-    }
-}
-
-/// The line of a printed register.
-#[derive(Clone, Copy)]
-pub struct ItemLine<'a> {
-    pub rank: Rank,
-    pub name: &'a str,
-    pub item: &'a PrintedItem<'a>,
-}
-
-impl TextSource for ItemLine<'_> {
-    ghost text = { λ l. item_line l.rank l.name.now l.item.now.form l.item.now.bytes };
-
-    fn write_to<S: Sink>(&self, sink: &mut S) -> Result<(), WriteFault> {
-        let ue = self.rank.number() as u64;
-        let bytes = self.item.bytes();
-        match self.item.form() {
-            Form::Hex => write_texts(
-                sink,
-                &[
-                    Text("ue "),
-                    Number(ue),
-                    Text(" "),
-                    Text(self.name),
-                    Text(" "),
-                    Hex(bytes),
-                    Text("\n"),
-                ],
-            ),
-            Form::Decimal(ty) => write_texts(
-                sink,
-                &[
-                    Part::Plain(Text("ue ")),
-                    Part::Plain(Number(ue)),
-                    Part::Plain(Text(" ")),
-                    Part::Plain(Text(self.name)),
-                    Part::Plain(Text(" ")),
-                    Part::Plain(Text(type_text(ty))),
-                    Part::Values(ty, bytes),
-                    Part::Plain(Text("\n")),
-                ],
-            ),
-        }
-    }
-}
+use script_machine::UeEnd;
 
 /// Whether a unit of execution has finished.
 pub fn is_finished(end: &UeEnd) -> bool

@@ -6,7 +6,8 @@ ghost use Rattle.script_plain.specs.Ends.{ended_at};
 ghost use Rattle.run_program.specs.Reports.{lines_by_rank, printed_text, unfinished_text};
 
 use crate::endings::Endings;
-use crate::lines::{ItemLine, write_end};
+use crate::items::ItemLine;
+use crate::lines::write_end;
 use rcce_io::{Buffer, Sink, WriteFault};
 use scc_base::Rank;
 use script_reader::Scripts;
