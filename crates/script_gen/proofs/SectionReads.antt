@@ -56,7 +56,7 @@ module _ (nue n : ℕ) (items : List Item) (who : Who) where
       → Passes nue (reverse (with_line (n + 1) (with_line n items who (stmt.Fill 0 s s)) who (stmt.RankOf 1 ty.Long))) who (stmt.Repeat t 0)
       → nat_lt most_names (length filled) ≡ false → nat_lt most_names (length named) ≡ false
       → read_lines (n + 1 + 1 + 1)
-          (stage nue (with_line (n + 1 + 1) (with_line (n + 1) (with_line n items who (stmt.Fill 0 s s)) who (stmt.RankOf 1 ty.Long)) who (stmt.Repeat t 0)) named who) lines
+      (stage nue (with_line (n + 1 + 1) (with_line (n + 1) (with_line n items who (stmt.Fill 0 s s)) who (stmt.RankOf 1 ty.Long)) who (stmt.Repeat t 0)) named who) lines
       ≡ r
       → read_lines n (stage nue items names who) (line_of (fill_words s) ∷ line_of rank_words ∷ line_of (repeat_words t) ∷ lines) ≡ r
   head_reads s t names filled named lines r small least few fills ranks pass_fill pass_rank pass_repeat room_filled room_named rest =
