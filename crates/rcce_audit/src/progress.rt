@@ -3,7 +3,8 @@
 ghost use Rattle.std.specs.Prelude.{◌≡◌, ◌<◌, ◌↔◌, ℕ, IsTrue, None, Some, length, option_and_then, option_map, slice_get, slice_index, slice_index_or};
 ghost use Rattle.scc_base.specs.Calls.{Bar, Recv};
 ghost use Rattle.scc_base.specs.Setups.{setup_key};
-ghost use Rattle.rcce_audit.specs.Standings.{Advances, AreLists, Sleeps, calls_left, calls_at_rank, outgoing_of, partner_of, slot_of_lists};
+ghost use Rattle.rcce_audit.specs.Logs.{calls_at_rank};
+ghost use Rattle.rcce_audit.specs.Standings.{Advances, AreLists, Sleeps, calls_left, outgoing_of, partner_of, slot_of_lists};
 ghost use Rattle.rcce_audit.specs.Views.{data_lists, data_of};
 
 use crate::logs::LogCall;
