@@ -111,7 +111,7 @@ pub(crate) fn is_posted(
                 bytes: held,
             },
         ) => *to == target && same_message(sent.head(), held.as_slice(), head, bytes),
-        _ => false,
+        Some(LogCall::Send { .. } | LogCall::Recv { .. } | LogCall::Bar { .. }) | None => false,
     }
 }
 
@@ -137,7 +137,7 @@ pub(crate) fn is_receiving(
                 bytes: held,
             },
         ) => *from == sender && same_message(*asked, held.as_slice(), head, bytes),
-        _ => false,
+        Some(LogCall::Send { .. } | LogCall::Post { .. } | LogCall::Bar { .. }) | None => false,
     }
 }
 
@@ -155,7 +155,7 @@ pub(crate) fn is_at_barrier(
 {
     match first(lists, progress, rank) {
         Some(LogCall::Bar { comm: named }) => *named == comm,
-        _ => false,
+        Some(LogCall::Send { .. } | LogCall::Recv { .. } | LogCall::Post { .. }) | None => false,
     }
 }
 
