@@ -20,10 +20,11 @@ use Rattle.scc_proto.proofs.Layouts.Roles.{own_word, role_spare_line, role_spare
 use Rattle.scc_proto.proofs.Layouts.PlaceMoves.{idle_loaded, signal_loaded, signal_bits_loaded}
 use Rattle.put_get.specs.Accesses.{loads_of}
 use Rattle.put_get.specs.Cores.{Private}
+use Rattle.put_get.specs.Transfers.{line_at}
 use Rattle.sync_flags.specs.Flags.{is_set_in}
 use Rattle.send_recv.specs.Flags.{Looks}
 use Rattle.send_recv.specs.Turns.{HoldsNoneBy, HoldsNone}
-use Rattle.send_recv.specs.Steps.{own_core, line_of_rank}
+use Rattle.send_recv.specs.Steps.{own_core, core_of}
 
 -- the record after four events
 pub on_four : (seat : Seat) (a b c d last : Record) (e0 e1 e2 e3 : Event) → record_next seat a e0 ≡ b → record_next seat b e1 ≡ c → record_next seat c e2 ≡ d → record_next seat d e3 ≡ last
@@ -72,7 +73,7 @@ looked_sent_alone size rec p = λ i. record (after size (LookSignal Sent p) rec)
 -- the line of a flag that fills one: its other words are idle
 four_of_line : (seat : Seat) (rec last : Record) (line : ℕ) (words : List ℕ) → IsSetup seat.setup → seat.setup.layout ≡ LineFlags → seat.rank < seat.setup.nue → 1 ≤ line → line < 97
     → record_next seat rec (load_of (own_word seat.setup seat.rank line 0) (slice_index words 0)) ≡ last
-    → record_on seat rec (loads_of (line_of_rank seat seat.rank line) words) ≡ last
+    → record_on seat rec (loads_of (line_at (core_of seat seat.rank) line) words) ≡ last
 four_of_line seat rec last line words valid lines below low high first =
     let high2 : line < first_gather seat.setup.layout = subst (λ (l : Layout). line < first_gather l) (sym lines) high in
     let idle : (word : ℕ) → word ≢ 0 → record_next seat last (load_of (own_word seat.setup seat.rank line word) (slice_index words word)) ≡ last
@@ -95,7 +96,7 @@ lines_begin Sent j = omega arith
 lines_begin Ready j = omega arith
 
 signal_line : (signal : Signal) (seat : Seat) (rec : Record) (j : ℕ) (words : List ℕ) → IsSetup seat.setup → seat.setup.layout ≡ LineFlags → are_peers seat.setup seat.rank j ≡ true
-    → record_on seat rec (loads_of (line_of_rank seat seat.rank (first_signal signal + j)) words)
+    → record_on seat rec (loads_of (line_at (core_of seat seat.rank) (first_signal signal + j)) words)
     ≡ after (chunk_of seat.setup) (LookSignal Ready (seen_alone signal (look_at j (slice_index words 0)) Ready)) (after (chunk_of seat.setup) (LookSignal Sent (seen_alone signal (look_at j (slice_index words 0)) Sent)) rec)
 signal_line signal seat rec j words valid lines peers =
     let p = peers_are seat.setup seat.rank j peers in
@@ -105,7 +106,7 @@ signal_line signal seat rec j words valid lines peers =
 -- ---- bit flags: the line has the flags of all ranks
 
 bits_line : (seat : Seat) (rec : Record) (words : List ℕ) → IsSetup seat.setup → seat.setup.layout ≡ BitFlags → seat.rank < seat.setup.nue → rec.held (own_core seat) ≡ None
-    → record_on seat rec (loads_of (line_of_rank seat seat.rank 1) words)
+    → record_on seat rec (loads_of (line_at (core_of seat seat.rank) 1) words)
     ≡ after (chunk_of seat.setup) (LookSignal Ready (look_at_bits seat.setup seat.rank (slice_index words 1))) (after (chunk_of seat.setup) (LookSignal Sent (look_at_bits seat.setup seat.rank (slice_index words 0))) rec)
 bits_line seat rec words valid bits below free =
     let a : Record = after (chunk_of seat.setup) (LookSignal Sent (look_at_bits seat.setup seat.rank (slice_index words 0))) rec in
