@@ -18,7 +18,7 @@ use rcce_io::{Files, Sink};
 use rcce_words::{ScriptJob, default_hosts, read_script_file};
 use scc_base::{Layout, Setup};
 use scc_mesh::Chip;
-use script_reader::Scripts;
+use script_rules::Scripts;
 use std::alloc::Global;
 
 /// Runs what the words ask for, and writes its log.

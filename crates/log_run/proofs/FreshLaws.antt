@@ -5,8 +5,8 @@ use Rattle.scc_base.specs.Calls.{DataCall, HasItsBytes}
 use Rattle.scc_base.specs.Setups.{IsSetup, SetupView}
 use Rattle.scc_mesh.specs.Scenes.{ChipView, IsNew, about_in, events_in, records_in}
 use Rattle.scc_proto.specs.Passed.{open_call}
-use Rattle.script_reader.specs.Script.{Script}
-use Rattle.script_reader.specs.Settled.{IsWholeScript}
+use Rattle.script_rules.specs.Script.{Script}
+use Rattle.script_rules.specs.Settled.{IsWholeScript}
 use Rattle.script_machine.specs.Machine.{MachineView}
 use Rattle.script_machine.specs.CallLists.{calls_of}
 use Rattle.rcce_ue.specs.Ues.{UeView}

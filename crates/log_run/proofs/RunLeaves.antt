@@ -7,7 +7,7 @@ use Rattle.scc_proto.specs.Legality.{IsLegal}
 use Rattle.scc_proto.specs.Passed.{open_call, passed_calls, slot_of}
 use Rattle.scc_proto.specs.Words.{Memory}
 use Rattle.scc_mesh.specs.Scenes.{ChipView, about_in, events_in, records_in}
-use Rattle.script_reader.specs.Script.{Script}
+use Rattle.script_rules.specs.Script.{Script}
 use Rattle.script_machine.specs.CallLists.{calls_of}
 use Rattle.call_tap.specs.Kept.{HasTapRoom}
 use Rattle.call_tap.specs.Planned.{has_room_for}

@@ -11,7 +11,7 @@ ghost use Rattle.scc_base.specs.Calls.{DataCall, HasItsBytes};
 ghost use Rattle.scc_mesh.specs.Scenes.{about_in, records_in};
 ghost use Rattle.scc_proto.specs.Passed.{open_call};
 ghost use Rattle.script_machine.specs.CallLists.{calls_of};
-ghost use Rattle.script_reader.specs.Script.{Script};
+ghost use Rattle.script_rules.specs.Script.{Script};
 ghost use Rattle.log_run.specs.declared.loggers.Logger.{Logger};
 ghost use Rattle.log_run.specs.LogRuns.{AreLegalCalls, IsFreshLogCrew, IsOwnCall, KeepsCalls, plain_calls};
 

@@ -5,7 +5,7 @@ ghost use Rattle.chip_run.specs.Runs.{InOrder};
 ghost use Rattle.chip_run.specs.Waiting.{NoneDrafts};
 ghost use Rattle.rcce_run.specs.UeRuns.{AreHome, AreLegal, IsFreshCrew, IsSameChip, RunGives, ue_members};
 ghost use Rattle.scc_mesh.specs.Scenes.{about_in, records_in};
-ghost use Rattle.script_reader.specs.Script.{Script};
+ghost use Rattle.script_rules.specs.Script.{Script};
 
 use chip_run::{Gate, Member, Mode, RunEnd};
 use line_cache::Evict;

@@ -7,8 +7,8 @@ use Rattle.scc_base.specs.declared.calls.Call.{Call}
 use Rattle.scc_base.specs.declared.calls.Call.TheVariants as call
 use Rattle.send_recv.specs.Ops.{SlotAt, new_receive, new_send}
 use Rattle.barrier.specs.Stages.{new_barrier}
-use Rattle.script_reader.specs.Script.{rules_of}
-use Rattle.script_reader.specs.Settled.{IsWholeScript}
+use Rattle.script_rules.specs.Script.{rules_of}
+use Rattle.script_rules.specs.Settled.{IsWholeScript}
 use Rattle.script_machine.specs.Local.{local_next}
 use Rattle.script_machine.specs.Machine.{MachineView, on_its_way}
 use Rattle.script_machine.specs.Next.{Next, call_next}

@@ -4,16 +4,16 @@ use Rattle.std.specs.Prelude.{◌==◌, nat_lt}
 use Rattle.std.proofs.lemmas.Fmt.{length-decimal-le}
 use Rattle.groups.specs.declared.operations.Op.TheVariants as op
 use Rattle.groups.specs.declared.operations.Ty.TheVariants as ty
-use Rattle.script_reader.specs.declared.script.Form.TheVariants as form
-use Rattle.script_reader.specs.declared.script.Item.{Item}
-use Rattle.script_reader.specs.declared.script.OwnStmt.TheVariants as own
-use Rattle.script_reader.specs.declared.script.Stmt.TheVariants as stmt
-use Rattle.script_reader.specs.declared.script.Who.{Who}
-use Rattle.script_reader.specs.declared.script.Who.TheVariants as who
-use Rattle.script_reader.specs.declared.version.Version.TheVariants as version
-use Rattle.script_reader.specs.Checks.{cost_of, open_of, operations, run_of, turns_in}
-use Rattle.script_reader.specs.Effects.{effect_of}
-use Rattle.script_reader.specs.Limits.{most_operations}
+use Rattle.script_rules.specs.declared.script.Form.TheVariants as form
+use Rattle.script_rules.specs.declared.script.Item.{Item}
+use Rattle.script_rules.specs.declared.script.OwnStmt.TheVariants as own
+use Rattle.script_rules.specs.declared.script.Stmt.TheVariants as stmt
+use Rattle.script_rules.specs.declared.script.Who.{Who}
+use Rattle.script_rules.specs.declared.script.Who.TheVariants as who
+use Rattle.script_rules.specs.declared.version.Version.TheVariants as version
+use Rattle.script_rules.specs.Checks.{cost_of, open_of, operations, run_of, turns_in}
+use Rattle.script_rules.specs.Effects.{effect_of}
+use Rattle.script_rules.specs.Limits.{most_operations}
 use Rattle.script_reader.specs.Progress.{ReadingSoFar, start}
 use Rattle.script_reader.specs.Reading.{at_end, most_script_bytes, parse_script, read_lines}
 use Rattle.texts.specs.Cuts.{line_count}

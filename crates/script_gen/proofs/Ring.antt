@@ -3,11 +3,11 @@ use Rattle.std.proofs.Common.{◌≡◌, ℕ, ◌≤◌, false, [], ◌∷◌, l
 use Rattle.std.specs.Prelude.{nat_lt}
 use Rattle.std.proofs.lemmas.Fmt.{length-decimal-le}
 use Rattle.groups.specs.declared.operations.Ty.TheVariants as ty
-use Rattle.script_reader.specs.declared.script.Form.TheVariants as form
-use Rattle.script_reader.specs.declared.script.OwnStmt.TheVariants as own
-use Rattle.script_reader.specs.declared.script.Stmt.TheVariants as stmt
-use Rattle.script_reader.specs.declared.script.Who.TheVariants as who
-use Rattle.script_reader.specs.declared.version.Version.TheVariants as version
+use Rattle.script_rules.specs.declared.script.Form.TheVariants as form
+use Rattle.script_rules.specs.declared.script.OwnStmt.TheVariants as own
+use Rattle.script_rules.specs.declared.script.Stmt.TheVariants as stmt
+use Rattle.script_rules.specs.declared.script.Who.TheVariants as who
+use Rattle.script_rules.specs.declared.version.Version.TheVariants as version
 use Rattle.script_reader.specs.Progress.{start}
 use Rattle.script_reader.specs.Reading.{at_end, most_script_bytes, parse_script, read_lines}
 use Rattle.texts.specs.Cuts.{line_count}

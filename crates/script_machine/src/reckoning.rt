@@ -8,7 +8,7 @@ ghost use Rattle.scc_base.specs.Heads.{most_message};
 use crate::prims::{Action, Content};
 use crate::rooms::Length;
 use groups::Ty;
-use script_reader::OwnStmt;
+use script_rules::OwnStmt;
 use std::alloc::{AllocError, Global};
 use std::marker::Model;
 
