@@ -69,6 +69,7 @@ impl<'s, V: Evict> Ue<'s, V> {
     ghost use Rattle.scc_base.specs.declared.events.Spot.{Spot};
     ghost use Rattle.scc_proto.specs.Ports.{Sight};
     ghost use Rattle.put_get.specs.Cores.{MadeSteps};
+    ghost use Rattle.sync_flags.specs.Turns.{waits_at};
     ghost use Rattle.script_plain.specs.Collectives.{start_of_rank};
     ghost use Rattle.script_machine.specs.Moves.{bytes_out, is_passable, is_receiving, is_stopped, length_asked, after_pass, after_refusal, after_take, went};
     ghost use Rattle.script_machine.specs.Next.{is_going};
@@ -234,7 +235,6 @@ impl<'s, V: Evict + Drop> Ue<'s, V> {
 impl<'s, V: Evict> Ue<'s, V> {
     ghost use Rattle.std.specs.Prelude.{◌≡◌, ◌<◌, false, not, length, slice_get, Option, Some};
     ghost use Rattle.std.specs.Option.{option_map};
-    ghost use Rattle.sync_flags.specs.Turns.{waits_at};
     ghost use Rattle.script_machine.specs.Local.{end_of};
     ghost use Rattle.script_machine.specs.Machine.{on_its_way};
     ghost use Rattle.script_machine.specs.Moves.{is_stopped};
