@@ -149,6 +149,6 @@ fn run<'s>(
 fn setup_by(scripts: &Scripts) -> Setup
     ensures { result ≡ log_setup_by scripts.now }
 {
-    let _ = scripts.nue();
+    scripts.acceptance_law();
     scripts.setup(Layout::lines(), default_hosts())
 }

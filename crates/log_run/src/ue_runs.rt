@@ -55,7 +55,7 @@ pub fn log_run<V: Evict + Drop>(chip: &mut Chip, crew: &mut [Logger<Ue<'_, V>>])
         → has_room_for (calls_of script k) ≡ true
         → HasTapRoom (records_in chip.new k).calls }
 {
-    let _ = chip.setup().nue();
+    chip.known();
     let end = run_by_sweeps(chip, crew);
     chip.agrees();
     end

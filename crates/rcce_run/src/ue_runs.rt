@@ -41,7 +41,7 @@ pub fn run<V: Evict + Drop + Send, G: Gate + Sync, R: Threads + Sync>(
     // in each round; with a sweep behind each round.
     ensures order { InOrder ue_members mode chip.old crew.old chip.new crew.new }
 {
-    let _ = chip.setup().nue();
+    chip.known();
     let end = chip_run::run(rt, chip, crew, mode, gate);
     chip.agrees();
     end

@@ -60,7 +60,7 @@ fn posted_after(machine: &Machine<'_>, earlier: Option<OnItsWay>) -> Option<OnIt
             to: *to,
             head: *head,
         }),
-        _ => earlier,
+        Some(Call::Send { .. } | Call::Recv { .. } | Call::Bar { .. }) | None => earlier,
     }
 }
 

@@ -69,7 +69,7 @@ fn words_after<R: Threads + Sync>(
         return Ok(None);
     };
     let mut chip = chip_after(rt, alloc, scripts, &setup, mode)?;
-    let _ = chip.setup().nue();
+    chip.known();
     Ok(Some(words_of(&mut chip.port(Rank::of(0)))))
 }
 

@@ -27,8 +27,13 @@ impl Model for Lengths {
 
     ghost Value = { Lengths };
 
-    ghost view = { λ l.
-        record { registers = l.registers.items; accumulator = l.accumulator; received = l.received; items = l.items; printed = l.printed } };
+    ghost view = { λ l. record {
+      registers = l.registers.items;
+      accumulator = l.accumulator;
+      received = l.received;
+      items = l.items;
+      printed = l.printed;
+    } };
 }
 
 /// The lengths at a point of a program, and the greatest so far.

@@ -1,5 +1,7 @@
 //! The first fault of a file, and why a reading stops.
 
+ghost use Rattle.std.specs.Prelude.{◌≡◌};
+
 use script_rules::FaultKind;
 use std::alloc::{AllocError, AllocFailed};
 
