@@ -12,7 +12,7 @@ use put_get::Core;
 use scc_base::{Call, Head, Rank, Setup, Turn};
 use scc_proto::Port;
 use script_machine::{Machine, OnItsWay, PrintedItem, UeEnd};
-use script_reader::Scripts;
+use script_rules::Scripts;
 use send_recv::{RecvTurn, Slot};
 use std::alloc::{AllocError, Global};
 use std::marker::Model;
@@ -60,7 +60,7 @@ fn posted_after(machine: &Machine<'_>, earlier: Option<OnItsWay>) -> Option<OnIt
             to: *to,
             head: *head,
         }),
-        _ => earlier,
+        Some(Call::Send { .. } | Call::Recv { .. } | Call::Bar { .. }) | None => earlier,
     }
 }
 
@@ -190,7 +190,7 @@ impl<'s, V: Evict> Ue<'s, V> {
 impl<'s, V: Evict + Drop> Ue<'s, V> {
     ghost use Rattle.std.specs.Prelude.{◌≡◌, ◌≤◌, ◌<◌, ◌+◌, [], IfOk};
     ghost use Rattle.scc_proto.specs.Ports.{Sight};
-    ghost use Rattle.script_reader.specs.Script.{rules_of};
+    ghost use Rattle.script_rules.specs.Script.{rules_of};
     ghost use Rattle.script_machine.specs.Local.{local_start};
     ghost use Rattle.rcce_ue.specs.Bounds.{bounds_of, visits};
     ghost use Rattle.rcce_ue.specs.Left.{ue_left};

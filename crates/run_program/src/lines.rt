@@ -12,7 +12,7 @@ use rcce_io::Piece::{Hex, Number, Text};
 use rcce_io::{Sink, TextSource, WriteFault, write_texts};
 use scc_base::{Call, Head, Rank};
 use script_machine::{PrintedItem, UeEnd};
-use script_reader::Form;
+use script_rules::Form;
 
 /// The name of a type of values.
 fn type_text(ty: Ty) -> &'static str

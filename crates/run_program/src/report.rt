@@ -9,7 +9,7 @@ use crate::endings::Endings;
 use crate::lines::{ItemLine, write_end};
 use rcce_io::{Buffer, Sink, WriteFault};
 use scc_base::Rank;
-use script_reader::Scripts;
+use script_rules::Scripts;
 
 /// Writes what the ranks of a script printed, by rank and in the order of printing.
 pub fn write_printed<T: Endings, S: Sink>(
