@@ -13,8 +13,8 @@ use Rattle.scc_base.specs.Setups.{SetupView, setup_key}
 use Rattle.scc_proto.specs.Legality.{IsLegal}
 use Rattle.scc_proto.specs.Passed.{slot_of}
 use Rattle.scc_mesh.specs.Scenes.{ChipView, about_in, events_in, records_in}
-use Rattle.script_reader.specs.Script.{Script, first_split, rules_of}
-use Rattle.script_reader.specs.Settled as settled
+use Rattle.script_rules.specs.Script.{Script, first_split, rules_of}
+use Rattle.script_rules.specs.Settled as settled
 use Rattle.call_tap.specs.Bytes.{HasBytes}
 use Rattle.record_machine.specs.Following.{moved_by}
 use Rattle.call_tap.proofs.ByteLaws.{calls_have_bytes}

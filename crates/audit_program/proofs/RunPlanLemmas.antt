@@ -4,8 +4,8 @@ use Rattle.std.specs.List.{range_with_len}
 use Rattle.rcce_io.specs.Files.{FilesView, NamedFile}
 use Rattle.scc_base.specs.Setups.{SetupView}
 use Rattle.scc_mesh.specs.Scenes.{ChipView}
-use Rattle.script_reader.specs.Script.{Script}
-use Rattle.script_reader.specs.Settled as settled
+use Rattle.script_rules.specs.Script.{Script}
+use Rattle.script_rules.specs.Settled as settled
 use Rattle.outcomes.specs.Coming.{ByTest, Comes, IsMeant}
 use Rattle.outcomes.specs.Complaints.{complaint_outcome, outcome_of}
 use Rattle.outcomes.specs.Delivery.{Delivers, Sinks}

@@ -18,7 +18,7 @@ use rcce_io::{Files, Sink};
 use rcce_words::{ScriptJob, default_hosts, read_script_file};
 use scc_base::{Layout, Setup};
 use scc_mesh::Chip;
-use script_reader::Scripts;
+use script_rules::Scripts;
 use std::alloc::Global;
 
 /// Runs what the words ask for, and writes its log.
@@ -149,6 +149,6 @@ fn run<'s>(
 fn setup_by(scripts: &Scripts) -> Setup
     ensures { result ≡ log_setup_by scripts.now }
 {
-    let _ = scripts.nue();
+    scripts.acceptance_law();
     scripts.setup(Layout::lines(), default_hosts())
 }

@@ -5,7 +5,7 @@ use Rattle.rcce_io.specs.Faults.{IsSteady}
 use Rattle.rcce_io.specs.Files.{FilesView, NamedFile, contents_of}
 use Rattle.script_reader.specs.declared.fault.ReadFault.{ReadFault}
 use Rattle.script_reader.specs.Reading.{most_script_bytes, parse_script}
-use Rattle.script_reader.specs.Script.{Script}
+use Rattle.script_rules.specs.Script.{Script}
 use Rattle.rcce_words.specs.ScriptFiles.{bytes_plan, parsed_plan}
 use Rattle.rcce_words.specs.ScriptWords.{Command, plan_of, script_command}
 use Rattle.outcomes.specs.declared.status.Status.{Status}

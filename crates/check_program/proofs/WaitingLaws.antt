@@ -16,7 +16,7 @@ use Rattle.script_plain.specs.HeldUp.{HasCause, IsExplained, IsHeldUp, ended_at_
 use Rattle.script_plain.specs.Meaning.{plain_end, plain_ends, seen_of}
 use Rattle.script_plain.proofs.Runs.PlainLaws.{length-plain_end}
 use Rattle.script_plain.proofs.Messages.RestLaws.{ends_length}
-use Rattle.script_reader.specs.Script.{Script}
+use Rattle.script_rules.specs.Script.{Script}
 use Rattle.check_program.specs.Waiting.{cause_at, cause_of, first_from, found_at, is_absent_from, is_waiting, least_walked, trouble_of, waits_by_call, waits_by_end, waits_for, after_steps}
 use Rattle.check_program.specs.declared.causes.Cause.{Cause}
 use Rattle.check_program.specs.declared.trouble.Found.{Found}

@@ -1,6 +1,6 @@
 -- What `rccecheck` does on its words (this project's profile).
 use Rattle.std.specs.Prelude.{ℕ, List, [], codes}
-use Rattle.script_reader.specs.Script.{Script}
+use Rattle.script_rules.specs.Script.{Script}
 use Rattle.script_plain.specs.declared.matches.Match.{Match}
 use Rattle.script_plain.specs.Ends.{Ended, all_finished}
 use Rattle.script_plain.specs.Matches.{plain_matches}

@@ -15,7 +15,7 @@ use crate::report::{Report, report_of};
 use outcomes::{Complaint, Status, deliver};
 use rcce_io::{Files, Sink};
 use rcce_words::{ScriptJob, parse_script_words, read_script_file};
-use script_reader::Scripts;
+use script_rules::Scripts;
 use std::alloc::Global;
 
 /// Says which messages of a script come, and who waits for whom at its end. The words are those after the program's name.

@@ -12,7 +12,7 @@ use crate::lines::MatchLine;
 use crate::trouble::{Found, all_found};
 use rcce_io::{Buffer, Sink, WriteFault, write_texts};
 use script_plain::{History, Matches, have_finished, plain_history};
-use script_reader::Scripts;
+use script_rules::Scripts;
 use std::alloc::{AllocError, Global};
 
 /// Whether each rank has finished, the messages that came, and what is the matter with each rank.

@@ -10,7 +10,7 @@ use crate::walking::cause;
 use scc_base::Rank;
 use script_machine::UeEnd;
 use script_plain::End;
-use script_reader::Scripts;
+use script_rules::Scripts;
 use std::alloc::{AllocError, Global};
 
 /// How the run of a rank ended, and for whom it waits.

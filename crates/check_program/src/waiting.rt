@@ -11,7 +11,7 @@ ghost use Rattle.check_program.specs.Waiting.{is_waiting, lowest_absent, waits_b
 use scc_base::{Call, Rank, Setup};
 use script_machine::UeEnd;
 use script_plain::{End, is_with, setup_of};
-use script_reader::Scripts;
+use script_rules::Scripts;
 
 /// The rank that a rank waits for at the end of a script. No memory is taken.
 pub fn waits_for(end: &End, scripts: &Scripts, rank: Rank) -> Option<Rank>

@@ -11,7 +11,7 @@ use crate::waiting::waits_for;
 use scc_base::Rank;
 use script_machine::UeEnd;
 use script_plain::End;
-use script_reader::Scripts;
+use script_rules::Scripts;
 
 /// Why a rank waits at the end of a script: what a walk from rank to rank comes to, each to the one that is waited for. No
 /// memory is taken.

@@ -45,7 +45,7 @@ impl Rest {
             Rest::Finished => next,
             Rest::Unfinished => match next {
                 Rest::Moved => Rest::Moved,
-                _ => Rest::Unfinished,
+                Rest::Finished | Rest::Unfinished => Rest::Unfinished,
             },
         }
     }

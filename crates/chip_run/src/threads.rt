@@ -28,7 +28,7 @@ fn give<W: Worker + Drop>(chip: &mut Chip, at: usize, member: &mut Member<W>)
     ensures away { IsAway (W.conduct.tied member.new.worker) (about_in chip.new) (table_in chip.new) at member.new.token }
     ensures worker { member.new.worker ≡ member.old.worker }
 {
-    let _ = chip.setup().nue();
+    chip.known();
     member.token = Some(chip.spread(Rank::of(at as u8)));
 }
 

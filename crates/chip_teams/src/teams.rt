@@ -110,7 +110,7 @@ impl<M: Player + Drop> Team<M> {
         ensures same { self.new ≡ self.old }
         ensures played { IsSome result ↔ (at < self.old.size) }
     {
-        let _ = self.chip.setup().nue();
+        self.chip.known();
         if at >= self.players.len() {
             return None;
         }

@@ -15,8 +15,8 @@ use Rattle.put_get.specs.Cores.{Private}
 use Rattle.send_recv.specs.Chunks.{message_bound}
 use Rattle.send_recv.specs.Ops.{SlotAt}
 use Rattle.send_recv.specs.Ranks.{receiving, sending}
-use Rattle.send_recv.specs.Receiving.{RecvDoes, SaysHead, recv_left, recv_spot, recv_waits}
-use Rattle.send_recv.specs.Sending.{SendDoes, send_left, send_spot}
+use Rattle.send_recv.specs.Receiving.{RecvDoes, SaysHead, recv_left, aim_of_receive, recv_waits}
+use Rattle.send_recv.specs.Sending.{SendDoes, send_left, aim_of_send}
 use Rattle.send_recv.specs.Sights.{layout_at}
 use Rattle.send_recv.specs.Steps.{goes_on}
 use Rattle.send_recv.specs.Tries.{aim_at}
@@ -59,8 +59,8 @@ more_left seat op slot = left_at_stage seat op slot op.stage
 abbrev pub stage_aim : Seat → SlotAt → Stage → Option Aim
 stage_aim seat slot Own = None
 stage_aim seat slot Between = None
-stage_aim seat slot (Sending call send) = aim_at seat.setup.layout (send_spot seat send slot)
-stage_aim seat slot (Receiving call receive) = aim_at seat.setup.layout (recv_spot seat receive)
+stage_aim seat slot (Sending call send) = aim_of_send seat send slot
+stage_aim seat slot (Receiving call receive) = aim_of_receive seat receive
 
 -- whether nothing of a collective call is left
 abbrev pub is_over_by : List PieceCall → ℕ → Stage → Bool

@@ -1,6 +1,6 @@
 //! The ranks of a run before their first turns, and the setup of its chip.
 
-ghost use Rattle.std.specs.Prelude.{◌≡◌, ◌≤◌, ◌<◌, IfOk};
+ghost use Rattle.std.specs.Prelude.{◌≡◌, ◌≤◌, ◌<◌, ◌^◌, IfOk};
 ghost use Rattle.coll_program.specs.Jobs.{handed_byte, coll_setup_of, src_of};
 ghost use Rattle.coll_program.specs.Runs.{IsTeamOf};
 
@@ -15,7 +15,7 @@ use std::alloc::{AllocError, Global};
 /// Byte i of what a rank hands in.
 fn byte_of(more: More, rank: Rank, len: u32, i: usize) -> u8
     requires some { 1 ≤ len }
-    requires few { i < 65536 }
+    requires few { i < 2 ^ 32 }
     ensures gives { result ≡ handed_byte more rank len i }
 {
     let rank = rank.number() as usize;

@@ -1,7 +1,8 @@
 //! Scripts at their largest: names, bytes, and messages.
 
 use script_plain::plain_matches;
-use script_reader::{FaultKind, ReadFault, ReadStop, read_script};
+use script_reader::{ReadFault, ReadStop, read_script};
+use script_rules::FaultKind;
 use std::alloc::{AllocError, Global};
 
 /// Whether a file for one rank is accepted, where no fault is wanted, or else refused with this one.

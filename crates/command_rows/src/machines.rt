@@ -3,7 +3,8 @@
 use scc_base::Rank;
 use script_machine::Machine;
 use script_plain::setup_of;
-use script_reader::{Scripts, read_script};
+use script_reader::read_script;
+use script_rules::Scripts;
 use std::alloc::{AllocError, Global};
 
 /// Whether a machine has printed these items.

@@ -6,7 +6,8 @@ ghost use Rattle.script_plain.specs.Meaning.{plain_ends};
 use check_program::{Cause, cause, waits_for};
 use scc_base::Rank;
 use script_plain::{End, plain_run};
-use script_reader::{Scripts, read_script};
+use script_reader::read_script;
+use script_rules::Scripts;
 use std::alloc::{AllocError, Global};
 
 /// What is told of a rank: for whom it waits, and what a walk from it comes to.

@@ -1,12 +1,12 @@
 -- Where a run of UEs whose calls are kept begins.
-use Rattle.std.proofs.Common.{◌≡◌, ℕ, ◌+◌, ◌<◌, ◌≤◌, true, List, [], ◌∷◌, ◌++◌, length, slice_index_or, Option, Some, sym, ap, ◌∙◌, subst, arith}
+use Rattle.std.proofs.Common.{◌≡◌, ℕ, ◌+◌, ◌<◌, true, List, [], ◌∷◌, ◌++◌, length, slice_index_or, Option, Some, sym, ap, ◌∙◌, subst, arith}
 use Rattle.std.specs.Prelude.{All}
 use Rattle.scc_base.specs.Calls.{DataCall, HasItsBytes}
-use Rattle.scc_base.specs.Setups.{SetupView}
+use Rattle.scc_base.specs.Setups.{IsSetup, SetupView}
 use Rattle.scc_mesh.specs.Scenes.{ChipView, IsNew, about_in, events_in, records_in}
 use Rattle.scc_proto.specs.Passed.{open_call}
-use Rattle.script_reader.specs.Script.{Script}
-use Rattle.script_reader.specs.Settled.{IsWholeScript}
+use Rattle.script_rules.specs.Script.{Script}
+use Rattle.script_rules.specs.Settled.{IsWholeScript}
 use Rattle.script_machine.specs.Machine.{MachineView}
 use Rattle.script_machine.specs.CallLists.{calls_of}
 use Rattle.rcce_ue.specs.Ues.{UeView}
@@ -43,10 +43,10 @@ fresh_is_crew script chip crew fresh = record {
 pub fresh_runs : (script : Script) (chip : ChipView) (crew : List (Logger UeView)) → IsFreshLogCrew script chip crew → AllRun ue_of script crew
 fresh_runs script chip crew fresh k d low = ap (λ (m : MachineView). m.script) (fresh.loggers.each k d low).fresh.machine
 
-pub fresh_some : (script : Script) (chip : ChipView) (crew : List (Logger UeView)) (s : SetupView) → IsFreshLogCrew script chip crew → s ≡ about_in chip → 1 ≤ s.nue → 0 < length crew
-fresh_some script chip crew s fresh same ranks =
+pub fresh_some : (script : Script) (chip : ChipView) (crew : List (Logger UeView)) → IsFreshLogCrew script chip crew → IsSetup (about_in chip) → 0 < length crew
+fresh_some script chip crew fresh valid =
     let each = fresh.loggers.count in
-    let some : 1 ≤ (about_in chip).nue = subst (λ (x : SetupView). 1 ≤ x.nue) same ranks in
+    let some = valid.some_ranks in
     omega (arith, each, some)
 
 -- loggers that are fresh for a new chip

@@ -13,8 +13,8 @@ use Rattle.scc_proto.specs.Stages.{Record, blank}
 use Rattle.scc_proto.specs.Words.{Memory}
 use Rattle.scc_proto.proofs.PortLaws.{record_of-nil}
 use Rattle.scc_mesh.specs.Scenes.{ChipView, about_in, events_in, records_in}
-use Rattle.script_reader.specs.Script.{Script}
-use Rattle.script_reader.specs.Settled.{IsWholeScript}
+use Rattle.script_rules.specs.Script.{Script}
+use Rattle.script_rules.specs.Settled.{IsWholeScript}
 use Rattle.script_machine.specs.CallLists.{calls_of}
 use Rattle.script_plain.specs.Collectives.{start_of_rank}
 use Rattle.script_plain.specs.Ends.{Ended}

@@ -12,7 +12,7 @@ use Rattle.scc_base.specs.declared.calls.Call.{Call}
 use Rattle.scc_proto.proofs.Tests.{both_first, both_second}
 use Rattle.call_tap.specs.Planned.{bytes_planned, has_room_for}
 use Rattle.call_tap.proofs.PlannedLaws.{planned_append}
-use Rattle.script_reader.specs.Script.{Script}
+use Rattle.script_rules.specs.Script.{Script}
 use Rattle.script_machine.specs.CallLists.{calls_made, calls_from, calls_of}
 use Rattle.script_machine.specs.Lengths.{Lengths, lengths_after}
 use Rattle.script_machine.specs.Program.{Prim, program_of}

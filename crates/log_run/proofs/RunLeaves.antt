@@ -1,13 +1,13 @@
 -- What a run leaves that began with fresh loggers and in the end rests.
 use Rattle.std.proofs.Common.{◌≡◌, ℕ, ◌<◌, ◌≤◌, true, List, [], length, slice_index_or, Some, sym, subst}
 use Rattle.scc_base.specs.Calls.{DataCall}
-use Rattle.scc_base.specs.Setups.{SetupView, setup_key}
+use Rattle.scc_base.specs.Setups.{IsSetup, setup_key}
 use Rattle.scc_proto.specs.Agreement.{Agrees}
 use Rattle.scc_proto.specs.Legality.{IsLegal}
 use Rattle.scc_proto.specs.Passed.{open_call, passed_calls, slot_of}
 use Rattle.scc_proto.specs.Words.{Memory}
 use Rattle.scc_mesh.specs.Scenes.{ChipView, about_in, events_in, records_in}
-use Rattle.script_reader.specs.Script.{Script}
+use Rattle.script_rules.specs.Script.{Script}
 use Rattle.script_machine.specs.CallLists.{calls_of}
 use Rattle.call_tap.specs.Kept.{HasTapRoom}
 use Rattle.call_tap.specs.Planned.{has_room_for}
@@ -24,13 +24,13 @@ use Rattle.log_run.proofs.FreshLaws.{fresh_runs, fresh_some}
 use Rattle.log_run.proofs.LogEnds.{first_at, kept_at, legal, loggers_run, plain_at, ranks_are, room_at, waits_open}
 use Rattle.log_run.proofs.PathLaws.{AreFirst}
 
-module _ (script : Script) (chip now : ChipView) (crew later : List (Logger UeView)) (fresh : IsFreshLogCrew script chip crew) (s : SetupView) (about : s ≡ about_in chip) (ranks : 1 ≤ s.nue)
+module _ (script : Script) (chip now : ChipView) (crew later : List (Logger UeView)) (fresh : IsFreshLogCrew script chip crew) (valid : IsSetup (about_in chip))
     (stands : CrewStands ue_loggers chip crew now later) (memory : Memory) (agrees : Agrees (about_in now) memory (records_in now)) (rested : AllRest ue_loggers now later (length later)) where
   all : AllRun ue_of script later
   all = still_run ue_loggers ue_of loggers_run script chip now crew later stands.goes (fresh_runs script chip crew fresh)
 
   some : 0 < length later
-  some = subst (λ (n : ℕ). 0 < n) (sym stands.goes.count) (fresh_some script chip crew s fresh about ranks)
+  some = subst (λ (n : ℕ). 0 < n) (sym stands.goes.count) (fresh_some script chip crew fresh valid)
 
   first : Logger UeView
   first = some_worker later some

@@ -11,8 +11,8 @@ use Rattle.scc_proto.specs.Passed.{open_call, slot_of}
 use Rattle.scc_mesh.specs.Scenes.{ChipView, IsWhole, about_in, events_in, records_in}
 use Rattle.call_tap.specs.declared.taps.Tap.{Tap}
 use Rattle.call_tap.specs.Kept.{AreKept, HasTapRoom}
-use Rattle.script_reader.specs.Script.{Script, rules_of}
-use Rattle.script_reader.specs.Settled as settled
+use Rattle.script_rules.specs.Script.{Script, rules_of}
+use Rattle.script_rules.specs.Settled as settled
 use Rattle.script_plain.specs.Meaning.{State, plain_end}
 use Rattle.rcce_ue.specs.Ues.{UeView}
 use Rattle.chip_run.specs.declared.ends.RunEnd.{RunEnd}

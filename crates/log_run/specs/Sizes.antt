@@ -2,7 +2,7 @@
 use Rattle.std.specs.Prelude.{ℕ, Bool, Option, Some, None}
 use Rattle.std.specs.List.{list_all, range_with_len}
 use Rattle.call_tap.specs.Planned.{has_room_for}
-use Rattle.script_reader.specs.Script.{Script}
+use Rattle.script_rules.specs.Script.{Script}
 use Rattle.script_machine.specs.CallLists.{calls_of}
 
 -- there is room for all calls of each rank

@@ -1,7 +1,7 @@
 //! The loggers of a run, before its start.
 
 ghost use Rattle.std.specs.Prelude.{◌≡◌, IfOk};
-ghost use Rattle.script_reader.specs.Script.{rules_of};
+ghost use Rattle.script_rules.specs.Script.{rules_of};
 ghost use Rattle.log_run.specs.LogRuns.{AreFreshLoggers};
 
 use crate::loggers::Logger;
@@ -9,7 +9,7 @@ use call_tap::Tap;
 use line_cache::Never;
 use rcce_ue::Ue;
 use scc_base::{Rank, Setup};
-use script_reader::Scripts;
+use script_rules::Scripts;
 use std::alloc::{AllocError, Global};
 
 /// A UE with a tap for each rank, before its first turn. All their memory is taken here.

@@ -3,13 +3,13 @@
 ghost use Rattle.std.specs.Prelude.{◌≡◌, ◌<◌, IfOk};
 ghost use Rattle.call_tap.specs.Planned.{has_room_for};
 ghost use Rattle.script_machine.specs.CallLists.{calls_of};
-ghost use Rattle.script_reader.specs.Script.{rules_of};
+ghost use Rattle.script_rules.specs.Script.{rules_of};
 ghost use Rattle.log_run.specs.Sizes.{has_room_for_all};
 
 use scc_base::{Rank, Setup};
 use script_machine::{Lengths, Walk};
 use script_plain::setup_of;
-use script_reader::Scripts;
+use script_rules::Scripts;
 use std::alloc::{AllocError, Global};
 
 /// The most calls of a rank that are kept.

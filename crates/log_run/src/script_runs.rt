@@ -1,7 +1,7 @@
 //! A run of a script on a blank chip, and the calls that it keeps.
 
 ghost use Rattle.std.specs.Prelude.{◌≡◌, None, IfErr, IfOk, true};
-ghost use Rattle.script_reader.specs.Script.{rules_of};
+ghost use Rattle.script_rules.specs.Script.{rules_of};
 ghost use Rattle.scc_mesh.specs.Scenes.{IsNew};
 ghost use Rattle.log_run.specs.LogRuns.{AreFreshLoggers, HasRunLogged, IsLogRunOver};
 ghost use Rattle.log_run.specs.Sizes.{has_room_for_all};
@@ -14,7 +14,7 @@ use line_cache::Never;
 use rcce_ue::Ue;
 use scc_base::{Call, CommRule, Rank, Setup};
 use scc_mesh::Chip;
-use script_reader::Scripts;
+use script_rules::Scripts;
 use std::alloc::{AllocError, Global};
 use std::marker::Model;
 
@@ -27,7 +27,7 @@ pub struct LogRun<'s> {
 }
 
 impl<'s> Model for LogRun<'s> {
-    ghost use Rattle.script_reader.specs.Script.{Script};
+    ghost use Rattle.script_rules.specs.Script.{Script};
     ghost use Rattle.rcce_run.specs.Crews.{EndsAs};
     ghost use Rattle.log_run.specs.LogRuns.{HaveKept};
 
@@ -42,7 +42,7 @@ impl<'s> LogRun<'s> {
     ghost use Rattle.std.specs.Prelude.{◌≡◌, ◌<◌, ◌≤◌, All, flat_map, map};
     ghost use Rattle.scc_base.specs.Calls.{HasItsBytes, call_of};
     ghost use Rattle.record_machine.specs.Following.{moved_by};
-    ghost use Rattle.script_reader.specs.Script.{rules_of};
+    ghost use Rattle.script_rules.specs.Script.{rules_of};
     ghost use Rattle.rcce_run.specs.Crews.{EndsAs};
     ghost use Rattle.log_run.specs.LogRuns.{HaveKept, plain_calls};
 

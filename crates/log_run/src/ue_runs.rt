@@ -11,7 +11,7 @@ ghost use Rattle.scc_base.specs.Calls.{DataCall, HasItsBytes};
 ghost use Rattle.scc_mesh.specs.Scenes.{about_in, records_in};
 ghost use Rattle.scc_proto.specs.Passed.{open_call};
 ghost use Rattle.script_machine.specs.CallLists.{calls_of};
-ghost use Rattle.script_reader.specs.Script.{Script};
+ghost use Rattle.script_rules.specs.Script.{Script};
 ghost use Rattle.log_run.specs.declared.loggers.Logger.{Logger};
 ghost use Rattle.log_run.specs.LogRuns.{AreLegalCalls, IsFreshLogCrew, IsOwnCall, KeepsCalls, plain_calls};
 
@@ -55,7 +55,7 @@ pub fn log_run<V: Evict + Drop>(chip: &mut Chip, crew: &mut [Logger<Ue<'_, V>>])
         → has_room_for (calls_of script k) ≡ true
         → HasTapRoom (records_in chip.new k).calls }
 {
-    let _ = chip.setup().nue();
+    chip.known();
     let end = run_by_sweeps(chip, crew);
     chip.agrees();
     end

@@ -1,7 +1,7 @@
 -- What a script comes to.
 use Rattle.std.proofs.Common.{ℕ, Bool, List, refl, ap, ◌∙◌, inl}
 use Rattle.rcce_io.specs.Files.{FilesView}
-use Rattle.script_reader.specs.Script.{Script}
+use Rattle.script_rules.specs.Script.{Script}
 use Rattle.script_plain.specs.Ends.{all_finished}
 use Rattle.script_plain.specs.Matches.{plain_matches}
 use Rattle.script_plain.specs.Meaning.{plain_ends}

@@ -1,7 +1,7 @@
 -- What `rccemesh` does on its words (this project's profile).
 use Rattle.std.specs.Prelude.{ℕ, Bool, if◌then◌else◌, List, [], ◌∷◌, codes, Option, None, option_map, option_and_then}
 use Rattle.std.specs.Str.{bytes_eq}
-use Rattle.script_reader.specs.Script.{Script}
+use Rattle.script_rules.specs.Script.{Script}
 use Rattle.script_plain.specs.Ends.{all_finished}
 use Rattle.script_plain.specs.Matches.{plain_matches}
 use Rattle.script_plain.specs.Meaning.{plain_ends}

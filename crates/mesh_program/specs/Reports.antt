@@ -8,7 +8,7 @@ use Rattle.mesh_program.specs.Program.{mesh_ran_of}
 use Rattle.script_plain.specs.Ends.{all_finished}
 use Rattle.script_plain.specs.Matches.{plain_matches}
 use Rattle.script_plain.specs.Meaning.{plain_ends}
-use Rattle.script_reader.specs.Script.{Script}
+use Rattle.script_rules.specs.Script.{Script}
 
 -- whether each rank has finished, and the lines
 abbrev pub mesh_report_ran : Report → Ran

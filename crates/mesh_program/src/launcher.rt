@@ -17,7 +17,7 @@ use outcomes::{Complaint, Status, deliver};
 use rcce_io::{Files, Sink};
 use rcce_words::read_script_file;
 use scc_base::CoreId;
-use script_reader::Scripts;
+use script_rules::Scripts;
 use std::alloc::Global;
 
 /// Says how many lines each link of the mesh carries for the messages of a script. The words are those after the program's

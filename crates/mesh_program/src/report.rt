@@ -9,7 +9,7 @@ use mesh_load::{Load, load};
 use rcce_io::{Sink, WriteFault, write_all};
 use scc_base::CoreId;
 use script_plain::{have_finished, plain_history};
-use script_reader::Scripts;
+use script_rules::Scripts;
 use std::alloc::{AllocError, Global};
 
 /// Whether each rank has finished, and how many lines each link carries.

@@ -7,7 +7,7 @@ use Rattle.std.proofs.lemmas.Slice.Eq.{bytes_eq-Decides}
 use Rattle.rcce_io.specs.Files.{NamedFile, contents_of}
 use Rattle.script_reader.specs.declared.fault.ReadFault.{ReadFault}
 use Rattle.script_reader.specs.Reading.{most_script_bytes, parse_script}
-use Rattle.script_reader.specs.Script.{Script}
+use Rattle.script_rules.specs.Script.{Script}
 use Rattle.script_reader.specs.Faults.{◌>>=◌}
 use Rattle.script_plain.specs.Ends.{all_finished}
 use Rattle.script_plain.specs.Meaning.{plain_ends}

@@ -19,7 +19,7 @@ use Rattle.rcce_audit.specs.declared.faults.LogFault.{LogFault}
 use Rattle.rcce_audit.specs.declared.faults.LogKind.TheVariants as kind
 use Rattle.rcce_audit.specs.declared.lines.CommSplit.{CommSplit}
 use Rattle.rcce_audit.specs.Grammar.{Reading, RankedCall, with_comm, with_call, is_in_order, add_call, begins_comm, comm_said, call_said, line_said, kind_of, lines_said, end_said, nue_of, no_calls, reading_start, first_said, all_said, parts_said, log_of, ◌>=>◌}
-use Rattle.rcce_audit.specs.Logs.{LogView, calls_in_log, IsLogCall, IsLog, most_log_bytes}
+use Rattle.rcce_audit.specs.Logs.{LogView, IsLogCall, IsLog, most_log_bytes, calls_at_rank}
 use Rattle.rcce_audit.specs.Texts.{head_words, line_of, rule_lines, call_words, call_lines, table_lines, log_lines, text_of, log_text, IsFileLog}
 use Rattle.rcce_audit.specs.Words.{◌>>=◌, log_words_of}
 use Rattle.texts.specs.Cuts.{lines_of}
@@ -57,8 +57,8 @@ pub record IsReading (r : Reading) : Type 0 where
   pub written : IsLog r.log
   pub last_below : r.comm < 16
   pub later : (c : ℕ) → r.comm < c → rule_of r.log.comms c ≡ Absent
-  pub unbegun : r.rank ≡ None → (q : ℕ) → calls_in_log r.log q ≡ []
-  pub begun : (last : ℕ) → r.rank ≡ Some last → (q : ℕ) → last < q → calls_in_log r.log q ≡ []
+  pub unbegun : r.rank ≡ None → (q : ℕ) → calls_at_rank r.log.lists q ≡ []
+  pub begun : (last : ℕ) → r.rank ≡ Some last → (q : ℕ) → last < q → calls_at_rank r.log.lists q ≡ []
 
 pub no_rules : (c : ℕ) → rule_of world_alone (suc c) ≡ Absent
 no_rules c = world.absent_after c
@@ -160,7 +160,7 @@ comm_grows r split line is none words = record { reads = reads; lines = lines }
     comms : List CommRule
     comms = r.log.comms
 
-    empty : (q : ℕ) → calls_in_log r.log q ≡ []
+    empty : (q : ℕ) → calls_at_rank r.log.lists q ≡ []
     empty = is.unbegun none
 
     was : rule_of comms split.comm ≡ Absent

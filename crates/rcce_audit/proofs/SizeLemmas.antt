@@ -14,7 +14,7 @@ use Rattle.scc_base.specs.declared.kinds.Kind.{Kind}
 use Rattle.scc_base.specs.declared.kinds.Kind.TheVariants.{Plain, Bcast, Reduce, AllUp, AllDown}
 use Rattle.rcce_io.specs.Digits.{hex_text}
 use Rattle.rcce_audit.specs.Held.{bytes_in}
-use Rattle.rcce_audit.specs.Logs.{LogView, IsLog, IsLogCall, calls_in_log, most_log_bytes}
+use Rattle.rcce_audit.specs.Logs.{LogView, IsLog, IsLogCall, most_log_bytes, calls_at_rank}
 use Rattle.rcce_audit.specs.Sizes.{AreFew, bytes_moved}
 use Rattle.rcce_audit.specs.Texts.{IsFileLog, call_lines, call_words, head_words, line_of, log_text, message_words, rule_lines, split_words, table_lines, text_of}
 
@@ -137,7 +137,7 @@ at_zero : (n : ℕ) → n ≡ 0 + n
 at_zero n = omega arith
 
 -- a log with few calls of each rank is one that a file may have
-pub few_fit : (log : LogView) → IsLog log → ((r : ℕ) → AreFew (calls_in_log log r)) → IsFileLog log
+pub few_fit : (log : LogView) → IsLog log → ((r : ℕ) → AreFew (calls_at_rank log.lists r)) → IsFileLog log
 few_fit log is few =
     let most = is.ranks_within in
     let sixteen = is.sixteen in

@@ -22,9 +22,9 @@ use Rattle.scc_proto.proofs.Legality.StepLaws.{own_step, step_told, first_call, 
 use Rattle.rcce_audit.specs.declared.progress.Progress.{Progress}
 use Rattle.rcce_audit.specs.declared.verdicts.Verdict.{Verdict}
 use Rattle.rcce_audit.specs.declared.verdicts.Verdict.TheVariants as verdict
-use Rattle.rcce_audit.specs.Logs.{LogView, IsLogCall, calls_in_log}
+use Rattle.rcce_audit.specs.Logs.{LogView, IsLogCall, calls_at_rank}
 use Rattle.rcce_audit.specs.Texts.{IsFileLog, call_lines, call_words, line_of, log_lines, rule_lines, table_lines, text_of}
-use Rattle.rcce_audit.specs.Standings.{AreLists, outgoing_at, calls_at_rank, calls_left, slot_of_lists, standing_of, Sleeps, IsQuiet, partner_of, Acts, Leads, count_left}
+use Rattle.rcce_audit.specs.Standings.{AreLists, outgoing_at, calls_left, slot_of_lists, standing_of, Sleeps, IsQuiet, partner_of, Acts, Leads, count_left}
 use Rattle.rcce_audit.specs.Verdicts.{IsFirstLeft, IsLegalLog, EndsIn, VerdictTells}
 
 -- where a call stands at a place, the calls from there on begin with it
@@ -158,7 +158,7 @@ pub leads_more : (s : SetupView) (x y z : Standing) → Leads s x y → Leads s 
 leads_more s x y z (n, run) (m, rest) = joined_runs (OwnStep s.nue (setup_key s)) (λ w. w ≡ z) n m x y run rest
 
 -- the steps of a log that lead to a standing at which nobody has one end there
-pub ends_in : (log : LogView) (s : SetupView) (start e : Standing) → s.nue ≡ log.nue → s.comms ≡ log.comms → start ≡ record { calls = calls_in_log log; slots = λ k. None } → Leads s start e → IsStill (OwnStep s.nue (setup_key s)) e → EndsIn log e
+pub ends_in : (log : LogView) (s : SetupView) (start e : Standing) → s.nue ≡ log.nue → s.comms ≡ log.comms → start ≡ record { calls = calls_at_rank log.lists; slots = λ k. None } → Leads s start e → IsStill (OwnStep s.nue (setup_key s)) e → EndsIn log e
 ends_in log s start e nue comms is (n, run) still =
     let Step : ℕ → Standing → Standing → Type 0 = OwnStep s.nue (setup_key s) in
     let ended : Runs Step (EndsAt Step e) n start = other_end Step (λ x. x ≡ e) (EndsAt Step e) (λ x at. (at, subst (IsStill Step) (sym at) still)) n start run in
@@ -166,22 +166,22 @@ ends_in log s start e nue comms is (n, run) still =
     (n, subst (λ (x : Standing). P log.nue log.comms x) is (subst (λ (c : List CommRule). P log.nue c start) comms (subst (λ (m : ℕ). P m s.comms start) nue ended)))
 
 -- a verdict that tells of the end of a log's steps tells whether the log is legal
-pub legal_told : (log : LogView) (v : Verdict) (e : Standing) → EndsIn log e → VerdictTells (calls_in_log log) v e → (v ≡ verdict.Yes) ↔ IsLegalLog log
+pub legal_told : (log : LogView) (v : Verdict) (e : Standing) → EndsIn log e → VerdictTells (calls_at_rank log.lists) v e → (v ≡ verdict.Yes) ↔ IsLegalLog log
 legal_told log v e ends tells = (to v tells, from v tells)
   where
-    to : (w : Verdict) → VerdictTells (calls_in_log log) w e → w ≡ verdict.Yes → IsLegalLog log
-    to verdict.Yes told is = (e.slots, legal_from_end log.nue _ ends.0 (calls_in_log log) e.slots e ends.1 (record { calls = told; slots = λ k. refl }))
+    to : (w : Verdict) → VerdictTells (calls_at_rank log.lists) w e → w ≡ verdict.Yes → IsLegalLog log
+    to verdict.Yes told is = (e.slots, legal_from_end log.nue _ ends.0 (calls_at_rank log.lists) e.slots e ends.1 (record { calls = told; slots = λ k. refl }))
     to (verdict.No rank call) told is = absurd cc
 
-    from : (w : Verdict) → VerdictTells (calls_in_log log) w e → IsLegalLog log → w ≡ verdict.Yes
+    from : (w : Verdict) → VerdictTells (calls_at_rank log.lists) w e → IsLegalLog log → w ≡ verdict.Yes
     from verdict.Yes told legal = refl
     from (verdict.No rank call) told (slots, legal) =
-        absurd (told.left ((end_of_legal log.nue _ ends.0 (calls_in_log log) slots e ends.1 legal).calls rank))
+        absurd (told.left ((end_of_legal log.nue _ ends.0 (calls_at_rank log.lists) slots e ends.1 legal).calls rank))
 
 -- the steps of a log end at one standing
-pub one_end_told : (log : LogView) (v : Verdict) (e f : Standing) → EndsIn log e → VerdictTells (calls_in_log log) v e → EndsIn log f → VerdictTells (calls_in_log log) v f
+pub one_end_told : (log : LogView) (v : Verdict) (e f : Standing) → EndsIn log e → VerdictTells (calls_at_rank log.lists) v e → EndsIn log f → VerdictTells (calls_at_rank log.lists) v f
 one_end_told log v e f (n, run) tells (m, other) =
-    subst (VerdictTells (calls_in_log log) v) (one_end _ (only_one log.nue _) (either_order log.nue _) n m _ e f run other).1 tells
+    subst (VerdictTells (calls_at_rank log.lists) v) (one_end _ (only_one log.nue _) (either_order log.nue _) n m _ e f run other).1 tells
 
 -- ranks have one root where they have one key
 pub roots_test : (key : ℕ → ℕ) (r q : ℕ) → (root_in key r == root_in key q) ≡ (key r == key q)
@@ -237,7 +237,7 @@ list_length [] n r = omega arith
 list_length (calls ∷ lists) n zero = omega (arith, length-append (call_lines n calls) (table_lines call_lines (n + 1) lists), length-map calls (λ call. line_of (call_words n call)))
 list_length (calls ∷ lists) n (suc r) = omega (arith, length-append (call_lines n calls) (table_lines call_lines (n + 1) lists), list_length lists (n + 1) r)
 
-pub few_calls : (log : LogView) (r : ℕ) → IsFileLog log → length (calls_in_log log r) < 4294967295
+pub few_calls : (log : LogView) (r : ℕ) → IsFileLog log → length (calls_at_rank log.lists r) < 4294967295
 few_calls log r is =
     omega (arith, is.fits, text_length (log_lines log), list_length log.lists 0 r, length-append (table_lines rule_lines 0 log.comms) (table_lines call_lines 0 log.lists))
 
@@ -262,10 +262,10 @@ start_quiet s lists p are awake b asleep t =
     (cases_lt b 48)
 
 start_standing : (log : LogView) (lists : List (List DataCall)) (p : Progress) → lists ≡ log.lists → ((k : ℕ) → slice_index p.next k ≡ 0) → ((k : ℕ) → slice_index_or p.posted k None ≡ None)
-    → standing_of lists p ≡ record { calls = calls_in_log log; slots = λ k. None }
+    → standing_of lists p ≡ record { calls = calls_at_rank log.lists; slots = λ k. None }
 start_standing log lists p same next posted = λ i. record { calls = λ k. calls k i; slots = λ k. slots k i }
   where
-    calls : (k : ℕ) → calls_left lists p.next k ≡ calls_in_log log k
+    calls : (k : ℕ) → calls_left lists p.next k ≡ calls_at_rank log.lists k
     calls k = ap (λ (n : ℕ). drop n (calls_at_rank lists k)) (next k) ∙ ap (λ (l : List (List DataCall)). calls_at_rank l k) same
 
     slots : (k : ℕ) → slot_of_lists lists p.posted k ≡ None
@@ -275,7 +275,7 @@ start_standing log lists p same next posted = λ i. record { calls = λ k. calls
 pub judged : (log : LogView) (s : SetupView) (lists : List (List DataCall)) (first last : Progress) (v : Verdict) → s.nue ≡ log.nue → s.comms ≡ log.comms → lists ≡ log.lists
     → ((k : ℕ) → slice_index first.next k ≡ 0) → ((k : ℕ) → slice_index_or first.posted k None ≡ None)
     → length lists ≡ 48 → Leads s (standing_of lists first) (standing_of lists last) → IsQuiet s lists last → ((b : ℕ) → b < 48 → Sleeps last b) → VerdictTells (calls_at_rank lists) v (standing_of lists last)
-    → (e : Standing) × EndsIn log e × VerdictTells (calls_in_log log) v e
+    → (e : Standing) × EndsIn log e × VerdictTells (calls_at_rank log.lists) v e
 judged log s lists first last v nue comms same next posted ranks leads quiet asleep tells = (
   standing_of lists last,
   ends_in log s (standing_of lists first) (standing_of lists last) nue comms (start_standing log lists first same next posted) leads still,

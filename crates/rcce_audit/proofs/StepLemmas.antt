@@ -11,7 +11,8 @@ use Rattle.scc_base.specs.Setups.{SetupView, setup_key}
 use Rattle.scc_proto.specs.Legality.{Outgoing, Standing, Posting, Taking, Pairing, Meeting, in_group, call_at, Makes, OwnStep}
 use Rattle.scc_proto.proofs.Legality.StepLaws.{itself, own_step, owner_of-own_step}
 use Rattle.rcce_audit.specs.declared.progress.Progress.{Progress}
-use Rattle.rcce_audit.specs.Standings.{AreLists, Tries, TriesFirst, IsQuiet, calls_at_rank, outgoing_at, outgoing_of, calls_left, slot_of_lists, standing_of, Sleeps, partner_of, Advances, Acts, Meets, Leads, VisitDoes, SweepDoes, count_left}
+use Rattle.rcce_audit.specs.Logs.{calls_at_rank}
+use Rattle.rcce_audit.specs.Standings.{AreLists, Tries, TriesFirst, IsQuiet, outgoing_at, outgoing_of, calls_left, slot_of_lists, standing_of, Sleeps, partner_of, Advances, Acts, Meets, Leads, VisitDoes, SweepDoes, count_left}
 use Rattle.rcce_audit.proofs.StandingLemmas.{drop-at, drop-none, left_same, no_other_step, no_step, quiet_after, leads_none, leads_step, own_fewer}
 
 -- the call at a place, by the calls from there on

@@ -11,7 +11,7 @@ use Rattle.scc_proto.specs.Legality.{Standing, callers, call_at, OwnStep}
 use Rattle.scc_proto.proofs.Legality.StepDecided.{decide}
 use Rattle.rcce_audit.specs.declared.verdicts.Verdict.{Verdict}
 use Rattle.rcce_audit.specs.declared.verdicts.Verdict.TheVariants as verdict
-use Rattle.rcce_audit.specs.Logs.{LogView, calls_in_log}
+use Rattle.rcce_audit.specs.Logs.{LogView, calls_at_rank}
 use Rattle.rcce_audit.specs.Standings.{count_left}
 use Rattle.rcce_audit.specs.Texts.{IsFileLog}
 use Rattle.rcce_audit.specs.Verdicts.{IsJudge, VerdictTells, IsVerdict}
@@ -38,7 +38,7 @@ once_told calls e (verdict.No rank call) (verdict.No other also) first second = 
         ap (λ (r : ℕ). verdict.No r call) same ∙ ap (verdict.No other) calls_same
 
 pub verdict_once : (log : LogView) (v w : Verdict) → IsVerdict log v → IsVerdict log w → v ≡ w
-verdict_once log v w (e, ends, tells) (f, other, told) = once_told (calls_in_log log) f v w (one_end_told log v e f ends tells other) told
+verdict_once log v w (e, ends, tells) (f, other, told) = once_told (calls_at_rank log.lists) f v w (one_end_told log v e f ends tells other) told
 
 module _ (nue : ℕ) (keys : ℕ → ℕ → ℕ) where
   -- some rank below a number has a step, or none has one
@@ -118,13 +118,13 @@ none_behind [] ys is = is
 none_behind (x ∷ xs) ys is = absurd cc
 
 -- a log has a verdict, where no rank from 48 on has a call
-pub verdict_found : (log : LogView) → ((k : ℕ) → 48 ≤ k → calls_in_log log k ≡ []) → (v : Verdict) × IsVerdict log v
+pub verdict_found : (log : LogView) → ((k : ℕ) → 48 ≤ k → calls_at_rank log.lists k ≡ []) → (v : Verdict) × IsVerdict log v
 verdict_found log none =
-    let start : Standing = record { calls = calls_in_log log; slots = λ k. None } in
+    let start : Standing = record { calls = calls_at_rank log.lists; slots = λ k. None } in
     let (e, m, run) = end_found log.nue (key_of log.comms) 48 (count_left start 48) start (omega arith) none in
     tell e m run (lowest_left e.calls 48)
   where
-    tell : (e : Standing) (m : ℕ) → Runs (OwnStep log.nue (key_of log.comms)) (EndsAt (OwnStep log.nue (key_of log.comms)) e) m (record { calls = calls_in_log log; slots = λ k. None })
+    tell : (e : Standing) (m : ℕ) → Runs (OwnStep log.nue (key_of log.comms)) (EndsAt (OwnStep log.nue (key_of log.comms)) e) m (record { calls = calls_at_rank log.lists; slots = λ k. None })
         → ((r : ℕ) × (r < 48) × (e.calls r ≢ []) × ((k : ℕ) → k < r → e.calls k ≡ [])) ⊎ ((k : ℕ) → k < 48 → e.calls k ≡ []) → (v : Verdict) × IsVerdict log v
     tell e m run (inl (r, below, some, lower)) =
         let used = used_up log.nue (key_of log.comms) m _ e run r in
@@ -132,7 +132,7 @@ verdict_found log none =
     tell e m run (inr empty) =
         (verdict.Yes, (e, (m, run), λ k. ⊎_elim (λ (below : k < 48). empty k below) (λ (past : 48 ≤ k). left_none e m run k (none k past)) (cases_lt k 48)))
       where
-        left_none : (f : Standing) (n : ℕ) → Runs (OwnStep log.nue (key_of log.comms)) (EndsAt (OwnStep log.nue (key_of log.comms)) f) n (record { calls = calls_in_log log; slots = λ k. None }) → (k : ℕ) → calls_in_log log k ≡ [] → f.calls k ≡ []
+        left_none : (f : Standing) (n : ℕ) → Runs (OwnStep log.nue (key_of log.comms)) (EndsAt (OwnStep log.nue (key_of log.comms)) f) n (record { calls = calls_at_rank log.lists; slots = λ k. None }) → (k : ℕ) → calls_at_rank log.lists k ≡ [] → f.calls k ≡ []
         left_none f n run k nothing = let used = used_up log.nue (key_of log.comms) n _ f run k in none_behind used.0 (f.calls k) (sym used.1 ∙ nothing)
 
 -- ---- a judge
@@ -141,7 +141,7 @@ verdict_found log none =
 abbrev cut : LogView → LogView
 cut log = record log { lists = take 48 log.lists }
 
-cut_ends : (log : LogView) (k : ℕ) → 48 ≤ k → calls_in_log (cut log) k ≡ []
+cut_ends : (log : LogView) (k : ℕ) → 48 ≤ k → calls_at_rank (cut log).lists k ≡ []
 cut_ends log k past =
     let short = length-take 48 log.lists in
     get_or_past (take 48 log.lists) k [] (omega (arith, short, past))

@@ -17,9 +17,9 @@ pub record LogView : Type 0 where
   pub comms : List CommRule
   pub lists : List (List DataCall)
 
--- the calls of a rank
-abbrev pub calls_in_log : LogView → ℕ → List DataCall
-calls_in_log log r = slice_index_or log.lists r []
+-- the calls of a rank, of the lists of all ranks
+abbrev pub calls_at_rank : List (List DataCall) → ℕ → List DataCall
+calls_at_rank lists r = slice_index_or lists r []
 
 -- a message between rank r and another rank of the run
 pub record IsMessage (nue r peer : ℕ) (head : MessageHead) (bytes : List ℕ) : Type 0 where
@@ -44,5 +44,5 @@ pub record IsLog (log : LogView) : Type 0 where
   pub sixteen : length log.comms ≡ 16
   pub rules : AreRules log.comms
   pub ranks : length log.lists ≡ 48
-  pub no_others : (r : ℕ) → log.nue ≤ r → calls_in_log log r ≡ []
-  pub calls : (r : ℕ) → All (IsLogCall log.nue log.comms r) (calls_in_log log r)
+  pub no_others : (r : ℕ) → log.nue ≤ r → calls_at_rank log.lists r ≡ []
+  pub calls : (r : ℕ) → All (IsLogCall log.nue log.comms r) (calls_at_rank log.lists r)

@@ -6,11 +6,7 @@ use Rattle.scc_base.specs.Runs.{Runs}
 use Rattle.scc_base.specs.Setups.{SetupView, setup_key}
 use Rattle.scc_proto.specs.Legality.{Outgoing, Standing, CallStep, callers, owner_of, looks_at_slot, slot_after, Makes, OwnStep}
 use Rattle.rcce_audit.specs.declared.progress.Progress.{Progress}
-use Rattle.rcce_audit.specs.Logs.{IsLogCall}
-
--- the list of a rank
-abbrev pub calls_at_rank : List (List DataCall) → ℕ → List DataCall
-calls_at_rank lists k = slice_index_or lists k []
+use Rattle.rcce_audit.specs.Logs.{IsLogCall, calls_at_rank}
 
 -- lists that an audit can go through
 pub record AreLists (s : SetupView) (lists : List (List DataCall)) : Type 0 where

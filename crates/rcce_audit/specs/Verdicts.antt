@@ -6,18 +6,18 @@ use Rattle.scc_base.specs.Runs.{Runs, EndsAt}
 use Rattle.scc_proto.specs.Legality.{Outgoing, Standing, OwnStep, IsLegal, no_slots}
 use Rattle.rcce_audit.specs.declared.verdicts.Verdict.{Verdict}
 use Rattle.rcce_audit.specs.declared.verdicts.Verdict.TheVariants as verdict
-use Rattle.rcce_audit.specs.Logs.{LogView, calls_in_log}
+use Rattle.rcce_audit.specs.Logs.{LogView, calls_at_rank}
 use Rattle.rcce_audit.specs.Texts.{IsFileLog}
 
 -- the calls of a log are legal: from empty slots the steps of legality use them up wholly. Slots may be full at the end
 abbrev pub IsLegalLog : LogView → Type 0
-IsLegalLog log = (slots : ℕ → Option Outgoing) × IsLegal log.nue (key_of log.comms) (calls_in_log log) slots
+IsLegalLog log = (slots : ℕ → Option Outgoing) × IsLegal log.nue (key_of log.comms) (calls_at_rank log.lists) slots
 
 -- the steps of legality, taken from empty slots until nobody has one, come to this standing
 abbrev pub EndsIn : LogView → Standing → Type 0
 EndsIn log e =
     (n : ℕ) × Runs (OwnStep log.nue (key_of log.comms)) (EndsAt (OwnStep log.nue (key_of log.comms)) e) n (record {
-      calls = calls_in_log log;
+      calls = calls_at_rank log.lists;
       slots = no_slots;
     })
 
@@ -36,7 +36,7 @@ VerdictTells calls (verdict.No rank call) e = IsFirstLeft calls e rank call
 
 -- the verdict of a log: what the standing tells at which its steps end
 abbrev pub IsVerdict : LogView → Verdict → Type 0
-IsVerdict log v = (e : Standing) × EndsIn log e × VerdictTells (calls_in_log log) v e
+IsVerdict log v = (e : Standing) × EndsIn log e × VerdictTells (calls_at_rank log.lists) v e
 
 -- a function that tells the verdict of each log that a file may have
 abbrev pub IsJudge : (LogView → Verdict) → Type 0

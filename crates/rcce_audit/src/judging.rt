@@ -1,7 +1,8 @@
 //! The audit of a log.
 
 ghost use Rattle.std.specs.Prelude.{◌≡◌, ◌<◌, ◌↔◌, ℕ, length};
-ghost use Rattle.rcce_audit.specs.Standings.{AreLists, IsQuiet, Leads, Sleeps, SweepDoes, VisitDoes, calls_at_rank, standing_of};
+ghost use Rattle.rcce_audit.specs.Logs.{calls_at_rank};
+ghost use Rattle.rcce_audit.specs.Standings.{AreLists, IsQuiet, Leads, Sleeps, SweepDoes, VisitDoes, standing_of};
 ghost use Rattle.rcce_audit.specs.Verdicts.{IsLegalLog, IsVerdict, VerdictTells};
 ghost use Rattle.rcce_audit.specs.Views.{data_lists};
 

@@ -2,7 +2,7 @@
 
 ghost use Rattle.std.specs.Prelude.{◌≡◌, ◌≤◌, ℕ, List, Ok, []};
 ghost use Rattle.rcce_audit.specs.Grammar.{log_of};
-ghost use Rattle.rcce_audit.specs.Logs.{IsLog, LogView, calls_in_log};
+ghost use Rattle.rcce_audit.specs.Logs.{IsLog, LogView, calls_at_rank};
 ghost use Rattle.rcce_audit.specs.Sizes.{AreFew};
 ghost use Rattle.rcce_audit.specs.Texts.{IsFileLog, log_text};
 ghost use Rattle.rcce_audit.specs.declared.verdicts.Verdict.{Verdict};
@@ -19,12 +19,12 @@ pub fn text_law()
 
 /// A log with at most 10,000 calls of a rank, which move at most 262,144 bytes, is one that a file may have.
 pub fn size_law()
-    ensures fits { (log : LogView) → IsLog log → ((r : ℕ) → AreFew (calls_in_log log r)) → IsFileLog log }
+    ensures fits { (log : LogView) → IsLog log → ((r : ℕ) → AreFew (calls_at_rank log.lists r)) → IsFileLog log }
 {}
 
 /// A log has one verdict, and some function tells the verdict of each log that a file may have.
 pub fn verdict_law()
     ensures once { (log : LogView) (v w : Verdict) → IsVerdict log v → IsVerdict log w → v ≡ w }
-    ensures found { (log : LogView) → ((k : ℕ) → 48 ≤ k → calls_in_log log k ≡ []) → (v : Verdict) × IsVerdict log v }
+    ensures found { (log : LogView) → ((k : ℕ) → 48 ≤ k → calls_at_rank log.lists k ≡ []) → (v : Verdict) × IsVerdict log v }
     ensures judge { (judge : LogView → Verdict) × IsJudge judge }
 {}

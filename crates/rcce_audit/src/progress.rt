@@ -3,7 +3,8 @@
 ghost use Rattle.std.specs.Prelude.{◌≡◌, ◌<◌, ◌↔◌, ℕ, IsTrue, None, Some, length, option_and_then, option_map, slice_get, slice_index, slice_index_or};
 ghost use Rattle.scc_base.specs.Calls.{Bar, Recv};
 ghost use Rattle.scc_base.specs.Setups.{setup_key};
-ghost use Rattle.rcce_audit.specs.Standings.{Advances, AreLists, Sleeps, calls_left, calls_at_rank, outgoing_of, partner_of, slot_of_lists};
+ghost use Rattle.rcce_audit.specs.Logs.{calls_at_rank};
+ghost use Rattle.rcce_audit.specs.Standings.{Advances, AreLists, Sleeps, calls_left, outgoing_of, partner_of, slot_of_lists};
 ghost use Rattle.rcce_audit.specs.Views.{data_lists, data_of};
 
 use crate::logs::LogCall;
@@ -110,7 +111,7 @@ pub(crate) fn is_posted(
                 bytes: held,
             },
         ) => *to == target && same_message(sent.head(), held.as_slice(), head, bytes),
-        _ => false,
+        Some(LogCall::Send { .. } | LogCall::Recv { .. } | LogCall::Bar { .. }) | None => false,
     }
 }
 
@@ -136,7 +137,7 @@ pub(crate) fn is_receiving(
                 bytes: held,
             },
         ) => *from == sender && same_message(*asked, held.as_slice(), head, bytes),
-        _ => false,
+        Some(LogCall::Send { .. } | LogCall::Post { .. } | LogCall::Bar { .. }) | None => false,
     }
 }
 
@@ -154,7 +155,7 @@ pub(crate) fn is_at_barrier(
 {
     match first(lists, progress, rank) {
         Some(LogCall::Bar { comm: named }) => *named == comm,
-        _ => false,
+        Some(LogCall::Send { .. } | LogCall::Recv { .. } | LogCall::Post { .. }) | None => false,
     }
 }
 

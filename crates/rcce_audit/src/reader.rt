@@ -6,7 +6,7 @@ use crate::lines::{CommSplit, RankCall, begins_comm, call_said, comm_said};
 use crate::lists::{no_calls, push_call};
 use crate::logs::LogCall;
 use crate::words::words;
-use scc_base::{CommRule, Rank};
+use scc_base::{CommRule, Rank, world_alone};
 use std::alloc::{AllocError, Global};
 
 /// A log of which some lines are read.
@@ -36,12 +36,10 @@ impl Reader {
         requires most { nue ≤ 48 }
         ensures { IfOk result (λ reader. reading_of reader ≡ reading_start nue) }
     {
-        let mut comms = [CommRule::Absent; 16];
-        comms[0] = CommRule::World;
         let lists = no_calls(alloc)?;
         Ok(Reader {
             nue,
-            comms,
+            comms: world_alone(),
             lists,
             comm: 0,
             rank: None,

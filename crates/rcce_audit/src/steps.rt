@@ -7,7 +7,8 @@ ghost use Rattle.scc_base.specs.declared.communicators.CommRule.TheVariants.{Abs
 ghost use Rattle.scc_base.specs.Setups.{setup_key};
 ghost use Rattle.scc_base.specs.Heads.{MessageHead};
 ghost use Rattle.scc_proto.specs.Legality.{Meeting, Pairing, Posting, Taking, in_group};
-ghost use Rattle.rcce_audit.specs.Standings.{AreLists, Meets, Tries, TriesFirst, calls_at_rank};
+ghost use Rattle.rcce_audit.specs.Logs.{calls_at_rank};
+ghost use Rattle.rcce_audit.specs.Standings.{AreLists, Meets, Tries, TriesFirst};
 ghost use Rattle.rcce_audit.specs.Views.{data_lists};
 
 use crate::logs::LogCall;

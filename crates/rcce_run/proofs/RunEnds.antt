@@ -8,7 +8,7 @@ use Rattle.scc_proto.specs.Stages.{OnItsWay, Record}
 use Rattle.scc_proto.specs.Views.{View, view_of}
 use Rattle.scc_proto.specs.Words.{Memory}
 use Rattle.scc_mesh.specs.Scenes.{ChipView, about_in, events_in, records_in}
-use Rattle.script_reader.specs.Script.{Script, rules_of}
+use Rattle.script_rules.specs.Script.{Script, rules_of}
 use Rattle.script_machine.specs.declared.posts.Posted.{Posted}
 use Rattle.script_plain.specs.Collectives.{start_of_rank}
 use Rattle.script_machine.specs.declared.ends.UeEnd.TheVariants as ue_end

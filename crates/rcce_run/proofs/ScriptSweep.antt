@@ -15,7 +15,7 @@ use Rattle.scc_proto.specs.Records.{chunk_of}
 use Rattle.scc_proto.specs.Stages.{OnItsWay, Record}
 use Rattle.scc_proto.specs.Views.{view_of}
 use Rattle.scc_proto.specs.Words.{Memory}
-use Rattle.script_reader.specs.Script.{Script}
+use Rattle.script_rules.specs.Script.{Script}
 use Rattle.script_machine.specs.declared.posts.Posted.{Posted}
 use Rattle.script_plain.specs.Collectives.{start_of_rank}
 use Rattle.script_plain.specs.Meaning.{IsPlainStep, State, keys_of, next_of, plain_end, start_of, steps_left}

@@ -10,8 +10,8 @@ use Rattle.scc_proto.specs.Ports.{record_in}
 use Rattle.scc_proto.specs.Records.{record_of}
 use Rattle.scc_proto.specs.Stages.{Record}
 use Rattle.scc_mesh.specs.Scenes.{ChipView, about_in, events_in, records_in}
-use Rattle.script_reader.specs.Script.{Script}
-use Rattle.script_reader.specs.Settled.{IsWholeScript}
+use Rattle.script_rules.specs.Script.{Script}
+use Rattle.script_rules.specs.Settled.{IsWholeScript}
 use Rattle.script_machine.specs.declared.posts.Posted.{Posted}
 use Rattle.script_plain.specs.Collectives.{start_of_rank}
 use Rattle.script_machine.specs.Local.{Local, most_steps_left, local_next, local_start}

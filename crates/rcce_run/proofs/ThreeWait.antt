@@ -17,7 +17,7 @@ use Rattle.scc_proto.specs.Stages.{Idle, Barrier, blank}
 use Rattle.scc_proto.specs.Views.{view_of}
 use Rattle.scc_proto.specs.Words.{IsRun, zeros}
 use Rattle.scc_proto.proofs.Agreement.AgreementLaw.{agreement_of_lists}
-use Rattle.script_reader.specs.Script.{first_split, rules_of}
+use Rattle.script_rules.specs.Script.{first_split, rules_of}
 use Rattle.script_plain.specs.Collectives.{start_of_rank}
 use Rattle.script_machine.specs.Local.{gone_on, gone_on_with, local_next, local_start, stopped_at}
 use Rattle.script_plain.specs.Meaning.{State, next_of}

@@ -6,7 +6,7 @@ use Rattle.std.proofs.lemmas.List.FromFn.{get_or-enumerate_from, length-enumerat
 use Rattle.std.proofs.lemmas.Option.{slice_get-get_or, slice_get-map, slice_get_past}
 use Rattle.scc_base.specs.Calls.{DataCall}
 use Rattle.scc_base.specs.Calls as calls
-use Rattle.scc_base.specs.Setups.{SetupView}
+use Rattle.scc_base.specs.Setups.{IsSetup, SetupView}
 use Rattle.scc_proto.specs.Agreement.{Agrees}
 use Rattle.scc_proto.specs.Passed.{open_call}
 use Rattle.scc_proto.specs.Ports.{record_in}
@@ -14,8 +14,8 @@ use Rattle.scc_proto.specs.Stages.{OnItsWay, Record}
 use Rattle.scc_proto.specs.Views.{view_of}
 use Rattle.scc_proto.specs.Words.{Memory}
 use Rattle.scc_mesh.specs.Scenes.{ChipView, about_in, events_in, records_in}
-use Rattle.script_reader.specs.Script.{Script}
-use Rattle.script_reader.specs.Settled.{IsWholeScript}
+use Rattle.script_rules.specs.Script.{Script}
+use Rattle.script_rules.specs.Settled.{IsWholeScript}
 use Rattle.script_machine.specs.declared.posts.Posted.{Posted}
 use Rattle.script_plain.specs.Collectives.{CollectivesHold, start_of_rank}
 use Rattle.script_plain.specs.Ends.{Ended, end_of_rank, ended_at}
@@ -71,10 +71,10 @@ fresh_crew script chip crew fresh = record {
 pub fresh_run : (script : Script) (chip : ChipView) (crew : List (Member UeView)) → IsFreshCrew script chip crew → AllRun member_ue script crew
 fresh_run script chip crew fresh k d low = ap (λ (m : MachineView). m.script) (fresh.members.each k d (subst (λ (n : ℕ). k < n) fresh.members.count low)).fresh.machine
 
-pub fresh_some : (script : Script) (chip : ChipView) (crew : List (Member UeView)) (s : SetupView) → IsFreshCrew script chip crew → s ≡ about_in chip → 1 ≤ s.nue → 0 < length crew
-fresh_some script chip crew s fresh same ranks =
+pub fresh_some : (script : Script) (chip : ChipView) (crew : List (Member UeView)) → IsFreshCrew script chip crew → IsSetup (about_in chip) → 0 < length crew
+fresh_some script chip crew fresh valid =
     let each = fresh.members.count in
-    let some : 1 ≤ (about_in chip).nue = subst (λ (x : SetupView). 1 ≤ x.nue) same ranks in
+    let some = valid.some_ranks in
     omega (arith, each, some)
 
 -- members run their UEs

@@ -9,8 +9,8 @@ use Rattle.scc_proto.specs.Records.{record_of}
 use Rattle.scc_proto.specs.Stages.{OnItsWay, Record}
 use Rattle.scc_proto.proofs.Tests.{both_first, peers_from}
 use Rattle.scc_mesh.specs.Scenes.{blank_table, sight_away}
-use Rattle.script_reader.specs.Script.{Script}
-use Rattle.script_reader.specs.Settled.{IsWholeScript}
+use Rattle.script_rules.specs.Script.{Script}
+use Rattle.script_rules.specs.Settled.{IsWholeScript}
 use Rattle.script_machine.specs.declared.posts.Posted.{Posted}
 use Rattle.script_plain.specs.Collectives.{start_of_rank}
 use Rattle.script_machine.specs.Local.{Local}

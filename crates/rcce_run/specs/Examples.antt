@@ -8,11 +8,11 @@ use Rattle.scc_proto.specs.Examples.{loads, stores}
 use Rattle.scc_proto.specs.Histories.{memory_from, records_of}
 use Rattle.scc_proto.specs.Stages.{Record}
 use Rattle.scc_proto.specs.Words.{Memory, RankEvent, zeros}
-use Rattle.script_reader.specs.Script.{Script, rules_of}
-use Rattle.script_reader.specs.declared.script.Item.{Item}
-use Rattle.script_reader.specs.declared.script.Peer.TheVariants as peer
-use Rattle.script_reader.specs.declared.script.Stmt.TheVariants as stmt
-use Rattle.script_reader.specs.declared.script.Who.TheVariants as who
+use Rattle.script_rules.specs.Script.{Script, rules_of}
+use Rattle.script_rules.specs.declared.script.Item.{Item}
+use Rattle.script_rules.specs.declared.script.Peer.TheVariants as peer
+use Rattle.script_rules.specs.declared.script.Stmt.TheVariants as stmt
+use Rattle.script_rules.specs.declared.script.Who.TheVariants as who
 use Rattle.script_machine.specs.declared.posts.Posted.{Posted}
 use Rattle.script_plain.specs.Collectives.{start_of_rank}
 use Rattle.script_machine.specs.Local.{gone_on, local_start, stopped_at}

@@ -2,7 +2,7 @@
 use Rattle.std.specs.Prelude.{◌≡◌, ◌≤◌, ℕ, ◌*◌, sum_by}
 use Rattle.std.specs.List.{count_by}
 use Rattle.scc_proto.specs.Stages.{Record}
-use Rattle.script_reader.specs.Script.{Script}
+use Rattle.script_rules.specs.Script.{Script}
 use Rattle.script_machine.specs.Local.{most_steps_left, local_start}
 use Rattle.rcce_ue.specs.Standing.{bytes_sent}
 use Rattle.rcce_ue.specs.Ues.{UeView, capped_count, is_send_call}

@@ -11,7 +11,7 @@ use Rattle.scc_proto.specs.Passed.{open_call, passed_calls, slot_of}
 use Rattle.scc_proto.specs.Ports.{Sight}
 use Rattle.scc_proto.specs.Stages.{Record}
 use Rattle.scc_mesh.specs.Scenes.{ChipView, IsWhole, about_in, events_in, records_in, table_in}
-use Rattle.script_reader.specs.Script.{Script}
+use Rattle.script_rules.specs.Script.{Script}
 use Rattle.script_machine.specs.declared.ends.UeEnd.TheVariants as ue_end
 use Rattle.script_machine.specs.declared.posts.Posted.{Posted}
 use Rattle.script_plain.specs.Collectives.{CollectivesHold}

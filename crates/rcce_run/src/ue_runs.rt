@@ -5,7 +5,7 @@ ghost use Rattle.chip_run.specs.Runs.{InOrder};
 ghost use Rattle.chip_run.specs.Waiting.{NoneDrafts};
 ghost use Rattle.rcce_run.specs.UeRuns.{AreHome, AreLegal, IsFreshCrew, IsSameChip, RunGives, ue_members};
 ghost use Rattle.scc_mesh.specs.Scenes.{about_in, records_in};
-ghost use Rattle.script_reader.specs.Script.{Script};
+ghost use Rattle.script_rules.specs.Script.{Script};
 
 use chip_run::{Gate, Member, Mode, RunEnd};
 use line_cache::Evict;
@@ -41,7 +41,7 @@ pub fn run<V: Evict + Drop + Send, G: Gate + Sync, R: Threads + Sync>(
     // in each round; with a sweep behind each round.
     ensures order { InOrder ue_members mode chip.old crew.old chip.new crew.new }
 {
-    let _ = chip.setup().nue();
+    chip.known();
     let end = chip_run::run(rt, chip, crew, mode, gate);
     chip.agrees();
     end

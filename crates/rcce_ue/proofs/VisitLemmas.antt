@@ -2,13 +2,13 @@
 use Rattle.std.proofs.Common.{◌≡◌, ℕ, zero, suc, ◌+◌, ◌-◌, ◌*◌, ◌≤◌, Bool, true, false, cond, List, [], ◌∷◌, ◌++◌, length, map, Option, Some, None, arith, length-append}
 use Rattle.std.proofs.lemmas.List.{length-map}
 use Rattle.scc_base.specs.Setups.{SetupView}
-use Rattle.script_reader.specs.Script.{Script, has_rank}
-use Rattle.script_reader.specs.declared.script.Item.{Item}
-use Rattle.script_reader.specs.declared.script.Stmt.{Stmt}
+use Rattle.script_rules.specs.Script.{Script, has_rank}
+use Rattle.script_rules.specs.declared.script.Item.{Item}
+use Rattle.script_rules.specs.declared.script.Stmt.{Stmt}
 use Rattle.script_machine.specs.Program.{Act, Prim, Unrolled, acts_by, acts_of, begins, call_steps, collective_of, copies, in_front, nesting_at, part_of, prims_of, program_of, unrolled_repeat, setup_of, single_of, unrolled_items}
 use Rattle.script_machine.specs.declared.prims.Collective.{Collective}
-use Rattle.script_reader.specs.declared.effect.Nesting.{Nesting}
-use Rattle.script_reader.specs.declared.effect.Nesting.TheVariants as nesting
+use Rattle.script_rules.specs.declared.effect.Nesting.{Nesting}
+use Rattle.script_rules.specs.declared.effect.Nesting.TheVariants as nesting
 use Rattle.std.specs.Option.{option_to_list}
 use Rattle.rcce_ue.specs.Bounds.{Visits, item_visits, steps_by, visits, visits_in_front, visits_of, visits_repeated}
 

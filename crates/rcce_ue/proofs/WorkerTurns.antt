@@ -18,7 +18,6 @@ use Rattle.put_get.specs.Cores.{MadeSteps}
 use Rattle.sync_flags.specs.Tries.{Aim}
 use Rattle.sync_flags.specs.Turns.{waits_at}
 use Rattle.send_recv.specs.Ops.{RecvAt, SendAt}
-use Rattle.send_recv.specs.Turns as sr
 use Rattle.barrier.specs.Flags.{IsParityOf}
 use Rattle.barrier.specs.Stages.{BarAt}
 use Rattle.script_machine.specs.Local.{Local, local_next}

@@ -1,14 +1,14 @@
 -- How many turns a script gives a rank at most (this project's profile).
 use Rattle.std.specs.Prelude.{ℕ, ◌+◌, ◌-◌, ◌*◌, if◌then◌else◌, List, [], ◌∷◌, length}
 use Rattle.scc_base.specs.Setups.{SetupView}
-use Rattle.script_reader.specs.Script.{Script, has_rank}
-use Rattle.script_reader.specs.declared.script.Item.{Item}
+use Rattle.script_rules.specs.Script.{Script, has_rank}
+use Rattle.script_rules.specs.declared.script.Item.{Item}
 use Rattle.script_machine.specs.Lengths.{lengths_of}
 use Rattle.script_machine.specs.Local.{local_start}
 use Rattle.script_machine.specs.Program.{call_steps, collective_of, nesting_at, program_of, setup_of}
 use Rattle.script_machine.specs.declared.prims.Collective.{Collective}
-use Rattle.script_reader.specs.declared.effect.Nesting.{Nesting}
-use Rattle.script_reader.specs.declared.effect.Nesting.TheVariants as nesting
+use Rattle.script_rules.specs.declared.effect.Nesting.{Nesting}
+use Rattle.script_rules.specs.declared.effect.Nesting.TheVariants as nesting
 use Rattle.std.specs.Prelude.{Option, Some, None}
 use Rattle.rcce_ue.specs.Left.{bounds_left}
 

@@ -11,7 +11,7 @@ use Rattle.script_machine.specs.Lengths.{Lengths, asked_length, length_of_regist
 use Rattle.script_machine.specs.Local.{Local, local_next}
 use Rattle.script_machine.specs.Moves.{is_stopped}
 use Rattle.script_machine.specs.Next.{Next}
-use Rattle.script_machine.specs.Next.Next.{Posts, Sends, Recvs, Bars}
+use Rattle.script_machine.specs.Next.Next.{Ends, Goes, Posts, Sends, Recvs, Bars}
 use Rattle.script_machine.specs.Program.{Act, Prim}
 use Rattle.rcce_ue.specs.Ues.{UeView}
 use Rattle.rcce_ue.specs.declared.calls.Open.{Open}
@@ -29,7 +29,12 @@ bound_of s rank l (Act.Post to reg) = message_bound s.layout (min (length_of_reg
 bound_of s rank l (Act.Recv from reg head) = message_bound s.layout head.len
 bound_of s rank l (Act.Gather from head sized) = message_bound s.layout (asked_length l head sized)
 bound_of s rank l (Act.Bar comm) = barrier_bound s rank comm
-bound_of s rank l _ = 0
+bound_of s rank l (Act.Set reg content) = 0
+bound_of s rank l (Act.Own own) = 0
+bound_of s rank l (Act.Begin reg) = 0
+bound_of s rank l (Act.Fold op ty) = 0
+bound_of s rank l (Act.Accept reg) = 0
+bound_of s rank l (Act.Finish reg) = 0
 
 -- the sum of the bounds of primitives, by the lengths of the registers before the first of them
 abbrev pub bounds_left : SetupView → ℕ → Lengths → List Prim → ℕ
@@ -42,11 +47,12 @@ rest_of s rank u = length u.left + bounds_left s rank (lengths_of u) u.left
 
 -- the bound of the call that stands next
 abbrev pub next_bound : {U : Type 0} → SetupView → ℕ → Next U → ℕ
+next_bound s rank Ends = 0
+next_bound s rank (Goes after) = 0
 next_bound s rank (Posts message after) = message_bound s.layout message.head.len
 next_bound s rank (Sends to head bytes after) = message_bound s.layout head.len
 next_bound s rank (Recvs from head take refuse) = message_bound s.layout head.len
 next_bound s rank (Bars comm after) = barrier_bound s rank comm
-next_bound s rank _ = 0
 
 -- the turn that ends a call goes on to what comes next; behind a post there are two more, of its slot
 abbrev pub turns_at_end : Bool → ℕ

@@ -3,7 +3,7 @@
 use Rattle.std.specs.Prelude.{◌≡◌, ◌≢◌, ◌⊎◌, ℕ, Bool, true, false, List, length, take, Option, Some, None, option_map, sum_by}
 use Rattle.std.specs.List.{count_by}
 use Rattle.scc_base.specs.Calls.{DataCall}
-use Rattle.scc_base.specs.Calls.DataCall.{Send, Post}
+use Rattle.scc_base.specs.Calls.DataCall.{Send, Recv, Post, Bar}
 use Rattle.scc_base.specs.Heads.{MessageHead, most_message}
 use Rattle.scc_proto.specs.Messages.{Notes}
 use Rattle.scc_proto.specs.Ports.{Sight, record_in}
@@ -91,7 +91,8 @@ OpStands s c slot parity inbox (Meeting op) next = BarStands s c op parity × Is
 abbrev pub bytes_sent : DataCall → ℕ
 bytes_sent (Send to head bytes) = length bytes
 bytes_sent (Post to head bytes) = length bytes
-bytes_sent _ = 0
+bytes_sent (Recv from head bytes) = 0
+bytes_sent (Bar comm) = 0
 
 -- the slot is empty, or has the target of the message that was posted last
 abbrev pub IsLastTarget : SlotAt → Option Posted → Type 0

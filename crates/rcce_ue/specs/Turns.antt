@@ -11,8 +11,8 @@ use Rattle.scc_proto.specs.Ports.{Did, Seat, Sight, record_in}
 use Rattle.put_get.specs.Cores.{Private}
 use Rattle.send_recv.specs.Ops.{SlotAt}
 use Rattle.send_recv.specs.Ranks.{receiving, sending, holding_slot}
-use Rattle.send_recv.specs.Receiving.{RecvDoes, recv_spot}
-use Rattle.send_recv.specs.Sending.{SendDoes, SlotDoes, send_spot, slot_spot}
+use Rattle.send_recv.specs.Receiving.{RecvDoes, aim_of_receive}
+use Rattle.send_recv.specs.Sending.{SendDoes, SlotDoes, aim_of_send, slot_spot}
 use Rattle.send_recv.specs.Steps.{moves_on}
 use Rattle.send_recv.specs.Tries.{aim_at}
 use Rattle.send_recv.specs.Turns.{IsAtRest, LastHeld, OnlyTries, StoresFromBuffer}
@@ -43,8 +43,8 @@ slot_aim seat u slot = if not (is_stopped u) && is_ended (local_next u) then aim
 -- what the one try of a turn is for: what the call tries for that stands next, or the slot
 abbrev pub aim_by : Seat → Local → SlotAt → List Bool → Open → Option Aim
 aim_by seat u slot parity Nothing = slot_aim seat u slot
-aim_by seat u slot parity (Sending op) = aim_at seat.setup.layout (send_spot seat op slot)
-aim_by seat u slot parity (Receiving op) = aim_at seat.setup.layout (recv_spot seat op)
+aim_by seat u slot parity (Sending op) = aim_of_send seat op slot
+aim_by seat u slot parity (Receiving op) = aim_of_receive seat op
 aim_by seat u slot parity (Meeting op) = barrier.barrier_aim_at seat op.comm op.stage (flag_value (value_at parity op.comm))
 
 -- what the one try of a turn of a UE is for, with the parity after the turn

@@ -2,17 +2,17 @@
 use Rattle.std.specs.Prelude.{◌≡◌, ℕ, ◌-◌, ◌^◌, ◌<◌, Bool, true, false, min, List, Option, Some, None, is_none, if◌then◌else◌}
 use Rattle.put_get.specs.Cores.{Private}
 use Rattle.scc_base.specs.Calls.{DataCall}
-use Rattle.scc_base.specs.Calls.DataCall.{Send, Post}
+use Rattle.scc_base.specs.Calls.DataCall.{Send, Recv, Post, Bar}
 use Rattle.scc_base.specs.declared.calls.Call.{Call}
 use Rattle.scc_base.specs.declared.calls.Call.TheVariants as call
 use Rattle.send_recv.specs.Ops.{SlotAt, new_receive, new_send}
 use Rattle.barrier.specs.Stages.{new_barrier}
-use Rattle.script_reader.specs.Script.{rules_of}
-use Rattle.script_reader.specs.Settled.{IsWholeScript}
+use Rattle.script_rules.specs.Script.{rules_of}
+use Rattle.script_rules.specs.Settled.{IsWholeScript}
 use Rattle.script_machine.specs.Local.{local_next}
 use Rattle.script_machine.specs.Machine.{MachineView, on_its_way}
 use Rattle.script_machine.specs.Next.{Next, call_next}
-use Rattle.script_machine.specs.Next.Next.{Posts}
+use Rattle.script_machine.specs.Next.Next.{Ends, Goes, Posts, Sends, Recvs, Bars}
 use Rattle.script_machine.specs.declared.posts.OnItsWay.{OnItsWay}
 use Rattle.rcce_ue.specs.declared.calls.Open.{Open}
 use Rattle.rcce_ue.specs.declared.calls.Open.TheVariants.{Nothing, Sending, Receiving, Meeting}
@@ -62,12 +62,17 @@ capped_count n = min n (2 ^ 64 - 1)
 abbrev pub is_send_call : DataCall → Bool
 is_send_call (Send to head bytes) = true
 is_send_call (Post to head bytes) = true
-is_send_call _ = false
+is_send_call (Recv from head bytes) = false
+is_send_call (Bar comm) = false
 
 -- the message that a post leaves behind, where a post stands next
 abbrev pub posted_by : {U : Type 0} → Next U → Option OnItsWay → Option OnItsWay
 posted_by (Posts message after) earlier = Some (on_its_way message)
-posted_by _ earlier = earlier
+posted_by Ends earlier = earlier
+posted_by (Goes after) earlier = earlier
+posted_by (Sends to head bytes after) earlier = earlier
+posted_by (Recvs from head take refuse) earlier = earlier
+posted_by (Bars comm after) earlier = earlier
 
 -- the message in the slot, where it is full
 abbrev pub in_slot : {X : Type 0} → SlotAt → Option X → Option X

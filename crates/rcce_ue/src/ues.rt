@@ -12,7 +12,7 @@ use put_get::Core;
 use scc_base::{Call, Head, Rank, Setup, Turn};
 use scc_proto::Port;
 use script_machine::{Machine, OnItsWay, PrintedItem, UeEnd};
-use script_reader::Scripts;
+use script_rules::Scripts;
 use send_recv::{RecvTurn, Slot};
 use std::alloc::{AllocError, Global};
 use std::marker::Model;
@@ -60,7 +60,7 @@ fn posted_after(machine: &Machine<'_>, earlier: Option<OnItsWay>) -> Option<OnIt
             to: *to,
             head: *head,
         }),
-        _ => earlier,
+        Some(Call::Send { .. } | Call::Recv { .. } | Call::Bar { .. }) | None => earlier,
     }
 }
 
@@ -69,6 +69,7 @@ impl<'s, V: Evict> Ue<'s, V> {
     ghost use Rattle.scc_base.specs.declared.events.Spot.{Spot};
     ghost use Rattle.scc_proto.specs.Ports.{Sight};
     ghost use Rattle.put_get.specs.Cores.{MadeSteps};
+    ghost use Rattle.sync_flags.specs.Turns.{waits_at};
     ghost use Rattle.script_plain.specs.Collectives.{start_of_rank};
     ghost use Rattle.script_machine.specs.Moves.{bytes_out, is_passable, is_receiving, is_stopped, length_asked, after_pass, after_refusal, after_take, went};
     ghost use Rattle.script_machine.specs.Next.{is_going};
@@ -190,7 +191,7 @@ impl<'s, V: Evict> Ue<'s, V> {
 impl<'s, V: Evict + Drop> Ue<'s, V> {
     ghost use Rattle.std.specs.Prelude.{◌≡◌, ◌≤◌, ◌<◌, ◌+◌, [], IfOk};
     ghost use Rattle.scc_proto.specs.Ports.{Sight};
-    ghost use Rattle.script_reader.specs.Script.{rules_of};
+    ghost use Rattle.script_rules.specs.Script.{rules_of};
     ghost use Rattle.script_machine.specs.Local.{local_start};
     ghost use Rattle.rcce_ue.specs.Bounds.{bounds_of, visits};
     ghost use Rattle.rcce_ue.specs.Left.{ue_left};
@@ -234,7 +235,6 @@ impl<'s, V: Evict + Drop> Ue<'s, V> {
 impl<'s, V: Evict> Ue<'s, V> {
     ghost use Rattle.std.specs.Prelude.{◌≡◌, ◌<◌, false, not, length, slice_get, Option, Some};
     ghost use Rattle.std.specs.Option.{option_map};
-    ghost use Rattle.sync_flags.specs.Turns.{waits_at};
     ghost use Rattle.script_machine.specs.Local.{end_of};
     ghost use Rattle.script_machine.specs.Machine.{on_its_way};
     ghost use Rattle.script_machine.specs.Moves.{is_stopped};

@@ -2,9 +2,9 @@
 use Rattle.std.proofs.Common.{◌≡◌, ℕ, ◌≤◌, List, length, refl, sym, subst, ap, inl, Option, Some, Result, Ok, Err}
 use Rattle.rcce_io.specs.Files.{FilesView}
 use Rattle.script_reader.specs.declared.fault.ReadFault.{ReadFault}
-use Rattle.script_reader.specs.Faults.{kind_name}
+use Rattle.script_rules.specs.Kinds.{kind_name}
 use Rattle.script_reader.specs.Reading.{most_script_bytes, parse_script}
-use Rattle.script_reader.specs.Script.{Script}
+use Rattle.script_rules.specs.Script.{Script}
 use Rattle.outcomes.specs.Coming.{Comes, FileHolds, IsMeant}
 use Rattle.outcomes.specs.Complaints.{ReadsFile}
 use Rattle.outcomes.specs.Outcomes.{Outcome, file_refused}

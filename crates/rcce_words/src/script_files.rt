@@ -5,7 +5,8 @@ ghost use Rattle.rcce_words.specs.ScriptFiles.{ReadsBytes, ReadsScript};
 
 use outcomes::{Complaint, read_file};
 use rcce_io::Files;
-use script_reader::{MOST_SCRIPT_BYTES, ReadStop, Scripts, read_script};
+use script_reader::{MOST_SCRIPT_BYTES, ReadStop, read_script};
+use script_rules::Scripts;
 use std::alloc::Global;
 
 /// Reads the script in a file for a number of units of execution. A file of more than 4 MiB is refused, and one whose script has

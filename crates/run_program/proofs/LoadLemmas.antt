@@ -9,7 +9,7 @@ use Rattle.outcomes.specs.Plans.Plan.{Runs, Reads}
 use Rattle.outcomes.specs.declared.complaint.Complaint.{Complaint}
 use Rattle.script_reader.specs.Reading.{parse_script}
 use Rattle.script_reader.specs.declared.fault.ReadFault.{ReadFault}
-use Rattle.script_reader.specs.Script.{Script}
+use Rattle.script_rules.specs.Script.{Script}
 use Rattle.script_gen.specs.Scripts.{gen_script_of}
 use Rattle.script_gen.specs.Texts.{gen_text}
 use Rattle.rcce_words.specs.FaultTexts.{fault_text, word_numbered}

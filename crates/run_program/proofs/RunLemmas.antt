@@ -1,6 +1,6 @@
 -- The units of execution of a run at its end.
 use Rattle.std.proofs.Common.{◌≡◌, ℕ, ◌<◌, List, length, refl, sym, subst, ap, ◌∙◌, arith, slice_index_or, Option, Some, None}
-use Rattle.script_reader.specs.Script.{Script}
+use Rattle.script_rules.specs.Script.{Script}
 use Rattle.script_plain.specs.Ends.{all_finished, ended_at}
 use Rattle.script_plain.specs.Meaning.{plain_ends}
 use Rattle.rcce_run.specs.Crews.{EndsAs}

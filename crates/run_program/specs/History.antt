@@ -4,7 +4,7 @@ use Rattle.scc_base.specs.Calls.{DataCall}
 use Rattle.scc_base.specs.Setups.{SetupView}
 use Rattle.scc_proto.specs.Passed.{open_call}
 use Rattle.scc_mesh.specs.Scenes.{ChipView, IsNew, IsWhole, about_in, records_in}
-use Rattle.script_reader.specs.Script.{Script}
+use Rattle.script_rules.specs.Script.{Script}
 use Rattle.rcce_ue.specs.Ues.{UeView}
 use Rattle.chip_run.specs.declared.members.Member.{Member}
 use Rattle.chip_run.specs.declared.runs.Mode.{Mode}

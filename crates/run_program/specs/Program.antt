@@ -1,6 +1,6 @@
 -- What `rccerun` does on its words (this project's profile).
 use Rattle.std.specs.Prelude.{ℕ, List, codes, Option, Some, None, Result, Ok, Err}
-use Rattle.script_reader.specs.Script.{Script}
+use Rattle.script_rules.specs.Script.{Script}
 use Rattle.script_gen.specs.Scripts.{gen_script_of}
 use Rattle.outcomes.specs.Plans.{Plan, Program}
 use Rattle.outcomes.specs.Plans.Plan.{Runs, Refuses, Reads}

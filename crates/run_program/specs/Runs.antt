@@ -1,6 +1,6 @@
 -- The crew of a run at its end.
 use Rattle.std.specs.Prelude.{◌≡◌, ℕ, ◌*◌, ◌<◌, ◌≤◌, Option, None, Some, List, length, slice_get, slice_index_or, sum_by}
-use Rattle.script_reader.specs.Script.{Script}
+use Rattle.script_rules.specs.Script.{Script}
 use Rattle.script_plain.specs.Ends.{ended_at}
 use Rattle.script_machine.specs.Local.{most_steps_left, local_start}
 use Rattle.script_plain.specs.Meaning.{State, plain_end, plain_ends}

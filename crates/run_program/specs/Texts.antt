@@ -8,8 +8,8 @@ use Rattle.groups.specs.Folds.{bytes_in, typed_value_at}
 use Rattle.rcce_io.specs.Digits.{hex_text}
 use Rattle.rcce_io.specs.Sending.{joined_texts}
 use Rattle.scc_base.specs.Heads.{MessageHead, kind_at, kind_text}
-use Rattle.script_reader.specs.declared.script.Form.{Form}
-use Rattle.script_reader.specs.declared.script.Form.TheVariants as form
+use Rattle.script_rules.specs.declared.script.Form.{Form}
+use Rattle.script_rules.specs.declared.script.Form.TheVariants as form
 use Rattle.scc_base.specs.declared.calls.Call.{Call}
 use Rattle.scc_base.specs.declared.calls.Call.TheVariants as call
 

@@ -15,7 +15,7 @@ use rcce_io::Piece::{Number, Text};
 use rcce_io::{Sink, WriteFault, write_texts};
 use rcce_run::Crew;
 use scc_base::Rank;
-use script_reader::Scripts;
+use script_rules::Scripts;
 
 /// How many messages the ranks of a run have sent. The count stays at the largest value of u64 once it is there.
 pub fn sends_in(scripts: &Scripts, crew: &[Crew<'_, Choice>]) -> u64

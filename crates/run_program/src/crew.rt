@@ -2,14 +2,14 @@
 
 ghost use Rattle.std.specs.Prelude.{◌≡◌, IfOk};
 ghost use Rattle.rcce_run.specs.UeRuns.{AreFresh};
-ghost use Rattle.script_reader.specs.Script.{rules_of};
+ghost use Rattle.script_rules.specs.Script.{rules_of};
 ghost use Rattle.run_program.specs.Evictors.{HaveEvictors, evictor_of};
 
 use line_cache::{Choice, Seeded};
 use rcce_run::Crew;
 use rcce_ue::Ue;
 use scc_base::{Rank, Setup};
-use script_reader::Scripts;
+use script_rules::Scripts;
 use std::alloc::{AllocError, Global};
 
 /// A unit of execution for each rank, before its first turn. All their memory is taken here.

@@ -2,7 +2,7 @@
 
 ghost use Rattle.std.specs.Prelude.{◌≡◌, ◌++◌, codes};
 ghost use Rattle.rcce_io.specs.Sending.{Sends};
-ghost use Rattle.script_reader.specs.declared.script.Form.TheVariants.{Decimal, Hex};
+ghost use Rattle.script_rules.specs.declared.script.Form.TheVariants.{Decimal, Hex};
 ghost use Rattle.run_program.specs.Texts.{item_front, item_line, type_text};
 
 use crate::values::write_values;
@@ -10,7 +10,7 @@ use groups::Ty;
 use rcce_io::{Sink, TextSource, WriteFault, write_all, write_hex};
 use scc_base::Rank;
 use script_machine::PrintedItem;
-use script_reader::Form;
+use script_rules::Form;
 
 /// The line of a printed register.
 #[derive(Clone, Copy)]

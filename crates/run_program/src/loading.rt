@@ -24,7 +24,8 @@ use rcce_words::{
 };
 use scc_base::{CoreId, Layout};
 use script_gen::gen_script;
-use script_reader::{ReadStop, Scripts, read_script};
+use script_reader::{ReadStop, read_script};
+use script_rules::Scripts;
 use std::alloc::Global;
 
 /// Loads the run that the words ask for.

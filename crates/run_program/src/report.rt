@@ -10,7 +10,7 @@ use crate::items::ItemLine;
 use crate::lines::write_end;
 use rcce_io::{Buffer, Sink, WriteFault};
 use scc_base::Rank;
-use script_reader::Scripts;
+use script_rules::Scripts;
 
 /// Writes what the ranks of a script printed, by rank and in the order of printing.
 pub fn write_printed<T: Endings, S: Sink>(

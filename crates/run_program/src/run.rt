@@ -9,7 +9,7 @@ use rcce_io::{Sink, WriteFault};
 use rcce_run::Crew;
 use scc_base::Rank;
 use script_machine::{PrintedItem, UeEnd};
-use script_reader::Scripts;
+use script_rules::Scripts;
 use std::marker::Model;
 
 /// A script whose units of execution have come to its plain end, and the number that the script was made of, if it was. It is

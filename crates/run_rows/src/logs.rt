@@ -7,7 +7,8 @@ use chip_run::RunEnd;
 use log_run::{LogRun, has_room, run_script};
 use scc_base::{Layout, Rank};
 use scc_mesh::Chip;
-use script_reader::{Scripts, read_script};
+use script_reader::read_script;
+use script_rules::Scripts;
 use std::alloc::{AllocError, Global};
 
 const BYTES: &[u8] = &[1, 2, 3, 4];

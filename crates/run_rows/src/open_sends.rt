@@ -2,7 +2,7 @@
 
 ghost use Rattle.std.specs.Prelude.{◌≡◌, ◌<◌, IfOk};
 ghost use Rattle.scc_mesh.specs.Scenes.{IsWhole, about_in};
-ghost use Rattle.script_reader.specs.Script.{rules_of};
+ghost use Rattle.script_rules.specs.Script.{rules_of};
 
 use crate::runs::crew_of;
 use crate::scripts::{FOUR_BYTES, chip_with, setup_of};
@@ -12,7 +12,8 @@ use rcce_run::run;
 use scc_base::{Layout, Place, Rank, Setup, Signal};
 use scc_mesh::Chip;
 use scc_proto::Port;
-use script_reader::{Scripts, read_script};
+use script_reader::read_script;
+use script_rules::Scripts;
 use std::alloc::{AllocError, Global};
 use std::thread::Threads;
 
@@ -68,7 +69,7 @@ fn words_after<R: Threads + Sync>(
         return Ok(None);
     };
     let mut chip = chip_after(rt, alloc, scripts, &setup, mode)?;
-    let _ = chip.setup().nue();
+    chip.known();
     Ok(Some(words_of(&mut chip.port(Rank::of(0)))))
 }
 

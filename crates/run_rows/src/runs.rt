@@ -3,7 +3,7 @@
 ghost use Rattle.std.specs.Prelude.{◌≡◌, IfOk};
 ghost use Rattle.rcce_run.specs.UeRuns.{IsFreshCrew};
 ghost use Rattle.scc_mesh.specs.Scenes.{ChipView, IsNew};
-ghost use Rattle.script_reader.specs.Script.{rules_of};
+ghost use Rattle.script_rules.specs.Script.{rules_of};
 
 use crate::evictors::PerRank;
 use crate::scripts::{End, FOUR_BYTES, chip_with, has_printed, is_at, setup_of};
@@ -12,7 +12,8 @@ use line_cache::{Always, Evict, Never, Seeded};
 use rcce_run::{Crew, run};
 use rcce_ue::Ue;
 use scc_base::{Layout, Rank, Setup};
-use script_reader::{Scripts, read_script};
+use script_reader::read_script;
+use script_rules::Scripts;
 use std::alloc::{AllocError, Global};
 use std::thread::Threads;
 

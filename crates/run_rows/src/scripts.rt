@@ -2,14 +2,14 @@
 
 ghost use Rattle.std.specs.Prelude.{◌≡◌, IfOk, IfSome};
 ghost use Rattle.scc_mesh.specs.Scenes.{IsNew, about_in};
-ghost use Rattle.script_reader.specs.Script.{rules_of};
+ghost use Rattle.script_rules.specs.Script.{rules_of};
 
 use line_cache::Evict;
 use rcce_ue::Ue;
 use scc_base::{CoreId, Layout, Setup};
 use scc_mesh::Chip;
 use script_machine::UeEnd;
-use script_reader::Scripts;
+use script_rules::Scripts;
 use std::alloc::{AllocError, Global};
 
 /// Rank 0 sends four bytes to rank 1, which prints them.

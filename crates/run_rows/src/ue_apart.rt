@@ -4,7 +4,7 @@ ghost use Rattle.std.specs.Prelude.{◌≡◌, ◌<◌, ◌≤◌, ℕ, List, []
 ghost use Rattle.scc_base.specs.declared.events.Event.{Event};
 ghost use Rattle.scc_proto.specs.Ports.{Did};
 ghost use Rattle.scc_mesh.specs.Scenes.{IsNew, about_in};
-ghost use Rattle.script_reader.specs.Script.{rules_of};
+ghost use Rattle.script_rules.specs.Script.{rules_of};
 ghost use Rattle.rcce_ue.specs.Standing.{Tied};
 ghost use Rattle.chip_teams.specs.Teams.{sight_alone};
 ghost use Rattle.run_rows.specs.AwayPlayers.{StandsAway};
@@ -18,7 +18,8 @@ use rcce_ue::Ue;
 use scc_base::{Layout, Rank, Setup};
 use scc_mesh::{Chip, Token, Words};
 use scc_proto::Port;
-use script_reader::{Scripts, read_script};
+use script_reader::read_script;
+use script_rules::Scripts;
 use std::alloc::{AllocError, Global};
 use std::thread;
 use std::thread::Threads;

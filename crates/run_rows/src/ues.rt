@@ -1,7 +1,7 @@
 //! Whole scripts over a chip with one seat: each rank's unit of execution takes turns until none of them moves.
 
 ghost use Rattle.std.specs.Prelude.{◌≡◌, ◌+◌, ◌<◌, [], IfOk};
-ghost use Rattle.script_reader.specs.Script.{rules_of};
+ghost use Rattle.script_rules.specs.Script.{rules_of};
 ghost use Rattle.rcce_ue.specs.Standing.{Tied};
 ghost use Rattle.chip_teams.specs.Teams.{sight_alone};
 
@@ -12,7 +12,8 @@ use line_cache::Evict;
 use rcce_ue::Ue;
 use scc_base::{Layout, Rank, Setup, Turn};
 use scc_proto::Port;
-use script_reader::{Scripts, read_script};
+use script_reader::read_script;
+use script_rules::Scripts;
 use std::alloc::{AllocError, Global};
 use std::test::Fail;
 

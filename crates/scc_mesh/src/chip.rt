@@ -28,7 +28,7 @@ impl Chip {
     ghost use Rattle.std.specs.Prelude.{◌≡◌, ◌<◌, ℕ, None, Some, [], slice_set, IfOk, IfErr, Contains, ◌⊎◌, ◌≤◌};
     ghost use Rattle.scc_base.specs.Events.{load_of};
     ghost use Rattle.scc_base.specs.Places.{WordAt};
-    ghost use Rattle.scc_base.specs.Setups.{setup_key};
+    ghost use Rattle.scc_base.specs.Setups.{IsSetup, setup_key};
     ghost use Rattle.scc_proto.specs.Messages.{barriers_of};
     ghost use Rattle.scc_proto.specs.Words.{HeapWord, Memory, role_of};
     ghost use Rattle.scc_proto.specs.Passed.{passed_calls, slot_of};
@@ -72,6 +72,14 @@ impl Chip {
             unreachable!()
         };
         board.setup()
+    }
+
+    /// Does nothing. It tells a proof that the chip's setup is one that a run may have.
+    pub fn known(&self)
+        requires opened { IsOpen self.now }
+        ensures valid { IsSetup (about_in self.now) }
+    {
+        let _ = self.setup().nue();
     }
 
     /// The way of one rank to the shared words, in this thread.

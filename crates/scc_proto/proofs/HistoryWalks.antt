@@ -1,12 +1,16 @@
--- Steps that the walks of `src/history.rt` share: the making of a struct of one field. Assumes `Logic`.
+-- What the walks of `src/history.rt` share: what a walk begins with, and the making of a struct of one field. Assumes `Logic`.
 use Rattle.std.proofs.Common.{List, [], ◌∷◌, refl}
 use seplogic.Ra.Ura.{Ura}
 use mir.Val.{Val, vstruct, vcons, vnil}
 use types.Logic.{Logic}
-use types.Kit.{Goal, Step, step, Item, ‵, ◌$◌, move, fjoin, fpack, feq_i}
-use denote.RattleType.{RattleType, Valss}
+use types.Kit.{Goal, Step, step, Item, ‵, raw, ◌⊛◌, ◌$◌, move, fjoin, fpack, feq_i}
+use denote.RattleType.{RattleType, Valss, owns}
+use denote.Signature.{types_at}
 use denote.Steps.{nothing}
 use denote.Struct.Struct.{Struct, within}
+use denote.Triple.Clauses.{Clauses, Ended}
+use denote.Triple.Entry.{alive}
+use denote.Triple.Walked.{Stays, walk_of}
 
 -- a struct by its fields alone: what it owns does not read its name
 abbrev pub plainly : List RattleType → RattleType
@@ -23,3 +27,8 @@ module _ {M : Type 1} {𝓤 : Ura M} {𝓛 : Logic 𝓤} {K : Type 0} {Γ : List
   one_made t R x u = step (λ s.
       nothing t $ move t (1 ∷ 0 ∷ []) $ fjoin t $ feq_i t (List Val) (one u ∷ []) (one u ∷ []) refl $ fjoin t $
       fpack t (Valss (R ∷ [])) (within (record { name = []; args = []; types = []; fields = R ∷ [] }) (x, tt) (one u ∷ [])) (u ∷ [], tt) $ s)
+
+-- what a function's walk begins with: its arguments and what it requires
+module _ {M : Type 1} {𝓤 : Ura M} (𝓛 : Logic 𝓤) (ended : Ended) (stayed : Stays ended.signature.params ended.kept) (held : Clauses 𝓤 ended) (z : (walk_of 𝓛 ended stayed held).Ghost) where
+  abbrev pub entry : List (Item 𝓤)
+  entry = (raw (alive 𝓛 ended.signature z.0.0 z.0.1) ⊛ ‵ (owns (types_at ended.signature.params z.0.0) z.0.3 z.0.4)) ∷ raw ((held z.0.0 z.0.3).requires z.1) ∷ []

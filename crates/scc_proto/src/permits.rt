@@ -1,6 +1,7 @@
 //! What a record permits beside what it refuses, one condition a function: a stronger condition would refuse a list of these.
 
 ghost use Rattle.std.specs.Prelude.{[], ◌∷◌, ◌++◌};
+ghost use Rattle.scc_base.specs.Heads.{most_message, most_post};
 ghost use Rattle.scc_base.specs.declared.signals.Signal.TheVariants.{Sent, Ready};
 ghost use Rattle.scc_proto.specs.Moves.{DraftHeader, DraftChunk, RaiseSignal, LookSignal, ReadHeader, LowerSignal, FlipGather};
 ghost use Rattle.scc_proto.specs.Records.{look_at};
@@ -32,8 +33,8 @@ pub fn heads_are_free()
     ensures reduce { Permits (raises 2 7 4 0) }
     ensures all_up { Permits (raises 3 8 4 0) }
     ensures all_down { Permits (raises 4 15 4 0) }
-    ensures longest { Permits (raises 0 0 65536 0) }
-    ensures longest_post { Permits (raises 0 0 3584 1) }
+    ensures longest { Permits (raises 0 0 most_message 0) }
+    ensures longest_post { Permits (raises 0 0 most_post 1) }
     ensures empty { Permits (drafts_line 0 0 0 0 ++ RaiseSignal Sent 1 ∷ []) }
     ensures empty_post { Permits (drafts_line 0 0 0 1 ++ RaiseSignal Sent 1 ∷ []) }
 {}
@@ -42,7 +43,7 @@ pub fn heads_are_free()
 pub fn heads_are_read()
     ensures all_down { Permits (LookSignal Sent (look_at 0 1) ∷ ReadHeader 0 0 4 ∷ ReadHeader 0 1 15 ∷ ReadHeader 0 2 4
         ∷ LowerSignal Sent 0 ∷ []) }
-    ensures longest { Permits (reads_plain 0 65536 ++ LowerSignal Sent 0 ∷ []) }
+    ensures longest { Permits (reads_plain 0 most_message ++ LowerSignal Sent 0 ∷ []) }
     ensures unordered { Permits (LookSignal Sent (look_at 0 1) ∷ ReadHeader 0 2 4 ∷ ReadHeader 0 0 0 ∷ ReadHeader 0 1 0
         ∷ LowerSignal Sent 0 ∷ []) }
     ensures later { Permits (takes_first ++ LookSignal Sent (look_at 0 1) ∷ LowerSignal Sent 0 ∷ []) }

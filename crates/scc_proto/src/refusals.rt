@@ -1,7 +1,8 @@
 //! What a record does not permit, one condition a function: each list is permitted up to its end, and then
 //! one more move or event is not.
 
-ghost use Rattle.std.specs.Prelude.{[], ◌∷◌, ◌++◌};
+ghost use Rattle.std.specs.Prelude.{◌+◌, [], ◌∷◌, ◌++◌};
+ghost use Rattle.scc_base.specs.Heads.{most_message, most_post};
 ghost use Rattle.scc_base.specs.Places.{WordAt};
 ghost use Rattle.scc_base.specs.declared.signals.Signal.TheVariants.{Sent, Ready};
 ghost use Rattle.scc_proto.specs.Moves.{DraftHeader, DraftChunk, RaiseSignal, LookSignal, ReadHeader, ReadChunk, LowerSignal, FlipGather, LookGather, WriteRelease, LookRelease, StoreHeap};
@@ -24,7 +25,7 @@ pub fn header_is_valid()
     ensures kind { Refuses (drafts_line 5 0 4 0 ++ drafts_words 7) (RaiseSignal Sent 1) }
     ensures comm { Refuses (drafts_line 1 16 4 0 ++ drafts_words 7) (RaiseSignal Sent 1) }
     ensures plain { Refuses (drafts_line 0 1 4 0 ++ drafts_words 7) (RaiseSignal Sent 1) }
-    ensures len { Refuses (drafts_line 0 0 65537 0 ++ drafts_words 7) (RaiseSignal Sent 1) }
+    ensures len { Refuses (drafts_line 0 0 (most_message + 1) 0 ++ drafts_words 7) (RaiseSignal Sent 1) }
     ensures last { Refuses (drafts_line 0 0 4 2 ++ drafts_words 7) (RaiseSignal Sent 1) }
 {}
 
@@ -93,7 +94,7 @@ pub fn head_is_read()
         ∷ []) (LowerSignal Sent 0) }
     ensures invalid_plain { Refuses (LookSignal Sent (look_at 0 1) ∷ ReadHeader 0 0 0 ∷ ReadHeader 0 1 1 ∷ ReadHeader 0 2 4
         ∷ []) (LowerSignal Sent 0) }
-    ensures invalid_len { Refuses (reads_plain 0 65537) (LowerSignal Sent 0) }
+    ensures invalid_len { Refuses (reads_plain 0 (most_message + 1)) (LowerSignal Sent 0) }
     ensures before { Refuses (ReadHeader 0 0 0 ∷ ReadHeader 0 1 0 ∷ ReadHeader 0 2 4 ∷ LookSignal Sent (look_at 0 1)
         ∷ []) (LowerSignal Sent 0) }
     ensures anew { Refuses (reads_head ++ LookSignal Sent (look_at 0 1) ∷ []) (LowerSignal Sent 0) }
@@ -202,7 +203,7 @@ pub fn barrier_ends_at_release()
 
 /// A posted message is plain and has at most 3,584 bytes.
 pub fn post_is_short()
-    ensures len { Refuses (drafts_line 0 0 3585 1 ++ drafts_words 7) (RaiseSignal Sent 1) }
+    ensures len { Refuses (drafts_line 0 0 (most_post + 1) 1 ++ drafts_words 7) (RaiseSignal Sent 1) }
     ensures kind { Refuses (drafts_line 1 0 4 1 ++ drafts_words 7) (RaiseSignal Sent 1) }
 {}
 

@@ -181,7 +181,7 @@ fn sees_both<P: Port>(port: &mut P) -> bool {
 fn two_ranks_step_in_threads_of_their_own(rt: HostRuntime) -> Result<(), Fail> {
     let mut chip = opened_pair(rt.alloc())?;
     step_apart(&rt, &mut chip);
-    let _nue = chip.setup().nue();
+    chip.known();
     let mut port = chip.port(Rank::of(0));
     as_named(sees_both(&mut port))
 }

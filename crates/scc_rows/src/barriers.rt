@@ -187,7 +187,7 @@ fn entered_by_root(chip: &mut Chip, polls: u32) -> Result<(), BarStop>
     requires world { rule_of (about_in chip.old).comms 0 ≢ Absent }
     requires some { 1 ≤ polls }
 {
-    let _ = chip.setup().nue();
+    chip.known();
     let mut port = chip.port(Rank::of(0));
     let mut core = Core::new(Never);
     let mut parity = Parity::new();

@@ -5,7 +5,7 @@ use Rattle.scc_base.specs.declared.calls.Call.{Call}
 use Rattle.groups.specs.declared.operations.Ty.{Ty}
 use Rattle.groups.specs.Folds.{bytes_of_value}
 use Rattle.script_reader.specs.declared.fault.ReadFault.{ReadFault}
-use Rattle.script_reader.specs.declared.script.Form.TheVariants as form
+use Rattle.script_rules.specs.declared.script.Form.TheVariants as form
 use Rattle.script_reader.specs.Faults.{◌>>=◌}
 use Rattle.script_reader.specs.Reading.{parse_script}
 use Rattle.script_machine.specs.declared.ends.UeEnd.TheVariants as ue_end

@@ -4,7 +4,7 @@
 ghost use Rattle.std.specs.Prelude.{◌≡◌, [], ◌∷◌, codes, Ok, Err};
 ghost use Rattle.scc_base.specs.Heads.{plain_head};
 ghost use Rattle.scc_base.specs.declared.calls.Call.TheVariants.{Post, Recv};
-ghost use Rattle.script_reader.specs.declared.fault.FaultKind.TheVariants.{TooLong};
+ghost use Rattle.script_rules.specs.declared.fault.FaultKind.TheVariants.{TooLong};
 ghost use Rattle.script_examples.specs.Ends.{ends_of_text, finishes, posted_to, shows, stops, waits};
 
 /// A ring of four that all post first goes round.

@@ -3,7 +3,7 @@
 
 ghost use Rattle.std.specs.Prelude.{◌≡◌, codes, Err};
 ghost use Rattle.script_reader.specs.Reading.{parse_script};
-ghost use Rattle.script_reader.specs.declared.fault.FaultKind.TheVariants.{BadHex, BadNumber, NoSection, NotSplit, Shape, SelfMessage, StrayEnd, TooManyOps, UnclosedRepeat, UnknownComm, Unset, WrongCount};
+ghost use Rattle.script_rules.specs.declared.fault.FaultKind.TheVariants.{BadHex, BadNumber, NoSection, NotSplit, Shape, SelfMessage, StrayEnd, TooManyOps, UnclosedRepeat, UnknownComm, Unset, WrongCount};
 
 /// What a line says by itself.
 pub fn lines_are_refused()

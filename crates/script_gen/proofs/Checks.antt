@@ -11,18 +11,18 @@ use Rattle.groups.specs.declared.collectives.Coll.TheVariants as coll
 use Rattle.groups.specs.declared.collectives.Step.TheVariants as step
 use Rattle.scc_base.specs.declared.kinds.Kind.TheVariants as message_kind
 use Rattle.groups.proofs.StepLemmas.{folds_length, sends_length}
-use Rattle.script_reader.specs.declared.fault.FaultKind.{FaultKind}
-use Rattle.script_reader.specs.declared.fault.FaultKind.TheVariants as kind
-use Rattle.script_reader.specs.declared.script.Item.{Item}
-use Rattle.script_reader.specs.declared.script.Stmt.{Stmt}
-use Rattle.script_reader.specs.declared.script.Who.{Who}
-use Rattle.script_reader.specs.declared.version.Version.TheVariants as version
-use Rattle.script_reader.specs.Checks.{cost_of, has_no_parent, has_no_root, has_split, is_misshapen, is_not_split, is_stray, is_to_self, is_too_deep, is_too_long, is_unknown, is_unset, length_at, open_of, operations, posts_too_much, bytes_printed, prints, refuses, run_of, some_below, turns_in, turns_too_often}
-use Rattle.script_reader.specs.Effects.{effect_of}
+use Rattle.script_rules.specs.declared.fault.FaultKind.{FaultKind}
+use Rattle.script_rules.specs.declared.fault.FaultKind.TheVariants as kind
+use Rattle.script_rules.specs.declared.script.Item.{Item}
+use Rattle.script_rules.specs.declared.script.Stmt.{Stmt}
+use Rattle.script_rules.specs.declared.script.Who.{Who}
+use Rattle.script_rules.specs.declared.version.Version.TheVariants as version
+use Rattle.script_rules.specs.Checks.{cost_of, has_no_parent, has_no_root, has_split, is_misshapen, is_not_split, is_stray, is_to_self, is_too_deep, is_too_long, is_unknown, is_unset, length_at, open_of, operations, posts_too_much, bytes_printed, prints, refuses, run_of, some_below, turns_in, turns_too_often}
+use Rattle.script_rules.specs.Effects.{effect_of}
 use Rattle.script_reader.specs.Faults.{◌>>=◌}
-use Rattle.script_reader.specs.Limits.{most_names, most_operations, most_printed}
+use Rattle.script_rules.specs.Limits.{most_names, most_operations, most_printed}
 use Rattle.script_reader.specs.Progress.{ReadingSoFar, fault_table, first_fault, has_fault, is_refused, place}
-use Rattle.script_reader.specs.Script.{has_rank}
+use Rattle.script_rules.specs.Script.{has_rank}
 use Rattle.script_gen.specs.Scripts.{item_of}
 
 pub or_false : (a b : Bool) → a ≡ false → b ≡ false → (a || b) ≡ false

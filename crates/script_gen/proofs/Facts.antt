@@ -9,11 +9,11 @@ use Rattle.groups.specs.declared.collectives.Coll.TheVariants as coll
 use Rattle.groups.specs.declared.operations.Op.TheVariants as op
 use Rattle.groups.specs.declared.operations.Ty.TheVariants as ty
 use Rattle.groups.specs.Collectives.{steps_of}
-use Rattle.script_reader.specs.declared.script.Item.{Item}
-use Rattle.script_reader.specs.declared.script.Stmt.TheVariants as stmt
-use Rattle.script_reader.specs.Checks.{cost_of, is_known, is_to_self, open_of, operations, run_of, turns_in}
-use Rattle.script_reader.specs.Effects.{effect_of}
-use Rattle.script_reader.specs.Limits.{most_operations}
+use Rattle.script_rules.specs.declared.script.Item.{Item}
+use Rattle.script_rules.specs.declared.script.Stmt.TheVariants as stmt
+use Rattle.script_rules.specs.Checks.{cost_of, is_known, is_to_self, open_of, operations, run_of, turns_in}
+use Rattle.script_rules.specs.Effects.{effect_of}
+use Rattle.script_rules.specs.Limits.{most_operations}
 use Rattle.script_gen.specs.Scripts.{recv_last, send_next}
 use Rattle.script_gen.proofs.Checks.{AreLight, allreduce_short, part, worked}
 

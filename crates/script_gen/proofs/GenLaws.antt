@@ -4,7 +4,7 @@ use Rattle.std.specs.Prelude.{◌==◌}
 use Rattle.std.proofs.lemmas.Bool.{cases_lt, ne_eqb}
 use Rattle.script_reader.specs.declared.fault.ReadFault.{ReadFault}
 use Rattle.script_reader.specs.Reading.{parse_script}
-use Rattle.script_reader.specs.Script.{Script}
+use Rattle.script_rules.specs.Script.{Script}
 use Rattle.script_gen.specs.Scripts.{gen_script_of, lone_script, ring_script}
 use Rattle.script_gen.specs.Texts.{gen_text}
 use Rattle.script_gen.proofs.Lone.{lone_law}

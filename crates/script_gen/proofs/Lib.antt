@@ -9,6 +9,7 @@ pub mod Reading
 pub mod RingSaid
 pub mod RingPasses
 pub mod Ring
+pub mod SectionReads
 pub mod Sections
 pub mod Usual
 pub mod Sums

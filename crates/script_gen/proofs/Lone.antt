@@ -1,29 +1,30 @@
 -- The script of a number for one rank: what the reader reads in its text.
-use Rattle.std.proofs.Common.{◌≡◌, ℕ, ◌+◌, ◌*◌, ◌%◌, ◌≤◌, true, false, List, [], ◌∷◌, ◌++◌, length, map, reverse, take, drop, codes, decimal, Ok, refl, ◌∙◌, arith}
+use Rattle.std.proofs.Common.{◌≡◌, ℕ, ◌+◌, ◌*◌, ◌%◌, ◌≤◌, true, false, List, [], ◌∷◌, ◌++◌, length, map, reverse, take, drop, codes, decimal, Ok, refl, arith}
 use Rattle.std.specs.Prelude.{◌==◌, nat_lt}
 use Rattle.std.proofs.lemmas.Fmt.{length-decimal-le}
 use Rattle.groups.specs.declared.operations.Op.TheVariants as op
 use Rattle.groups.specs.declared.operations.Ty.TheVariants as ty
-use Rattle.script_reader.specs.declared.script.Form.TheVariants as form
-use Rattle.script_reader.specs.declared.script.Item.{Item}
-use Rattle.script_reader.specs.declared.script.OwnStmt.TheVariants as own
-use Rattle.script_reader.specs.declared.script.Stmt.TheVariants as stmt
-use Rattle.script_reader.specs.declared.script.Who.{Who}
-use Rattle.script_reader.specs.declared.script.Who.TheVariants as who
-use Rattle.script_reader.specs.declared.version.Version.TheVariants as version
-use Rattle.script_reader.specs.Checks.{cost_of, open_of, operations, run_of, turns_in}
-use Rattle.script_reader.specs.Effects.{effect_of}
-use Rattle.script_reader.specs.Limits.{most_operations}
+use Rattle.script_rules.specs.declared.script.Form.TheVariants as form
+use Rattle.script_rules.specs.declared.script.Item.{Item}
+use Rattle.script_rules.specs.declared.script.OwnStmt.TheVariants as own
+use Rattle.script_rules.specs.declared.script.Stmt.TheVariants as stmt
+use Rattle.script_rules.specs.declared.script.Who.{Who}
+use Rattle.script_rules.specs.declared.script.Who.TheVariants as who
+use Rattle.script_rules.specs.declared.version.Version.TheVariants as version
+use Rattle.script_rules.specs.Checks.{cost_of, open_of, operations, run_of, turns_in}
+use Rattle.script_rules.specs.Effects.{effect_of}
+use Rattle.script_rules.specs.Limits.{most_operations}
 use Rattle.script_reader.specs.Progress.{ReadingSoFar, start}
 use Rattle.script_reader.specs.Reading.{at_end, most_script_bytes, parse_script, read_lines}
 use Rattle.texts.specs.Cuts.{line_count}
 use Rattle.script_gen.specs.Scripts.{item_of, lone_script}
 use Rattle.script_gen.specs.Texts.{text_of_lines, turns_of}
-use Rattle.script_gen.proofs.Checks.{AreLight, Passes, clears, not_above, passing, placed, stage}
+use Rattle.script_gen.proofs.Checks.{AreLight, Passes, clears, not_above, passing, stage}
 use Rattle.script_gen.proofs.Facts.{light_sum, none_odd, work}
 use Rattle.script_gen.proofs.Lines.{AreLines, line_of}
 use Rattle.script_gen.proofs.BothScripts.{end_are, even_are, fill_are, names_1, names_2, odd_are, printme_are, rank_are, repeat_are, sum_are}
-use Rattle.script_gen.proofs.Reading.{allreduce_is, fill_is, go, repeat_is, text_read, text_short}
+use Rattle.script_gen.proofs.Reading.{allreduce_is, fill_is, go, text_read, text_short}
+use Rattle.script_gen.proofs.SectionReads.{head_reads, next, tail_reads}
 
 -- its lines, as words
 abbrev pub lone_words : ℕ → ℕ → List (List (List ℕ))
@@ -213,46 +214,22 @@ module _ (s t : ℕ) (small : s ≤ 65535) (least : 1 ≤ t) (few : t ≤ 10) wh
       (go 0 (start version.One 1) (at 1 s t 0 [] who.Even) (codes "even") []
       (rest s t 1) _ even_are
       refl
-      (go 1 (at 1 s t 0 [] who.Even) (at 1 s t 1 names_1 who.Even) (codes "fill") (codes "h" ∷ decimal s ∷ decimal s ∷ [])
-      (rest s t 2) _ (fill_are s small)
-      (fill_is 2 (at 1 s t 0 [] who.Even) s small ∙ placed 1 (take 0 (lone_said s t)) names_1 who.Even (stmt.Fill 0 s s) pass_0 2 refl)
-      (go 2 (at 1 s t 1 names_1 who.Even) (at 1 s t 2 names_2 who.Even) (codes "rank") (codes "me" ∷ codes "long" ∷ [])
-      (rest s t 3) _ rank_are
-      (placed 1 (take 1 (lone_said s t)) names_2 who.Even (stmt.RankOf 1 ty.Long) pass_1 3 refl)
-      (go 3 (at 1 s t 2 names_2 who.Even) (at 1 s t 3 names_2 who.Even) (codes "repeat") (decimal t ∷ [])
-      (rest s t 4) _ (repeat_are t few)
-      (repeat_is 4 (at 1 s t 2 names_2 who.Even) t least few ∙ placed 1 (take 2 (lone_said s t)) names_2 who.Even (stmt.Repeat t 0) pass_2 4 refl)
-      (go 4 (at 1 s t 3 names_2 who.Even) (at 1 s t 4 names_2 who.Even) (codes "allreduce") (codes "0" ∷ codes "sum" ∷ codes "long" ∷ codes "me" ∷ codes "me" ∷ [])
-      (rest s t 5) _ sum_are
-      (allreduce_is 5 (at 1 s t 3 names_2 who.Even) ∙ placed 1 (take 3 (lone_said s t)) names_2 who.Even (stmt.Allreduce 0 op.Sum ty.Long 1 1) pass_3 5 refl)
-      (go 5 (at 1 s t 4 names_2 who.Even) (at 1 s t 5 names_2 who.Even) (codes "end") []
-      (rest s t 6) _ end_are
-      (placed 1 (take 4 (lone_said s t)) names_2 who.Even (stmt.End 2) pass_4 6 refl)
-      (go 6 (at 1 s t 5 names_2 who.Even) (at 1 s t 6 names_2 who.Even) (codes "print") (codes "long" ∷ codes "me" ∷ [])
-      (rest s t 7) _ printme_are
-      (placed 1 (take 5 (lone_said s t)) names_2 who.Even (stmt.Own (own.Print 1 (form.Decimal ty.Long))) pass_5 7 refl)
+      (head_reads 1 1 (take 0 (lone_said s t)) who.Even s t [] names_1 names_2 (rest s t 4) _ small least few
+      (fill_is 2 (at 1 s t 0 [] who.Even) s small) refl pass_0 pass_1 pass_2 refl refl
+      (tail_reads 1 4 (take 3 (lone_said s t)) who.Even names_2 2 (rest s t 6) _
+      (allreduce_is 5 (at 1 s t 3 names_2 who.Even)) refl pass_3 pass_4 refl
+      (next 1 6 (take 5 (lone_said s t)) names_2 names_2 who.Even (stmt.Own (own.Print 1 (form.Decimal ty.Long))) (codes "print") (codes "long" ∷ codes "me" ∷ [])
+      (rest s t 7) _ printme_are refl pass_5 refl
       (go 7 (at 1 s t 6 names_2 who.Even) (at 1 s t 6 names_2 who.Odd) (codes "odd") []
       (rest s t 8) _ odd_are
       refl
-      (go 8 (at 1 s t 6 names_2 who.Odd) (at 1 s t 7 names_2 who.Odd) (codes "fill") (codes "h" ∷ decimal s ∷ decimal s ∷ [])
-      (rest s t 9) _ (fill_are s small)
-      (fill_is 9 (at 1 s t 6 names_2 who.Odd) s small ∙ placed 1 (take 6 (lone_said s t)) names_2 who.Odd (stmt.Fill 0 s s) pass_6 9 refl)
-      (go 9 (at 1 s t 7 names_2 who.Odd) (at 1 s t 8 names_2 who.Odd) (codes "rank") (codes "me" ∷ codes "long" ∷ [])
-      (rest s t 10) _ rank_are
-      (placed 1 (take 7 (lone_said s t)) names_2 who.Odd (stmt.RankOf 1 ty.Long) pass_7 10 refl)
-      (go 10 (at 1 s t 8 names_2 who.Odd) (at 1 s t 9 names_2 who.Odd) (codes "repeat") (decimal t ∷ [])
-      (rest s t 11) _ (repeat_are t few)
-      (repeat_is 11 (at 1 s t 8 names_2 who.Odd) t least few ∙ placed 1 (take 8 (lone_said s t)) names_2 who.Odd (stmt.Repeat t 0) pass_8 11 refl)
-      (go 11 (at 1 s t 9 names_2 who.Odd) (at 1 s t 10 names_2 who.Odd) (codes "allreduce") (codes "0" ∷ codes "sum" ∷ codes "long" ∷ codes "me" ∷ codes "me" ∷ [])
-      (rest s t 12) _ sum_are
-      (allreduce_is 12 (at 1 s t 9 names_2 who.Odd) ∙ placed 1 (take 9 (lone_said s t)) names_2 who.Odd (stmt.Allreduce 0 op.Sum ty.Long 1 1) pass_9 12 refl)
-      (go 12 (at 1 s t 10 names_2 who.Odd) (at 1 s t 11 names_2 who.Odd) (codes "end") []
-      (rest s t 13) _ end_are
-      (placed 1 (take 10 (lone_said s t)) names_2 who.Odd (stmt.End 8) pass_10 13 refl)
-      (go 13 (at 1 s t 11 names_2 who.Odd) (at 1 s t 12 names_2 who.Odd) (codes "print") (codes "long" ∷ codes "me" ∷ [])
-      (rest s t 14) _ printme_are
-      (placed 1 (take 11 (lone_said s t)) names_2 who.Odd (stmt.Own (own.Print 1 (form.Decimal ty.Long))) pass_11 14 refl)
-      refl))))))))))))))
+      (head_reads 1 8 (take 6 (lone_said s t)) who.Odd s t names_2 names_2 names_2 (rest s t 11) _ small least few
+      (fill_is 9 (at 1 s t 6 names_2 who.Odd) s small) refl pass_6 pass_7 pass_8 refl refl
+      (tail_reads 1 11 (take 9 (lone_said s t)) who.Odd names_2 8 (rest s t 13) _
+      (allreduce_is 12 (at 1 s t 9 names_2 who.Odd)) refl pass_9 pass_10 refl
+      (next 1 13 (take 11 (lone_said s t)) names_2 names_2 who.Odd (stmt.Own (own.Print 1 (form.Decimal ty.Long))) (codes "print") (codes "long" ∷ codes "me" ∷ [])
+      (rest s t 14) _ printme_are refl pass_11 refl
+      refl))))))))
 
   fits : nat_lt most_script_bytes (length (text_of_lines (map line_of (lone_words s t)))) ≡ false
   fits =

@@ -2,11 +2,11 @@
 use Rattle.std.proofs.Common.{◌≡◌, ℕ, ◌+◌, ◌*◌, ◌≤◌, Bool, true, false, cond, List, [], ◌∷◌, Option, Some, None, unwrap_or, refl, ◌∙◌, ap, arith}
 use Rattle.std.specs.Option.{option_or}
 use Rattle.std.proofs.lemmas.Bool.{cond-false}
-use Rattle.script_reader.specs.declared.script.Item.{Item}
-use Rattle.script_reader.specs.Checks.{length_at, open_of, bytes_printed, prints, run_of, set_by, sets_to, turns_in}
-use Rattle.script_reader.specs.Effects.{effect_of}
-use Rattle.script_reader.specs.Limits.{most_printed}
-use Rattle.script_reader.specs.Script.{has_rank}
+use Rattle.script_rules.specs.declared.script.Item.{Item}
+use Rattle.script_rules.specs.Checks.{length_at, open_of, bytes_printed, prints, run_of, set_by, sets_to, turns_in}
+use Rattle.script_rules.specs.Effects.{effect_of}
+use Rattle.script_rules.specs.Limits.{most_printed}
+use Rattle.script_rules.specs.Script.{has_rank}
 
 abbrev pub AreOthers : ℕ → List Item → Type 0
 AreOthers rank [] = Unit {0}

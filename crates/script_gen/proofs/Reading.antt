@@ -4,19 +4,19 @@ use Rattle.std.specs.Prelude.{nat_le, nat_lt}
 use Rattle.std.proofs.lemmas.Bool.{and_from, cond-true, le-leb}
 use Rattle.groups.specs.declared.operations.Op.TheVariants as op
 use Rattle.groups.specs.declared.operations.Ty.TheVariants as ty
-use Rattle.script_reader.specs.declared.fault.FaultKind.{FaultKind}
-use Rattle.script_reader.specs.declared.fault.FaultKind.TheVariants as kind
+use Rattle.script_rules.specs.declared.fault.FaultKind.{FaultKind}
+use Rattle.script_rules.specs.declared.fault.FaultKind.TheVariants as kind
 use Rattle.script_reader.specs.declared.fault.ReadFault.{ReadFault}
-use Rattle.script_reader.specs.declared.script.Peer.TheVariants as peer
-use Rattle.script_reader.specs.declared.script.Stmt.TheVariants as stmt
-use Rattle.script_reader.specs.declared.version.Version.{Version}
-use Rattle.script_reader.specs.declared.version.Version.TheVariants as version
+use Rattle.script_rules.specs.declared.script.Peer.TheVariants as peer
+use Rattle.script_rules.specs.declared.script.Stmt.TheVariants as stmt
+use Rattle.script_rules.specs.declared.version.Version.{Version}
+use Rattle.script_rules.specs.declared.version.Version.TheVariants as version
 use Rattle.script_reader.specs.Faults.{◌>>=◌}
-use Rattle.script_reader.specs.Limits.{most_operations}
+use Rattle.script_rules.specs.Limits.{most_operations}
 use Rattle.script_reader.specs.Progress.{ReadingSoFar, after_script_line, with_known_name, place, register_of, start}
 use Rattle.script_reader.specs.Reading.{at_end, at_line, past_opening, most_script_bytes, parse_script, read_all_lines, read_line, read_lines, read_words, version_of}
 use Rattle.script_reader.specs.Said.{said_of}
-use Rattle.script_reader.specs.Script.{Script}
+use Rattle.script_rules.specs.Script.{Script}
 use Rattle.texts.specs.Cuts.{line_count, lines_of}
 use Rattle.texts.specs.Numbers.{number_of}
 use Rattle.texts.proofs.DecimalLemmas.{number_of-decimal}

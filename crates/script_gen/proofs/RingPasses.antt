@@ -3,14 +3,14 @@ use Rattle.std.proofs.Common.{◌≡◌, ℕ, ◌+◌, ◌*◌, ◌%◌, ◌≤�
 use Rattle.std.specs.Prelude.{◌==◌, is_none}
 use Rattle.groups.specs.declared.operations.Op.TheVariants as op
 use Rattle.groups.specs.declared.operations.Ty.TheVariants as ty
-use Rattle.script_reader.specs.declared.script.Form.TheVariants as form
-use Rattle.script_reader.specs.declared.script.Item.{Item}
-use Rattle.script_reader.specs.declared.script.OwnStmt.TheVariants as own
-use Rattle.script_reader.specs.declared.script.Stmt.TheVariants as stmt
-use Rattle.script_reader.specs.declared.script.Who.TheVariants as who
-use Rattle.script_reader.specs.Checks.{cost_of, differs, is_ragged, length_at, open_of, operations, bytes_printed, run_of, turns_in}
-use Rattle.script_reader.specs.Effects.{effect_of}
-use Rattle.script_reader.specs.Limits.{most_operations}
+use Rattle.script_rules.specs.declared.script.Form.TheVariants as form
+use Rattle.script_rules.specs.declared.script.Item.{Item}
+use Rattle.script_rules.specs.declared.script.OwnStmt.TheVariants as own
+use Rattle.script_rules.specs.declared.script.Stmt.TheVariants as stmt
+use Rattle.script_rules.specs.declared.script.Who.TheVariants as who
+use Rattle.script_rules.specs.Checks.{cost_of, differs, is_ragged, length_at, open_of, operations, bytes_printed, run_of, turns_in}
+use Rattle.script_rules.specs.Effects.{effect_of}
+use Rattle.script_rules.specs.Limits.{most_operations}
 use Rattle.script_gen.specs.Scripts.{item_of, recv_last, send_next}
 use Rattle.script_gen.proofs.Checks.{AreLight, Passes, clears, not_above, passing}
 use Rattle.script_gen.proofs.Facts.{light_sum, odd_other, recv_other, send_other, work}

@@ -3,13 +3,13 @@ use Rattle.std.proofs.Common.{◌≡◌, ℕ, ◌%◌, true, List, [], ◌∷◌
 use Rattle.std.specs.Prelude.{◌==◌}
 use Rattle.groups.specs.declared.operations.Op.TheVariants as op
 use Rattle.groups.specs.declared.operations.Ty.TheVariants as ty
-use Rattle.script_reader.specs.declared.script.Form.TheVariants as form
-use Rattle.script_reader.specs.declared.script.Item.{Item}
-use Rattle.script_reader.specs.declared.script.OwnStmt.TheVariants as own
-use Rattle.script_reader.specs.declared.script.Stmt.TheVariants as stmt
-use Rattle.script_reader.specs.declared.script.Who.{Who}
-use Rattle.script_reader.specs.declared.script.Who.TheVariants as who
-use Rattle.script_reader.specs.Checks.{length_at}
+use Rattle.script_rules.specs.declared.script.Form.TheVariants as form
+use Rattle.script_rules.specs.declared.script.Item.{Item}
+use Rattle.script_rules.specs.declared.script.OwnStmt.TheVariants as own
+use Rattle.script_rules.specs.declared.script.Stmt.TheVariants as stmt
+use Rattle.script_rules.specs.declared.script.Who.{Who}
+use Rattle.script_rules.specs.declared.script.Who.TheVariants as who
+use Rattle.script_rules.specs.Checks.{length_at}
 use Rattle.script_reader.specs.Progress.{ReadingSoFar}
 use Rattle.script_gen.specs.Scripts.{item_of, recv_last, send_next}
 use Rattle.script_gen.proofs.Checks.{stage}

@@ -2,9 +2,9 @@
 use Rattle.std.proofs.Common.{◌≡◌, ℕ, Bool, true, false, cond, List, [], ◌∷◌, ◌++◌, codes, decimal, refl, sym, ◌∙◌, ap, append_assoc}
 use Rattle.std.proofs.lemmas.Bool.{eq-eqb, ne_eqb}
 use Rattle.std.proofs.lemmas.List.{append-nil}
-use Rattle.rcce_io.specs.Sending.{joined_texts}
-use Rattle.script_gen.specs.Pieces.{section_text}
-use Rattle.script_gen.specs.Texts.{fill_line, gen_text, recv_line, send_line, text_of_lines, turns_of}
+use Rattle.rcce_io.specs.Sending.{SinkView, joined_texts, with_text}
+use Rattle.rcce_io.proofs.SendingLemmas.{text_after}
+use Rattle.script_gen.specs.Texts.{fill_line, gen_text, recv_line, section_text, send_line, text_of_lines, turns_of}
 
 pub text_append : (xs ys : List (List ℕ)) → text_of_lines (xs ++ ys) ≡ text_of_lines xs ++ text_of_lines ys
 text_append [] ys = refl
@@ -48,18 +48,31 @@ section_is ranks s exchange shown =
     (tail_lines exchange shown)
 
 -- a section as it is put behind a text
-parts : (old r f d b m t l e a w p : List ℕ)
-    → ((old ++ (r ++ (f ++ (d ++ (b ++ (d ++ (m ++ (t ++ l)))))))) ++ e) ++ (a ++ (w ++ p))
-    ≡ old ++ (r ++ (f ++ (d ++ (b ++ (d ++ (m ++ (t ++ (l ++ (e ++ (a ++ (w ++ p)))))))))))
-parts old r f d b m t l e a w p = simp append_assoc
+parts : (r f d b m t l e a w p : List ℕ)
+    → (r ++ (f ++ (d ++ (b ++ (d ++ (m ++ (t ++ l))))))) ++ (e ++ (a ++ (w ++ p)))
+    ≡ r ++ (f ++ (d ++ (b ++ (d ++ (m ++ (t ++ (l ++ (e ++ (a ++ (w ++ p))))))))))
+parts r f d b m t l e a w p = simp append_assoc
 
-pub section_parts : (old ranks : List ℕ) (s : ℕ) (exchange shown : List ℕ)
-    → ((old ++ joined_texts (ranks ∷ codes "\nfill h " ∷ decimal s ∷ codes " " ∷ decimal s ∷ codes "\nrank me long\nrepeat " ∷ decimal (turns_of s) ∷ codes "\n" ∷ [])) ++ exchange)
-    ++ joined_texts (codes "allreduce 0 sum long me me\nend\n" ∷ shown ∷ codes "print long me\n" ∷ [])
-    ≡ old ++ section_text ranks s exchange shown
+-- the lines of a section before those of the ring, and behind them
+abbrev pub front_text : List ℕ → ℕ → List ℕ
+front_text ranks s =
+    joined_texts (ranks ∷ codes "\nfill h " ∷ decimal s ∷ codes " " ∷ decimal s ∷ codes "\nrank me long\nrepeat " ∷ decimal (turns_of s) ∷ codes "\n" ∷ [])
+
+abbrev pub back_text : List ℕ → List ℕ
+back_text shown = joined_texts (codes "allreduce 0 sum long me me\nend\n" ∷ shown ∷ codes "print long me\n" ∷ [])
+
+section_parts : (ranks : List ℕ) (s : ℕ) (exchange shown : List ℕ) → front_text ranks s ++ (exchange ++ back_text shown) ≡ section_text ranks s exchange shown
 unfolding section_text
-section_parts old ranks s exchange shown =
-    parts old ranks (codes "\nfill h ") (decimal s) (codes " ") (codes "\nrank me long\nrepeat ") (decimal (turns_of s)) (codes "\n") exchange (codes "allreduce 0 sum long me me\nend\n") shown (codes "print long me\n")
+section_parts ranks s exchange shown =
+    parts ranks (codes "\nfill h ") (decimal s) (codes " ") (codes "\nrank me long\nrepeat ") (decimal (turns_of s)) (codes "\n") exchange (codes "allreduce 0 sum long me me\nend\n") shown (codes "print long me\n")
+
+-- a section that was put behind a text in three parts
+pub section_put : (ranks : List ℕ) (s : ℕ) (exchange shown : List ℕ) (old first second third : SinkView)
+    → first ≡ with_text (front_text ranks s) old → second ≡ with_text exchange first → third ≡ with_text (back_text shown) second
+    → third ≡ with_text (section_text ranks s exchange shown) old
+section_put ranks s exchange shown old first second third front more back =
+    text_after old first third (front_text ranks s) (exchange ++ back_text shown) front (text_after first second third exchange (back_text shown) more back)
+    ∙ ap (λ (t : List ℕ). with_text t old) (section_parts ranks s exchange shown)
 
 -- the lines of a script, by whether there is one rank alone
 abbrev section_by : Bool → List ℕ → ℕ → List (List ℕ) → List (List ℕ)
@@ -106,8 +119,3 @@ ring_text nue s other =
     ∙ ap (λ (t : List ℕ). text_of_lines (section_of (codes "even") s even shown) ++ t) (sym (section_is (codes "odd") s odd shown))
     ∙ sym (text_append (section_of (codes "even") s even shown) (section_of (codes "odd") s odd shown))
     ∙ sym (gen_ring nue s other)
-
--- one more piece behind a text
-pub step_more : (old text new done piece more : List ℕ) → new ≡ text ++ piece → text ≡ old ++ done → more ≡ done ++ piece → new ≡ old ++ more
-step_more old text new done piece more put so_far next =
-    put ∙ ap (λ (t : List ℕ). t ++ piece) so_far ∙ append_assoc old done piece ∙ ap (λ (t : List ℕ). old ++ t) (sym next)

@@ -8,13 +8,13 @@ use Rattle.groups.specs.Collectives.{steps_of}
 use Rattle.groups.specs.declared.collectives.Coll.TheVariants as coll
 use Rattle.groups.specs.declared.collectives.Step.{Step}
 use Rattle.groups.specs.declared.collectives.Step.TheVariants as step
-use Rattle.script_reader.specs.declared.script.Item.{Item}
-use Rattle.script_reader.specs.declared.script.Stmt.{Stmt}
-use Rattle.script_reader.specs.declared.script.Stmt.TheVariants as stmt
-use Rattle.script_reader.specs.Effects.{effect_of}
-use Rattle.script_reader.specs.Script.{Script, has_rank}
-use Rattle.script_reader.specs.declared.effect.Nesting.{Nesting}
-use Rattle.script_reader.specs.declared.effect.Nesting.TheVariants as nesting
+use Rattle.script_rules.specs.declared.script.Item.{Item}
+use Rattle.script_rules.specs.declared.script.Stmt.{Stmt}
+use Rattle.script_rules.specs.declared.script.Stmt.TheVariants as stmt
+use Rattle.script_rules.specs.Effects.{effect_of}
+use Rattle.script_rules.specs.Script.{Script, has_rank}
+use Rattle.script_rules.specs.declared.effect.Nesting.{Nesting}
+use Rattle.script_rules.specs.declared.effect.Nesting.TheVariants as nesting
 use Rattle.script_machine.specs.declared.prims.Operands.{Operands}
 use Rattle.script_machine.specs.Program.{Act, Prim, Unrolled, acts_of, call_steps, can_call, copies, in_front, nesting_at, part_of, begins, prims_of, program_of, unrolled_repeat, setup_of, unrolled_items}
 use Rattle.script_machine.specs.Program.Act.{Post}

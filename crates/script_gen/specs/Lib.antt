@@ -1,4 +1,3 @@
 pub mod Outcome
-pub mod Pieces
 pub mod Scripts
 pub mod Texts

@@ -9,7 +9,7 @@ use Rattle.script_plain.specs.Ends.{Ended}
 use Rattle.script_plain.specs.Matches.{plain_matches}
 use Rattle.script_plain.specs.Meaning.{State, plain_ends}
 use Rattle.script_plain.specs.Step.{Configuration}
-use Rattle.script_reader.specs.Script.{Script}
+use Rattle.script_rules.specs.Script.{Script}
 use Rattle.script_gen.specs.Scripts.{gen_script_of}
 
 -- how many messages a call has sent: a send or a post one, another call none

@@ -32,6 +32,13 @@ section_lines ranks nue s exchange =
     ++ (with_others nue (codes "print g" ∷ [])
     ++ (codes "print long me" ∷ []))))
 
+-- a section, where the lines of a turn round the ring, and those that print what came, are given as they stand in the text
+unfoldable pub section_text : List ℕ → ℕ → List ℕ → List ℕ → List ℕ
+section_text ranks s exchange shown =
+    joined_texts (ranks ∷ codes "\nfill h " ∷ decimal s ∷ codes " " ∷ decimal s ∷ codes "\nrank me long\nrepeat "
+    ∷ decimal (turns_of s) ∷ codes "\n"
+    ∷ exchange ∷ codes "allreduce 0 sum long me me\nend\n" ∷ shown ∷ codes "print long me\n" ∷ [])
+
 -- the lines of the script of a number s for nue ranks: the even ranks send first, and the odd ones receive first
 abbrev pub gen_lines : ℕ → ℕ → List (List ℕ)
 gen_lines nue s =

@@ -1,12 +1,12 @@
 //! The text of a generated script.
 
-ghost use Rattle.std.specs.Prelude.{◌≡◌, ◌≤◌, ◌++◌, IfOk, OnOk, map};
-ghost use Rattle.rcce_io.specs.Sending.{joined_texts};
-ghost use Rattle.script_gen.specs.Pieces.{gen_piece_text, section_text};
-ghost use Rattle.script_gen.specs.Texts.{gen_text};
+ghost use Rattle.std.specs.Prelude.{◌≡◌, ◌≤◌, IfOk, OnOk, map};
+ghost use Rattle.rcce_io.specs.Pieces.{piece_text};
+ghost use Rattle.rcce_io.specs.Sending.{joined_texts, with_text};
+ghost use Rattle.script_gen.specs.Texts.{gen_text, section_text};
 
-use crate::pieces::Piece::{Number, Text};
-use crate::pieces::{Piece, push_all};
+use rcce_io::Piece::{Number, Text};
+use rcce_io::{GrowingText, Piece};
 use std::alloc::{AllocError, Global};
 use texts::Bytes;
 
@@ -18,53 +18,47 @@ pub fn gen_script(alloc: Global, nue: u8, s: u32) -> Result<Bytes, AllocError>
     requires short { s ≤ 65535 }
     ensures { IfOk result (λ text. text ≡ gen_text nue s) }
 {
-    let mut text = Vec::new(alloc);
+    let mut text = GrowingText::new(alloc);
     if nue == 1 {
         push_section(&mut text, "even", s, &[], "")?;
         push_section(&mut text, "odd", s, &[], "")?;
     } else {
-        let even = [Text("send +1 h\nrecv -1 g "), Number(s), Text("\n")];
-        let odd = [Text("recv -1 g "), Number(s), Text("\nsend +1 h\n")];
+        let even = [Text("send +1 h\nrecv -1 g "), Number(s as u64), Text("\n")];
+        let odd = [Text("recv -1 g "), Number(s as u64), Text("\nsend +1 h\n")];
         push_section(&mut text, "even", s, &even, "print g\n")?;
         push_section(&mut text, "odd", s, &odd, "print g\n")?;
     }
-    Ok(Bytes::from_vec(text))
+    Ok(text.into_bytes())
 }
 
 /// Puts the section of these ranks behind a text: `exchange` are the lines of a turn round the ring, and `shown` are those
 /// that print what came.
 fn push_section(
-    text: &mut Vec<u8>,
+    text: &mut GrowingText,
     ranks: &'static str,
     s: u32,
-    exchange: &[Piece],
+    exchange: &[Piece<'static>],
     shown: &'static str,
 ) -> Result<(), AllocError>
-    ensures { OnOk result (text.new.items
-        ≡ text.old.items ++ section_text ranks.now s (joined_texts (map gen_piece_text exchange.now)) shown.now) }
+    ensures { OnOk result (text.new
+        ≡ with_text (section_text ranks.now s (joined_texts (map piece_text exchange.now)) shown.now) text.old) }
 {
     let turns = 1 + s % 10;
-    push_all(
-        text,
-        &[
-            Text(ranks),
-            Text("\nfill h "),
-            Number(s),
-            Text(" "),
-            Number(s),
-            Text("\nrank me long\nrepeat "),
-            Number(turns),
-            Text("\n"),
-        ],
-    )?;
-    push_all(text, exchange)?;
-    push_all(
-        text,
-        &[
-            Text("allreduce 0 sum long me me\nend\n"),
-            Text(shown),
-            Text("print long me\n"),
-        ],
-    )?;
+    text.push(&[
+        Text(ranks),
+        Text("\nfill h "),
+        Number(s as u64),
+        Text(" "),
+        Number(s as u64),
+        Text("\nrank me long\nrepeat "),
+        Number(turns as u64),
+        Text("\n"),
+    ])?;
+    text.push(exchange)?;
+    text.push(&[
+        Text("allreduce 0 sum long me me\nend\n"),
+        Text(shown),
+        Text("print long me\n"),
+    ])?;
     Ok(())
 }

@@ -3,7 +3,6 @@
 
 mod generate;
 mod laws;
-mod pieces;
 
 pub use generate::gen_script;
 pub use laws::{generated_scripts_are_read, generated_scripts_are_short, sent_messages_came};

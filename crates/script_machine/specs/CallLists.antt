@@ -4,7 +4,7 @@ use Rattle.std.specs.Prelude.{ℕ, min, List, [], ◌∷◌, ◌++◌, Some, Non
 use Rattle.scc_base.specs.Heads.{plain_head, most_post}
 use Rattle.scc_base.specs.declared.calls.Call.{Call}
 use Rattle.scc_base.specs.declared.calls.Call.TheVariants as call
-use Rattle.script_reader.specs.Script.{Script}
+use Rattle.script_rules.specs.Script.{Script}
 use Rattle.script_machine.specs.Lengths.{Lengths, length_of_register, lengths_after, lengths_of, source_length}
 use Rattle.script_machine.specs.Local.{local_start, head_with_length}
 use Rattle.script_machine.specs.Program.{Act, Prim, program_of}

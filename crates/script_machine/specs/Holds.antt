@@ -1,6 +1,6 @@
 -- What the machine of a rank holds, and what a statement of the rank alone does to it.
 use Rattle.std.specs.Prelude.{ℕ, ◌+◌, ◌<◌, ◌≤◌, List, [], ◌∷◌, ◌++◌, length, replicate, slice_index_or, slice_set}
-use Rattle.script_reader.specs.declared.script.OwnStmt.TheVariants as own
+use Rattle.script_rules.specs.declared.script.OwnStmt.TheVariants as own
 use Rattle.script_machine.specs.declared.held.Held.{Held}
 use Rattle.script_machine.specs.declared.prims.Action.{Action}
 use Rattle.script_machine.specs.declared.prims.Action.TheVariants as action

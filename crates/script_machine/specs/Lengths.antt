@@ -2,7 +2,7 @@
 -- program before it runs (this project's profile).
 use Rattle.std.specs.Prelude.{ℕ, ◌+◌, List, map, length, slice_index_or, slice_set, sum_by, Option, Some, None}
 use Rattle.scc_base.specs.Heads.{MessageHead}
-use Rattle.script_reader.specs.declared.script.OwnStmt.TheVariants as own
+use Rattle.script_rules.specs.declared.script.OwnStmt.TheVariants as own
 use Rattle.script_machine.specs.Printed.{Printed}
 use Rattle.script_machine.specs.declared.prims.Source.{Source}
 use Rattle.script_machine.specs.declared.prims.Source.TheVariants as source

@@ -8,9 +8,9 @@ use Rattle.scc_base.specs.declared.calls.Call.TheVariants as call
 use Rattle.groups.specs.declared.operations.Op.{Op}
 use Rattle.groups.specs.declared.operations.Ty.{Ty}
 use Rattle.groups.specs.Folds.{bytes_in, fold_values}
-use Rattle.script_reader.specs.declared.script.OwnStmt.{OwnStmt}
-use Rattle.script_reader.specs.declared.script.OwnStmt.TheVariants as own
-use Rattle.script_reader.specs.Script.{Script}
+use Rattle.script_rules.specs.declared.script.OwnStmt.{OwnStmt}
+use Rattle.script_rules.specs.declared.script.OwnStmt.TheVariants as own
+use Rattle.script_rules.specs.Script.{Script}
 use Rattle.script_machine.specs.declared.ends.UeEnd.{UeEnd}
 use Rattle.script_machine.specs.declared.ends.UeEnd.TheVariants as ue_end
 use Rattle.script_machine.specs.declared.posts.Posted.{Posted}

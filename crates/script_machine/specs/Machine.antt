@@ -1,7 +1,7 @@
 -- What is seen of the machine that runs the program of a rank.
 use Rattle.std.specs.Prelude.{ℕ}
 use Rattle.scc_base.specs.Setups.{SetupView}
-use Rattle.script_reader.specs.Script.{Script}
+use Rattle.script_rules.specs.Script.{Script}
 use Rattle.script_machine.specs.Local.{Local}
 use Rattle.script_machine.specs.declared.posts.OnItsWay.{OnItsWay}
 use Rattle.script_machine.specs.declared.posts.Posted.{Posted}

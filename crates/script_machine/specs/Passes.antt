@@ -1,7 +1,7 @@
 -- The passes of a repeat in which no other repeat stands, and what a stretch of a program asks of rooms.
 use Rattle.std.specs.Prelude.{◌≡◌, ℕ, List, [], ◌∷◌, ◌++◌, map, drop, Option, Some, None}
 use Rattle.scc_base.specs.Setups.{SetupView}
-use Rattle.script_reader.specs.declared.script.Item.{Item}
+use Rattle.script_rules.specs.declared.script.Item.{Item}
 use Rattle.script_machine.specs.declared.course.Open.{Open}
 use Rattle.script_machine.specs.Lengths.{Lengths}
 use Rattle.script_machine.specs.Program.{Prim, copies, unrolled_marks, prims_in}

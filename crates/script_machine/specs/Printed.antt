@@ -1,6 +1,6 @@
 -- A printed register.
 use Rattle.std.specs.Prelude.{ℕ, List}
-use Rattle.script_reader.specs.declared.script.Form.{Form}
+use Rattle.script_rules.specs.declared.script.Form.{Form}
 
 -- which register was printed, in which form, and its bytes
 pub record Printed : Type 0 where

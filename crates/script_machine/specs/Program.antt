@@ -18,18 +18,18 @@ use Rattle.groups.specs.declared.operations.Ty.TheVariants as ty
 use Rattle.groups.specs.Collectives.{comm_of, len_of, steps_of}
 use Rattle.groups.specs.Folds.{bytes_of_value}
 use Rattle.script_machine.specs.declared.prims.Collective.{Collective}
-use Rattle.script_reader.specs.declared.effect.Nesting.{Nesting}
-use Rattle.script_reader.specs.declared.effect.Nesting.TheVariants as nesting
+use Rattle.script_rules.specs.declared.effect.Nesting.{Nesting}
+use Rattle.script_rules.specs.declared.effect.Nesting.TheVariants as nesting
 use Rattle.script_machine.specs.declared.prims.Operands.{Operands}
 use Rattle.script_machine.specs.declared.prims.Source.{Source}
 use Rattle.script_machine.specs.declared.prims.Source.TheVariants as source
-use Rattle.script_reader.specs.Checks.{has_root, is_absent}
-use Rattle.script_reader.specs.Effects.{effect_of, parent_of}
-use Rattle.script_reader.specs.declared.script.Item.{Item}
-use Rattle.script_reader.specs.declared.script.OwnStmt.{OwnStmt}
-use Rattle.script_reader.specs.declared.script.Stmt.{Stmt}
-use Rattle.script_reader.specs.declared.script.Stmt.TheVariants as stmt
-use Rattle.script_reader.specs.Script.{Script, has_rank, peer_of, rules_of}
+use Rattle.script_rules.specs.Checks.{has_root, is_absent}
+use Rattle.script_rules.specs.Effects.{effect_of, parent_of}
+use Rattle.script_rules.specs.declared.script.Item.{Item}
+use Rattle.script_rules.specs.declared.script.OwnStmt.{OwnStmt}
+use Rattle.script_rules.specs.declared.script.Stmt.{Stmt}
+use Rattle.script_rules.specs.declared.script.Stmt.TheVariants as stmt
+use Rattle.script_rules.specs.Script.{Script, has_rank, peer_of, rules_of}
 
 -- what a primitive does
 pub data Act : Type 0 where

@@ -1,6 +1,6 @@
 -- The rooms of a machine that takes all its memory at the start: what is in them, and that they hold what the program brings.
 use Rattle.std.specs.Prelude.{ℕ, ◌+◌, ◌≤◌, nat_lt, if◌then◌else◌, List, [], ◌∷◌, take, drop, replicate}
-use Rattle.script_reader.specs.declared.script.OwnStmt.TheVariants as own
+use Rattle.script_rules.specs.declared.script.OwnStmt.TheVariants as own
 use Rattle.script_machine.specs.Printed.{Printed}
 use Rattle.script_machine.specs.declared.prims.Standing.{Standing}
 use Rattle.script_machine.specs.declared.prints.Entry.{Entry}

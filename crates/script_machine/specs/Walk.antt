@@ -6,12 +6,12 @@ use Rattle.script_machine.specs.declared.prims.Action.{Action}
 use Rattle.script_machine.specs.declared.prims.Action.TheVariants as action
 use Rattle.script_machine.specs.declared.prims.Content.{Content}
 use Rattle.script_machine.specs.declared.prims.Content.TheVariants as content
-use Rattle.script_reader.specs.declared.effect.Nesting.{Nesting}
-use Rattle.script_reader.specs.declared.effect.Nesting.TheVariants as nesting
+use Rattle.script_rules.specs.declared.effect.Nesting.{Nesting}
+use Rattle.script_rules.specs.declared.effect.Nesting.TheVariants as nesting
 use Rattle.script_machine.specs.declared.prims.Primitive.{Primitive}
 use Rattle.script_machine.specs.declared.course.Open.{Open}
-use Rattle.script_reader.specs.declared.script.Item.{Item}
-use Rattle.script_reader.specs.Script.{Script}
+use Rattle.script_rules.specs.declared.script.Item.{Item}
+use Rattle.script_rules.specs.Script.{Script}
 use Rattle.script_machine.specs.Program.{Act, Prim, Unrolled, copies, filling, unrolled_marks, marks_of, prims_in}
 use Rattle.script_machine.specs.Program.Act.{Set, Own, Send, Post, Recv, Gather, Bar, Begin, Fold, Accept, Finish}
 use Rattle.groups.specs.Folds.{bytes_of_value}

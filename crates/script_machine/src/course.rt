@@ -2,7 +2,7 @@
 
 ghost use Rattle.std.specs.Prelude.{◌≡◌, ◌<◌, ◌≤◌, ◌+◌, drop, length, slice_get, IfOk};
 ghost use Rattle.std.specs.VecDeque.{deque_capacity};
-ghost use Rattle.script_reader.specs.Script.{IsSized};
+ghost use Rattle.script_rules.specs.Script.{IsSized};
 ghost use Rattle.script_machine.specs.Depths.{HasRoom, IsDeep, IsIdleFrom, IsIdleTo};
 ghost use Rattle.script_machine.specs.Program.{marks_of, nesting_at, prims_of};
 ghost use Rattle.script_machine.specs.Walk.{AreOpenAt, HasMoreMarks, repeats_behind_pass, closed_to, left_at, repeats_behind_begin, repeats_behind_marks, passed_to};
@@ -11,7 +11,7 @@ use crate::nestings::{depth_behind, end_passes, ends_pass, flat_passes, nesting_
 use crate::prims::Primitive;
 use crate::statements::{action_of, count};
 use scc_base::{Rank, Setup};
-use script_reader::{Item, Nesting, Scripts};
+use script_rules::{Item, Nesting, Scripts};
 use std::alloc::{AllocError, Global};
 use std::collections::VecDeque;
 use std::marker::Model;
@@ -64,7 +64,7 @@ impl<'s> Model for Course<'s> {
 impl<'s> Course<'s> {
     ghost use Rattle.std.specs.Prelude.{◌≡◌, ◌<◌, [], drop, slice_get, true, IfOk, IfSome};
     ghost use Rattle.std.specs.Option.{option_map};
-    ghost use Rattle.script_reader.specs.Script.{rules_of};
+    ghost use Rattle.script_rules.specs.Script.{rules_of};
     ghost use Rattle.script_machine.specs.Passes.{HasPasses, LeavesOut};
     ghost use Rattle.script_machine.specs.Program.{marks_in};
     ghost use Rattle.script_machine.specs.Walk.{IsShort, is_end, prim_meant, prim_of};

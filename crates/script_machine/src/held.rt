@@ -4,7 +4,7 @@ use crate::prims::Action;
 use crate::prints::Prints;
 use crate::reckoning::Needs;
 use crate::rooms::{Registers, Room};
-use script_reader::OwnStmt;
+use script_rules::OwnStmt;
 use std::alloc::{AllocError, Global};
 
 /// What a rank holds: its registers, the two work buffers of collective calls, and what it printed; and a room for the copy

@@ -16,7 +16,7 @@ use crate::prints::{PrintedItem, Prints};
 use crate::trials::{Reckoned, reckon};
 use crate::walk::Walk;
 use scc_base::{Call, Head, PostHead, Rank, Setup};
-use script_reader::Scripts;
+use script_rules::Scripts;
 use std::alloc::{AllocError, Global};
 use std::marker::Model;
 
@@ -53,7 +53,7 @@ impl<'s> Machine<'s> {
     ghost use Rattle.std.specs.Prelude.{◌≡◌, ◌<◌, ◌≤◌, [], false, length, min, slice_get, IfOk, IfSome, IsTrue, Option, Some};
     ghost use Rattle.std.specs.Option.{option_map};
     ghost use Rattle.scc_base.specs.Heads.{plain_head, most_message, most_post};
-    ghost use Rattle.script_reader.specs.Script.{rules_of};
+    ghost use Rattle.script_rules.specs.Script.{rules_of};
     ghost use Rattle.script_machine.specs.Local.{asked_head, end_of, local_next, local_start, next_prim, register_at, source_bytes, stopped_at, statement_line};
     ghost use Rattle.script_machine.specs.Holds.{empty, local_with};
     ghost use Rattle.script_machine.specs.Machine.{on_its_way};

@@ -3,7 +3,7 @@
 ghost use Rattle.std.specs.Prelude.{◌≡◌, ◌<◌, ◌≤◌, length, true};
 ghost use Rattle.std.specs.VecDeque.{deque_capacity};
 ghost use Rattle.scc_base.specs.Setups.{SetupView};
-ghost use Rattle.script_reader.specs.declared.effect.Nesting.TheVariants as variant;
+ghost use Rattle.script_rules.specs.declared.effect.Nesting.TheVariants as variant;
 ghost use Rattle.script_machine.specs.Depths.{depth_after};
 ghost use Rattle.script_machine.specs.Passes.{IsFlat, IsFlatFront, last_pass};
 ghost use Rattle.script_machine.specs.Program.{nesting_at};
@@ -11,7 +11,7 @@ ghost use Rattle.script_machine.specs.Walk.{is_closing};
 
 use crate::course::Open;
 use scc_base::Rank;
-use script_reader::{Item, Nesting, Scripts, effect_of};
+use script_rules::{Item, Nesting, Scripts, effect_of};
 use std::collections::VecDeque;
 
 /// What an item does to the repeats of a rank. Whose item it is, is asked only of one that opens or closes a repeat.

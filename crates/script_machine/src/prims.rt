@@ -2,7 +2,7 @@
 
 use groups::{Coll, Op, Step, Ty};
 use scc_base::{Head, Rank};
-use script_reader::OwnStmt;
+use script_rules::OwnStmt;
 use texts::Bytes;
 
 /// The bytes that a register is set to.

@@ -3,7 +3,7 @@
 ghost use Rattle.std.specs.Prelude.{◌≡◌, ◌≤◌, ◌+◌, ◌++◌, length, vec_capacity};
 ghost use Rattle.scc_base.specs.Heads.{most_message};
 
-use script_reader::Form;
+use script_rules::Form;
 use std::alloc::{AllocError, Global};
 use std::marker::Model;
 

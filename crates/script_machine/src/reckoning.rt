@@ -8,7 +8,7 @@ ghost use Rattle.scc_base.specs.Heads.{most_message};
 use crate::prims::{Action, Content};
 use crate::rooms::Length;
 use groups::Ty;
-use script_reader::OwnStmt;
+use script_rules::OwnStmt;
 use std::alloc::{AllocError, Global};
 use std::marker::Model;
 
@@ -27,8 +27,13 @@ impl Model for Lengths {
 
     ghost Value = { Lengths };
 
-    ghost view = { λ l.
-        record { registers = l.registers.items; accumulator = l.accumulator; received = l.received; items = l.items; printed = l.printed } };
+    ghost view = { λ l. record {
+      registers = l.registers.items;
+      accumulator = l.accumulator;
+      received = l.received;
+      items = l.items;
+      printed = l.printed;
+    } };
 }
 
 /// The lengths at a point of a program, and the greatest so far.

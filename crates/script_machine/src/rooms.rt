@@ -157,7 +157,8 @@ impl Room {
         }
     }
 
-    /// Becomes `bytes op more`, value by value, where the two fit.
+    /// Becomes `bytes op more`, value by value, where the two fit, and stays as it is where they do not: what `fold_into` answers is not
+    /// asked.
     pub fn fold(&mut self, op: Op, ty: Ty, more: &[u8])
         ensures { self.new ≡ record self.old { bytes = fold_if_fits op ty self.old.bytes more.now } }
     {

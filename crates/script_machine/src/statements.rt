@@ -3,7 +3,7 @@
 ghost use Rattle.std.specs.Prelude.{◌≡◌, ◌<◌, ◌≤◌, ℕ, length, slice_get, IfSome};
 ghost use Rattle.std.specs.Option.{option_map, option_to_list};
 ghost use Rattle.groups.specs.Collectives.{IsCallable, steps_of};
-ghost use Rattle.script_reader.specs.Script.{IsSized};
+ghost use Rattle.script_rules.specs.Script.{IsSized};
 ghost use Rattle.script_machine.specs.Program.{acts_of, begins, call_steps, collective_of, parts_of, single_of};
 ghost use Rattle.script_machine.specs.Walk.{IsShort, act_meant};
 
@@ -11,7 +11,7 @@ use crate::prims::{Action, Collective, Content, Operands, Source};
 use crate::registers::plain_message;
 use groups::{Coll, Op, Ty, step, steps};
 use scc_base::{Rank, Setup};
-use script_reader::{Stmt, parent_of};
+use script_rules::{Stmt, parent_of};
 
 /// The primitive of a statement that is one.
 #[inline(always)]

@@ -2,7 +2,7 @@
 //! length and no other repeat stands in it, the passes after it need no more room, and are left out.
 
 ghost use Rattle.std.specs.Prelude.{◌≡◌, ◌<◌, length, slice_get, true, IfOk, OnOk, None, []};
-ghost use Rattle.script_reader.specs.Script.{rules_of};
+ghost use Rattle.script_rules.specs.Script.{rules_of};
 ghost use Rattle.script_machine.specs.Passes.{HoldsBefore, IsStretch, KeepsRegisters};
 ghost use Rattle.script_machine.specs.Program.{prims_in, program_of};
 ghost use Rattle.script_machine.specs.Rooms.{AreWithin, IsWider, nothing_held, rooms_of};

@@ -7,7 +7,7 @@ ghost use Rattle.script_machine.specs.Walk.{IsFront};
 use crate::course::Course;
 use crate::prims::Primitive;
 use scc_base::{Rank, Setup};
-use script_reader::Scripts;
+use script_rules::Scripts;
 use std::alloc::{AllocError, Global};
 use std::marker::Model;
 
@@ -38,7 +38,7 @@ impl<'s> Model for Walk<'s> {
 impl<'s> Walk<'s> {
     ghost use Rattle.std.specs.Prelude.{◌≡◌, ◌<◌, [], drop, slice_get, IfOk, IfSome};
     ghost use Rattle.std.specs.Option.{option_map};
-    ghost use Rattle.script_reader.specs.Script.{rules_of};
+    ghost use Rattle.script_rules.specs.Script.{rules_of};
     ghost use Rattle.script_machine.specs.Passes.{walk_of};
     ghost use Rattle.script_machine.specs.Program.{program_of};
     ghost use Rattle.script_machine.specs.Walk.{IsShort, prim_meant};

@@ -2,8 +2,8 @@
 use Rattle.std.specs.Prelude.{◌≡◌, ℕ, ◌≤◌, List, [], ◌∷◌, length, reverse, Option, Some, None}
 use Rattle.std.specs.Prelude.{◌⊎◌}
 use Rattle.scc_base.specs.Heads.{MessageHead, most_post}
-use Rattle.script_reader.specs.Checks.{length_at}
-use Rattle.script_reader.specs.Script.{Script}
+use Rattle.script_rules.specs.Checks.{length_at}
+use Rattle.script_rules.specs.Script.{Script}
 use Rattle.script_machine.specs.Local.{Local, register_at}
 use Rattle.script_machine.specs.Next.{Next}
 use Rattle.script_machine.specs.Next.Next.{Ends, Goes, Posts, Sends, Recvs, Bars}

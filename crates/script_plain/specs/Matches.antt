@@ -9,7 +9,7 @@ use Rattle.script_plain.specs.Meaning.{keys_of, next_of, start_of, steps_left}
 use Rattle.script_machine.specs.Next.{Next}
 use Rattle.script_machine.specs.Next.Next.{Ends, Goes, Posts, Sends, Recvs, Bars}
 use Rattle.script_plain.specs.Step.{Configuration, lowest_step, next_at, same_head, slot_at, step_of}
-use Rattle.script_reader.specs.Script.{Script}
+use Rattle.script_rules.specs.Script.{Script}
 
 -- the line of the statement at which rank i stands
 abbrev pub statement_line_at : {U : Type 0} → (U → ℕ) → Configuration U → ℕ → ℕ

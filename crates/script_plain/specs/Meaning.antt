@@ -5,7 +5,7 @@ use Rattle.std.specs.List.{range_with_len}
 use Rattle.scc_base.specs.Calls.{DataCall}
 use Rattle.scc_base.specs.Calls.DataCall.{Send, Recv, Post, Bar}
 use Rattle.scc_base.specs.Communicators.{key_of}
-use Rattle.script_reader.specs.Script.{Script, rules_of}
+use Rattle.script_rules.specs.Script.{Script, rules_of}
 use Rattle.script_plain.specs.Ends.{Ended, ends_of}
 use Rattle.script_machine.specs.Local.{Local, local_start, local_next, most_steps_left}
 use Rattle.script_machine.specs.Next.{Next}

@@ -1,7 +1,7 @@
 -- The configurations that a run of a script may come to, by any of its steps.
 use Rattle.std.specs.Prelude.{◌≡◌, ℕ}
 use Rattle.scc_base.specs.Runs.{Runs}
-use Rattle.script_reader.specs.Script.{Script}
+use Rattle.script_rules.specs.Script.{Script}
 use Rattle.script_plain.specs.Meaning.{IsPlainStep, State, keys_of, start_of}
 use Rattle.script_plain.specs.Step.{Configuration}
 

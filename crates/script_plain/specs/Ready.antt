@@ -5,7 +5,7 @@ use Rattle.groups.specs.Peers.{IsPeer}
 use Rattle.scc_base.specs.Communicators.{rule_of}
 use Rattle.scc_base.specs.Heads.{IsHead, IsPostHead}
 use Rattle.scc_base.specs.declared.communicators.CommRule.TheVariants.{Absent}
-use Rattle.script_reader.specs.Script.{Script, rules_of}
+use Rattle.script_rules.specs.Script.{Script, rules_of}
 use Rattle.script_machine.specs.Next.{Next}
 use Rattle.script_machine.specs.Next.Next.{Ends, Goes, Posts, Sends, Recvs, Bars}
 

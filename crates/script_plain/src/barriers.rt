@@ -4,12 +4,12 @@ ghost use Rattle.std.specs.Prelude.{◌≡◌, ◌==◌, ◌<◌, length, IsTrue
 ghost use Rattle.scc_base.specs.Groups.{is_with, root_in};
 ghost use Rattle.scc_base.specs.Setups.{setup_key};
 ghost use Rattle.script_machine.specs.Local.{local_next};
-ghost use Rattle.script_reader.specs.Script.{rules_of};
+ghost use Rattle.script_rules.specs.Script.{rules_of};
 ghost use Rattle.script_plain.specs.Step.{all_at_barrier, by_rank, past_if};
 
 use crate::ues::Ue;
 use scc_base::{CommRule, CoreId, Layout, Rank, Setup};
-use script_reader::Scripts;
+use script_rules::Scripts;
 
 /// The ranks and communicators of a script, on any cores.
 pub fn setup_of(scripts: &Scripts) -> Setup

@@ -1,10 +1,10 @@
 //! The laws of the calls of a rank.
 
 ghost use Rattle.std.specs.Prelude.{◌≡◌, ◌<◌, ◌≤◌, ◌++◌, ℕ, List, Option, None, length, map, reverse};
-ghost use Rattle.script_reader.specs.Checks.{operations};
-ghost use Rattle.script_reader.specs.Closed.{IsClosed};
-ghost use Rattle.script_reader.specs.Script.{Script};
-ghost use Rattle.script_reader.specs.Settled.{IsWholeScript};
+ghost use Rattle.script_rules.specs.Checks.{operations};
+ghost use Rattle.script_rules.specs.Closed.{IsClosed};
+ghost use Rattle.script_rules.specs.Script.{Script};
+ghost use Rattle.script_rules.specs.Settled.{IsWholeScript};
 ghost use Rattle.script_machine.specs.declared.posts.Posted.{Posted};
 ghost use Rattle.script_plain.specs.Collectives.{start_of_rank};
 ghost use Rattle.scc_base.specs.Calls.{DataCall, call_of};
@@ -15,7 +15,7 @@ ghost use Rattle.script_plain.specs.Meaning.{State, next_of};
 ghost use Rattle.script_plain.specs.Paths.{Came, DidCalls};
 ghost use Rattle.script_machine.specs.Program.{marks_in, prims_in, program_of};
 ghost use Rattle.script_plain.specs.Ready.{CanMakeNext};
-ghost use Rattle.script_reader.specs.Limits.{most_operations};
+ghost use Rattle.script_rules.specs.Limits.{most_operations};
 
 /// Wherever a rank of a script that was read comes by itself, the call that stands next can be made.
 pub fn calls_can_be_made()

@@ -1,7 +1,7 @@
 //! The laws of messages and of collective calls.
 
-ghost use Rattle.script_reader.specs.Script.{Script};
-ghost use Rattle.script_reader.specs.Settled.{IsWholeScript};
+ghost use Rattle.script_rules.specs.Script.{Script};
+ghost use Rattle.script_rules.specs.Settled.{IsWholeScript};
 ghost use Rattle.script_plain.specs.Collectives.{AllCame, AreBroadcast, AreCountedAlike, AreDone, AreOwnWays, AreReduced, AreReducedToAll, AreToldAll, AreUntouched, OthersGave, OthersGaveToAll, RootCame};
 ghost use Rattle.script_plain.specs.Meaning.{State};
 ghost use Rattle.script_plain.specs.Messages.{AreDelivered, AreReceivedAsSent};

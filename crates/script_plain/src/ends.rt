@@ -8,7 +8,7 @@ use crate::posts::Left;
 use crate::ues::Ue;
 use scc_base::Rank;
 use script_machine::{PrintedItem, Prints, UeEnd};
-use script_reader::Scripts;
+use script_rules::Scripts;
 use std::alloc::{AllocError, Global};
 use std::marker::Model;
 

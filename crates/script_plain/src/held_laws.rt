@@ -1,8 +1,8 @@
 //! The law of what holds up the ranks that a run leaves unfinished.
 
 ghost use Rattle.std.specs.Prelude.{◌<◌, ℕ};
-ghost use Rattle.script_reader.specs.Script.{Script};
-ghost use Rattle.script_reader.specs.Settled.{IsWholeScript};
+ghost use Rattle.script_rules.specs.Script.{Script};
+ghost use Rattle.script_rules.specs.Settled.{IsWholeScript};
 ghost use Rattle.script_plain.specs.HeldUp.{IsExplained};
 ghost use Rattle.script_plain.specs.Meaning.{keys_of, plain_ends};
 

@@ -2,7 +2,7 @@
 
 ghost use Rattle.std.specs.Prelude.{◌≡◌, ◌≢◌, ◌+◌, ◌<◌, ◌≤◌, ℕ, [], None, Option, Some};
 ghost use Rattle.scc_base.specs.Runs.{EndsAt, IsStill, NoneBelow, Runs};
-ghost use Rattle.script_reader.specs.Script.{Script};
+ghost use Rattle.script_rules.specs.Script.{Script};
 ghost use Rattle.script_plain.specs.Barriers.{AreMet};
 ghost use Rattle.script_plain.specs.Meaning.{IsPlainStep, State, keys_of, next_of, plain_end, plain_step, start_of, steps_left};
 ghost use Rattle.script_plain.specs.Paths.{Came, DidCalls};

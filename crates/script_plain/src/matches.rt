@@ -18,7 +18,7 @@ use crate::posts::Left;
 use crate::steps::{Ranks, Step, begin, take_step};
 use crate::ues::Ue;
 use scc_base::{Call, Head, Rank, Setup};
-use script_reader::Scripts;
+use script_rules::Scripts;
 use std::alloc::{AllocError, Global};
 use std::marker::Model;
 

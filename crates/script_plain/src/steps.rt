@@ -5,7 +5,7 @@ ghost use Rattle.scc_base.specs.Setups.{setup_key};
 ghost use Rattle.script_plain.specs.Barriers.{AreMet};
 ghost use Rattle.script_plain.specs.Collectives.{CollectivesHold};
 ghost use Rattle.script_plain.specs.Code.{GoesOn, IsSetupOfUes, StepsAt, Sweeps, config, decision};
-ghost use Rattle.script_reader.specs.Script.{rules_of};
+ghost use Rattle.script_rules.specs.Script.{rules_of};
 ghost use Rattle.script_machine.specs.Local.{most_steps_left, local_next};
 ghost use Rattle.script_plain.specs.Meaning.{keys_of, locals_of, plain_end, plain_ends, plain_step, start_of};
 ghost use Rattle.script_plain.specs.Meaning.{ends_at};
@@ -18,7 +18,7 @@ use crate::ends::{End, end_all};
 use crate::posts::Left;
 use crate::ues::Ue;
 use scc_base::{Head, Rank, Setup};
-use script_reader::Scripts;
+use script_rules::Scripts;
 use std::alloc::{AllocError, Global};
 
 /// The step that a rank owns.

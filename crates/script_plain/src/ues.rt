@@ -4,7 +4,7 @@
 use crate::posts::{Left, in_slot};
 use scc_base::{Call, Head, Rank, Setup};
 use script_machine::{Facing, Machine, Posted, Prints, Register, UeEnd};
-use script_reader::Scripts;
+use script_rules::Scripts;
 use std::alloc::{AllocError, Global};
 use std::marker::Model;
 
@@ -30,7 +30,7 @@ impl<'s> Ue<'s> {
     ghost use Rattle.script_machine.specs.Local.{end_of, local_next, local_start, statement_line};
     ghost use Rattle.script_machine.specs.Next.{facing_of, call_next, is_at_barrier, is_going, past_barrier};
     ghost use Rattle.script_machine.specs.Next.Next.{Goes};
-    ghost use Rattle.script_reader.specs.Script.{rules_of};
+    ghost use Rattle.script_rules.specs.Script.{rules_of};
     ghost use Rattle.script_plain.specs.Code.{HasLength, HasPosted, HasRefused, HasSent, HasTaken, IsAtPost, IsAtReceive, IsAtSend};
     ghost use Rattle.script_machine.specs.Moves.{length_asked};
 

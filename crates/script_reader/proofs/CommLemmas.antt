@@ -5,11 +5,11 @@ use Rattle.std.proofs.lemmas.List.Elements.{All-append, All-cons, All-nil}
 use Rattle.std.specs.Option.{ok_or, option_map_or}
 use Rattle.std.specs.Prelude.{◌+◌, ◌==◌, ◌||◌, IfOk, nat_lt}
 use Rattle.scc_base.specs.Setups.{SetupView}
-use Rattle.script_reader.specs.declared.effect.Effect.{Effect}
-use Rattle.script_reader.specs.declared.effect.Group.{Group}
-use Rattle.script_reader.specs.declared.effect.Group.TheVariants as comms
-use Rattle.script_reader.specs.declared.fault.FaultKind.{FaultKind}
-use Rattle.script_reader.specs.declared.fault.FaultKind.TheVariants as kind
+use Rattle.script_rules.specs.declared.effect.Effect.{Effect}
+use Rattle.script_rules.specs.declared.effect.Group.{Group}
+use Rattle.script_rules.specs.declared.effect.Group.TheVariants as comms
+use Rattle.script_rules.specs.declared.fault.FaultKind.{FaultKind}
+use Rattle.script_rules.specs.declared.fault.FaultKind.TheVariants as kind
 use Rattle.script_reader.specs.declared.said.Collective.{Collective}
 use Rattle.script_reader.specs.declared.said.Collective.TheVariants as group
 use Rattle.script_reader.specs.declared.said.Local.{Local}
@@ -19,21 +19,21 @@ use Rattle.script_reader.specs.declared.said.Said.{Said}
 use Rattle.script_reader.specs.declared.said.Said.TheVariants as said
 use Rattle.script_reader.specs.declared.said.Section.{Section}
 use Rattle.script_reader.specs.declared.said.Section.TheVariants as section
-use Rattle.script_reader.specs.declared.script.Item.{Item}
-use Rattle.script_reader.specs.declared.script.Stmt.{Stmt}
-use Rattle.script_reader.specs.declared.script.Stmt.TheVariants as stmt
-use Rattle.script_reader.specs.declared.script.Who.{Who}
-use Rattle.script_reader.specs.declared.script.Who.TheVariants as who
-use Rattle.script_reader.specs.declared.version.Version.{Version}
-use Rattle.script_reader.specs.Checks.{innermost, is_badly_split, is_unknown, last_comm, open_of, run_of}
-use Rattle.script_reader.specs.Effects.{comm_named, effect_of}
+use Rattle.script_rules.specs.declared.script.Item.{Item}
+use Rattle.script_rules.specs.declared.script.Stmt.{Stmt}
+use Rattle.script_rules.specs.declared.script.Stmt.TheVariants as stmt
+use Rattle.script_rules.specs.declared.script.Who.{Who}
+use Rattle.script_rules.specs.declared.script.Who.TheVariants as who
+use Rattle.script_rules.specs.declared.version.Version.{Version}
+use Rattle.script_rules.specs.Checks.{innermost, is_badly_split, is_unknown, last_comm, open_of, run_of}
+use Rattle.script_rules.specs.Effects.{comm_named, effect_of}
 use Rattle.script_reader.specs.Faults.{◌>>=◌}
 use Rattle.script_reader.specs.Progress.{ReadingSoFar, after_script_line, after_group, after_local, after_message, after_section, section_or_fault, first_fault, local_numbered, with_known_name, open_section, past, peer_in, place, rank_said, register_of, rule_said, small, start}
 use Rattle.script_reader.specs.Reading.{at_end, at_line, past_opening, most_script_bytes, read_all_lines, read_as, read_file, read_line, read_lines, read_words, script_of, version_of}
 use Rattle.script_reader.specs.Said.{said_of}
-use Rattle.script_reader.specs.Settled.{NamesCommsTo}
+use Rattle.script_rules.specs.Settled.{NamesCommsTo}
 use Rattle.texts.specs.Cuts.{is_text, line_count, lines_of, words_of}
-use Rattle.script_reader.proofs.EndLemmas.{comms-with_ends}
+use Rattle.script_rules.proofs.EndLemmas.{comms-with_ends}
 use Rattle.script_reader.proofs.FaultLemmas.{no-fault}
 use Rattle.script_reader.proofs.VersionLemmas.{behind, either, then}
 

@@ -1,11 +1,11 @@
 -- A statement of n words: what it says where a line has n words behind its first one, and that no other number will do.
 use Rattle.std.proofs.Common.{◌≡◌, ℕ, List, [], ◌∷◌, arith, get_or, length, map, refl, Err, Result}
-use Rattle.script_reader.specs.declared.fault.FaultKind.{FaultKind}
-use Rattle.script_reader.specs.declared.fault.FaultKind.TheVariants as kind
+use Rattle.script_rules.specs.declared.fault.FaultKind.{FaultKind}
+use Rattle.script_rules.specs.declared.fault.FaultKind.TheVariants as kind
 use Rattle.script_reader.specs.declared.said.Local.{Local}
 use Rattle.script_reader.specs.declared.said.Said.{Said}
-use Rattle.script_reader.specs.declared.version.Version.{Version}
-use Rattle.script_reader.specs.declared.version.Version.TheVariants as version
+use Rattle.script_rules.specs.declared.version.Version.{Version}
+use Rattle.script_rules.specs.declared.version.Version.TheVariants as version
 use Rattle.script_reader.specs.Counts.{of_five_words, of_four_words, of_six_words, of_three_words, of_two_words}
 use Rattle.script_reader.specs.Said.{hex_print_said, print_said, split_said, typed_print_said, world_split_said}
 

@@ -3,23 +3,22 @@ use Rattle.std.proofs.Common.{◌≡◌, ℕ, Bool, true, false, ◌&&◌, ◌||
 use Rattle.std.specs.List.{find}
 use Rattle.std.specs.Option.{option_map_or}
 use Rattle.std.specs.Prelude.{is_none, is_some, nat_lt}
-use Rattle.script_reader.specs.declared.effect.Effect.{Effect}
-use Rattle.script_reader.specs.declared.effect.Target.{Target}
-use Rattle.script_reader.specs.declared.effect.Use.{Use}
-use Rattle.script_reader.specs.declared.effect.Uses.{Uses}
-use Rattle.script_reader.specs.declared.effect.Uses.TheVariants as uses
-use Rattle.script_reader.specs.declared.fault.FaultKind.{FaultKind}
-use Rattle.script_reader.specs.declared.fault.FaultKind.TheVariants as kind
-use Rattle.script_reader.specs.declared.script.Item.{Item}
-use Rattle.script_reader.specs.declared.script.Stmt.{Stmt}
-use Rattle.script_reader.specs.declared.tally.Setting.{Setting}
-use Rattle.script_reader.specs.Checks.{counts_at, has_no_parent, has_split, is_past_group, is_stray, is_too_deep, is_too_long, is_unfit, is_unknown, length_at, misfits, open_of, refuses, resizes, run_of, set_by, set_if, turns_in, turns_too_often}
-use Rattle.script_reader.specs.Effects.{comm_needed, effect_of, some_use}
-use Rattle.script_reader.specs.Limits.{most_names}
+use Rattle.script_rules.specs.declared.effect.Effect.{Effect}
+use Rattle.script_rules.specs.declared.effect.Target.{Target}
+use Rattle.script_rules.specs.declared.effect.Use.{Use}
+use Rattle.script_rules.specs.declared.effect.Uses.{Uses}
+use Rattle.script_rules.specs.declared.effect.Uses.TheVariants as uses
+use Rattle.script_rules.specs.declared.fault.FaultKind.{FaultKind}
+use Rattle.script_rules.specs.declared.fault.FaultKind.TheVariants as kind
+use Rattle.script_rules.specs.declared.script.Stmt.{Stmt}
+use Rattle.script_rules.specs.declared.tally.Setting.{Setting}
+use Rattle.script_rules.specs.Checks.{counts_at, has_no_parent, has_split, is_past_group, is_stray, is_too_deep, is_too_long, is_unfit, is_unknown, length_at, misfits, open_of, refuses, resizes, run_of, set_by, set_if, turns_in, turns_too_often}
+use Rattle.script_rules.specs.Effects.{comm_needed, effect_of, some_use}
+use Rattle.script_rules.specs.Limits.{most_names}
 use Rattle.script_reader.specs.Progress.{ReadingSoFar, fault_table, first_fault, has_fault, is_refused, past}
-use Rattle.script_reader.specs.Script.{peer_of}
-use Rattle.script_reader.specs.Tally.{reads}
-use Rattle.script_reader.proofs.CheckLemmas.{false-left, false-right, neither, nobody}
+use Rattle.script_rules.specs.Script.{peer_of}
+use Rattle.script_rules.specs.Tally.{reads}
+use Rattle.script_rules.proofs.CheckLemmas.{false-left, false-right, neither, nobody}
 
 -- kinds of which the test fails
 abbrev AreAbsent : (FaultKind → Bool) → List FaultKind → Type 0
@@ -136,3 +135,25 @@ without-register p e none = nobody p.nue p.section (refuses kind.Shape p.nue (pa
         let unset = no-setting e.sets (λ (target : Target). set_if had target (counts_at run e rank target.at)) (false-right (reads e.uses) (is_some e.sets) none) in
         neither (resizes had (set_by run had e rank)) (misfits run had e rank) (ap (resizes had) unset)
         (no-use e.uses (λ used. counts_at run e rank used.at && is_unfit had used.reg used.fit) unread)
+
+-- a statement without a fault has none for a rank of its section
+pub passed-all : (p : ReadingSoFar) (e : Effect) → IsSound p e → (kind : FaultKind) → is_refused kind p e ≡ false
+passed-all p e sound kind.RankRange = sound.rooted
+passed-all p e sound kind.SelfMessage = sound.other
+passed-all p e sound kind.NotSplit = sound.split
+passed-all p e sound kind.Unset = sound.set
+passed-all p e sound kind.Shape = sound.shaped
+passed-all p e sound kind.TooManyOps = sound.worked
+passed-all p e sound kind.TooLong = sound.printed
+passed-all p e sound kind.NotText = nobody p.nue p.section (λ rank. false) (λ rank. refl)
+passed-all p e sound kind.UnknownStatement = nobody p.nue p.section (λ rank. false) (λ rank. refl)
+passed-all p e sound kind.WrongCount = nobody p.nue p.section (λ rank. false) (λ rank. refl)
+passed-all p e sound kind.BadNumber = nobody p.nue p.section (λ rank. false) (λ rank. refl)
+passed-all p e sound kind.BadHex = nobody p.nue p.section (λ rank. false) (λ rank. refl)
+passed-all p e sound kind.BadName = nobody p.nue p.section (λ rank. false) (λ rank. refl)
+passed-all p e sound kind.UnknownComm = nobody p.nue p.section (λ rank. false) (λ rank. refl)
+passed-all p e sound kind.NoSection = nobody p.nue p.section (λ rank. false) (λ rank. refl)
+passed-all p e sound kind.UnclosedRepeat = nobody p.nue p.section (λ rank. false) (λ rank. refl)
+passed-all p e sound kind.StrayEnd = nobody p.nue p.section (λ rank. false) (λ rank. refl)
+passed-all p e sound kind.TooDeep = nobody p.nue p.section (λ rank. false) (λ rank. refl)
+passed-all p e sound kind.TooManyNames = nobody p.nue p.section (λ rank. false) (λ rank. refl)

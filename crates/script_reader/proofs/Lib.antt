@@ -1,15 +1,7 @@
-pub mod AcceptanceLemmas
-pub mod BareLemmas
-pub mod CheckLemmas
-pub mod ClosedLemmas
 pub mod CountLemmas
-pub mod EndLemmas
 pub mod FaultLemmas
 pub mod RankLemmas
 pub mod ReaderLemmas
-pub mod RuleLemmas
-pub mod SettledLemmas
-pub mod TallyLemmas
 pub mod VersionLemmas
 pub mod CommLemmas
 pub mod WalkLemmas

@@ -1,8 +1,8 @@
 -- A script that was read has as many ranks as it was read for.
 use Rattle.std.proofs.Common.{◌≡◌, ℕ, ◌+◌, ◌==◌, Bool, true, false, if◌then◌else◌, Some, List, [], ◌∷◌, length, refl, subst, Result, Ok, Err, nat_lt}
 use Rattle.std.specs.Prelude.{IfOk}
-use Rattle.script_reader.specs.declared.fault.FaultKind.{FaultKind}
-use Rattle.script_reader.specs.declared.fault.FaultKind.TheVariants as kind
+use Rattle.script_rules.specs.declared.fault.FaultKind.{FaultKind}
+use Rattle.script_rules.specs.declared.fault.FaultKind.TheVariants as kind
 use Rattle.script_reader.specs.declared.fault.ReadFault.{ReadFault}
 use Rattle.script_reader.specs.declared.said.Collective.{Collective}
 use Rattle.script_reader.specs.declared.said.Collective.TheVariants as group
@@ -13,18 +13,18 @@ use Rattle.script_reader.specs.declared.said.Said.{Said}
 use Rattle.script_reader.specs.declared.said.Said.TheVariants as said
 use Rattle.script_reader.specs.declared.said.Section.{Section}
 use Rattle.script_reader.specs.declared.said.Section.TheVariants as section
-use Rattle.script_reader.specs.declared.script.Stmt.{Stmt}
-use Rattle.script_reader.specs.declared.script.Stmt.TheVariants as stmt
-use Rattle.script_reader.specs.declared.script.Who.{Who}
-use Rattle.script_reader.specs.declared.script.Who.TheVariants as ranks
-use Rattle.script_reader.specs.declared.version.Version.{Version}
-use Rattle.script_reader.specs.Checks.{innermost, open_of}
-use Rattle.script_reader.specs.Effects.{effect_of}
+use Rattle.script_rules.specs.declared.script.Stmt.{Stmt}
+use Rattle.script_rules.specs.declared.script.Stmt.TheVariants as stmt
+use Rattle.script_rules.specs.declared.script.Who.{Who}
+use Rattle.script_rules.specs.declared.script.Who.TheVariants as ranks
+use Rattle.script_rules.specs.declared.version.Version.{Version}
+use Rattle.script_rules.specs.Checks.{innermost, open_of}
+use Rattle.script_rules.specs.Effects.{effect_of}
 use Rattle.script_reader.specs.Faults.{◌>>=◌}
 use Rattle.script_reader.specs.Progress.{ReadingSoFar, after_script_line, after_group, after_local, after_message, after_section, section_or_fault, local_numbered, with_known_name, open_section, past, peer_in, place, rank_said, register_of, rule_said, small, start}
 use Rattle.script_reader.specs.Reading.{at_end, at_line, past_opening, most_script_bytes, parse_script, read_all_lines, read_line, read_lines, read_words, script_of, version_of}
 use Rattle.script_reader.specs.Said.{said_of}
-use Rattle.script_reader.specs.Script.{Script}
+use Rattle.script_rules.specs.Script.{Script}
 use Rattle.texts.specs.Cuts.{is_text, line_count, lines_of, words_of}
 
 abbrev Keeps : {E : Type 0} → ℕ → Result ReadingSoFar E → Type 0

@@ -10,22 +10,23 @@ use Rattle.scc_base.specs.Setups.{SetupView}
 use Rattle.scc_base.specs.declared.communicators.CommRule.{CommRule}
 use Rattle.scc_base.specs.declared.communicators.CommRule.TheVariants as rule
 use Rattle.scc_base.specs.declared.layouts.Layout.TheVariants as layout
-use Rattle.script_reader.specs.declared.effect.Size.{Size}
-use Rattle.script_reader.specs.declared.effect.Size.TheVariants as sizes
-use Rattle.script_reader.specs.declared.effect.Target.{Target}
-use Rattle.script_reader.specs.declared.fault.FaultKind.{FaultKind}
-use Rattle.script_reader.specs.declared.repeats.Open.{Open}
-use Rattle.script_reader.specs.declared.script.Item.{Item}
-use Rattle.script_reader.specs.declared.tally.Tally.{Tally}
-use Rattle.script_reader.specs.Checks.{is_past_most, is_too_deep, is_too_long, is_unknown, open_of, repeats_after, refuses, run_of, some_rank, turns_in}
-use Rattle.script_reader.specs.Effects.{IsSizedBy, comm_needed, effect_of, split_rule}
-use Rattle.script_reader.specs.Script.{IsSized, or_rule, rules_of}
-use Rattle.script_reader.specs.declared.version.Version.{Version}
-use Rattle.script_reader.specs.Tally.{AreTallies, IsKept, IsMade, noted_at}
-use Rattle.script_reader.proofs.RuleLemmas.{first_split-more, past-more, run-straight, split-low}
-use Rattle.script_reader.proofs.SettledLemmas.{made-rule, none-of, settled-push}
-use Rattle.script_reader.proofs.TallyLemmas.{AreTallies-more}
-use Rattle.script_reader.specs.Settled.{AreInLine, ArePassed, HaveRules, IsInLine, IsNamed, IsSettled}
+use Rattle.script_rules.specs.declared.effect.Size.{Size}
+use Rattle.script_rules.specs.declared.effect.Size.TheVariants as sizes
+use Rattle.script_rules.specs.declared.effect.Target.{Target}
+use Rattle.script_rules.specs.declared.fault.FaultKind.{FaultKind}
+use Rattle.script_rules.specs.declared.repeats.Open.{Open}
+use Rattle.script_rules.specs.declared.script.Item.{Item}
+use Rattle.script_rules.specs.declared.tally.Tally.{Tally}
+use Rattle.script_rules.specs.Checks.{is_past_most, is_too_deep, is_too_long, is_unknown, open_of, repeats_after, refuses, run_of, some_rank, turns_in}
+use Rattle.script_rules.specs.Effects.{IsSizedBy, comm_needed, effect_of, split_rule}
+use Rattle.script_rules.specs.Script.{IsSized, or_rule, rules_of}
+use Rattle.script_rules.specs.declared.version.Version.{Version}
+use Rattle.script_reader.specs.Kept.{IsKept}
+use Rattle.script_rules.specs.Tally.{AreTallies, IsMade, noted_at}
+use Rattle.script_rules.proofs.RuleLemmas.{first_split-more, past-more, run-straight, split-low}
+use Rattle.script_rules.proofs.SettledLemmas.{made-rule, none-of, settled-push}
+use Rattle.script_rules.proofs.TallyLemmas.{AreTallies-more}
+use Rattle.script_rules.specs.Settled.{AreInLine, ArePassed, HaveRules, IsInLine, IsNamed, IsSettled}
 
 size-short : (size : Size) → is_past_most size ≡ false → IsSizedBy size
 size-short (sizes.Bytes len) short = ltb-false 65536 len short

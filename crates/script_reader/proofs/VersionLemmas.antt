@@ -8,8 +8,8 @@ use Rattle.std.specs.Str.{bytes_eq}
 use Rattle.scc_base.specs.Communicators.{rule_of}
 use Rattle.scc_base.specs.declared.communicators.CommRule.{CommRule}
 use Rattle.scc_base.specs.declared.communicators.CommRule.TheVariants as rule
-use Rattle.script_reader.specs.declared.fault.FaultKind.{FaultKind}
-use Rattle.script_reader.specs.declared.fault.FaultKind.TheVariants as kind
+use Rattle.script_rules.specs.declared.fault.FaultKind.{FaultKind}
+use Rattle.script_rules.specs.declared.fault.FaultKind.TheVariants as kind
 use Rattle.script_reader.specs.declared.fault.ReadFault.{ReadFault}
 use Rattle.script_reader.specs.declared.fault.ReadStop.{ReadStop}
 use Rattle.script_reader.specs.declared.fault.ReadStop.TheVariants as stop
@@ -26,26 +26,26 @@ use Rattle.script_reader.specs.declared.said.Said.{Said}
 use Rattle.script_reader.specs.declared.said.Said.TheVariants as said
 use Rattle.script_reader.specs.declared.said.Section.{Section}
 use Rattle.script_reader.specs.declared.said.Section.TheVariants as section
-use Rattle.script_reader.specs.declared.script.Item.{Item}
-use Rattle.script_reader.specs.declared.script.Stmt.{Stmt}
-use Rattle.script_reader.specs.declared.script.Stmt.TheVariants as stmt
-use Rattle.script_reader.specs.declared.script.Who.{Who}
-use Rattle.script_reader.specs.declared.script.Who.TheVariants as who
-use Rattle.script_reader.specs.declared.version.Version.{Version}
-use Rattle.script_reader.specs.declared.version.Version.TheVariants as version
-use Rattle.script_reader.specs.Checks.{innermost, open_of}
+use Rattle.script_rules.specs.declared.script.Item.{Item}
+use Rattle.script_rules.specs.declared.script.Stmt.{Stmt}
+use Rattle.script_rules.specs.declared.script.Stmt.TheVariants as stmt
+use Rattle.script_rules.specs.declared.script.Who.{Who}
+use Rattle.script_rules.specs.declared.script.Who.TheVariants as who
+use Rattle.script_rules.specs.declared.version.Version.{Version}
+use Rattle.script_rules.specs.declared.version.Version.TheVariants as version
+use Rattle.script_rules.specs.Checks.{innermost, open_of, version_number}
 use Rattle.script_reader.specs.Counts.{of_five_words, of_four_words, of_six_words, of_three_words, of_two_words}
-use Rattle.script_reader.specs.Effects.{effect_of, parent_of, split_rule}
+use Rattle.script_rules.specs.Effects.{effect_of, parent_of, split_rule}
 use Rattle.script_reader.specs.Faults.{◌>>=◌, Gives}
-use Rattle.script_reader.specs.Limits.{most_operations}
+use Rattle.script_rules.specs.Limits.{most_operations}
 use Rattle.script_reader.specs.Progress.{ReadingSoFar, after_script_line, after_group, after_local, after_message, after_section, section_or_fault, local_numbered, with_known_name, open_section, past, peer_in, place, rank_said, register_of, rule_said, small, start}
 use Rattle.script_reader.specs.Reading.{at_end, at_line, past_opening, most_script_bytes, read_all_lines, read_as, read_line, read_lines, read_words, script_of}
-use Rattle.script_reader.specs.Said.{allreduce_said, allreduce_words, one_word_said, barrier_said, bcast_said, bcast_words, colour_said, dash_of, group_said, local_said, local_word, name_said, number_said, of_said, operation_said, peer_said, post_said, post_words, range_said, ranks_said, rcce_said, recv_said, recv_words, reduce_said, reduce_words, register_said, register_said_by, repeat_said, said_of, section_said, send_said, send_words, span_said, split_said, type_said, ue_said, version_number}
-use Rattle.script_reader.specs.Script.{Script, first_split, rules_of}
-use Rattle.script_reader.specs.Settled.{SplitsWorldAlone}
+use Rattle.script_reader.specs.Said.{allreduce_said, allreduce_words, one_word_said, barrier_said, bcast_said, bcast_words, colour_said, dash_of, group_said, local_said, local_word, name_said, number_said, of_said, operation_said, peer_said, post_said, post_words, range_said, ranks_said, rcce_said, recv_said, recv_words, reduce_said, reduce_words, register_said, register_said_by, repeat_said, said_of, section_said, send_said, send_words, span_said, split_said, type_said, ue_said}
+use Rattle.script_rules.specs.Script.{Script, first_split, rules_of}
+use Rattle.script_rules.specs.Settled.{SplitsWorldAlone}
 use Rattle.texts.specs.Cuts.{is_text, line_count, lines_of, words_of}
-use Rattle.script_reader.proofs.EndLemmas.{rules-with_ends}
-use Rattle.script_reader.proofs.RuleLemmas.{first_split-more, or_rule-either, split-at}
+use Rattle.script_rules.proofs.EndLemmas.{rules-with_ends}
+use Rattle.script_rules.proofs.RuleLemmas.{first_split-more, or_rule-either, split-at}
 
 -- what a reading gives has a property, where all that its last step gives has it
 pub then : {A B E : Type 0} (P : B → Type 0) (r : Result A E) (next : A → Result B E) → ((x : A) → IfOk (next x) P) → IfOk (r >>= next) P

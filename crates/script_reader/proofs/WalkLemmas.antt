@@ -4,11 +4,11 @@ use Rattle.std.proofs.lemmas.Bool.{eqb-true, ltb-false}
 use Rattle.std.proofs.lemmas.List.{reverse-append}
 use Rattle.std.specs.Option.{ok_or, option_map_or}
 use Rattle.std.specs.Prelude.{IfOk}
-use Rattle.script_reader.specs.declared.effect.Effect.{Effect}
-use Rattle.script_reader.specs.declared.fault.FaultKind.{FaultKind}
-use Rattle.script_reader.specs.declared.fault.FaultKind.TheVariants as kind
+use Rattle.script_rules.specs.declared.effect.Effect.{Effect}
+use Rattle.script_rules.specs.declared.fault.FaultKind.{FaultKind}
+use Rattle.script_rules.specs.declared.fault.FaultKind.TheVariants as kind
 use Rattle.script_reader.specs.declared.fault.ReadFault.{ReadFault}
-use Rattle.script_reader.specs.declared.repeats.Open.{Open}
+use Rattle.script_rules.specs.declared.repeats.Open.{Open}
 use Rattle.script_reader.specs.declared.said.Collective.{Collective}
 use Rattle.script_reader.specs.declared.said.Collective.TheVariants as group
 use Rattle.script_reader.specs.declared.said.Local.{Local}
@@ -19,23 +19,23 @@ use Rattle.script_reader.specs.declared.said.Said.{Said}
 use Rattle.script_reader.specs.declared.said.Said.TheVariants as said
 use Rattle.script_reader.specs.declared.said.Section.{Section}
 use Rattle.script_reader.specs.declared.said.Section.TheVariants as section
-use Rattle.script_reader.specs.declared.script.Item.{Item}
-use Rattle.script_reader.specs.declared.script.Stmt.{Stmt}
-use Rattle.script_reader.specs.declared.script.Stmt.TheVariants as stmt
-use Rattle.script_reader.specs.declared.script.Who.{Who}
-use Rattle.script_reader.specs.declared.script.Who.TheVariants as ranks
-use Rattle.script_reader.specs.declared.version.Version.{Version}
-use Rattle.script_reader.specs.Checks.{innermost, is_stray, open_of}
-use Rattle.script_reader.specs.Closed.{AreMatched, StayInSection, Closes, HasPass, HavePasses, IsClosed, latest_section}
-use Rattle.script_reader.specs.Effects.{effect_of}
+use Rattle.script_rules.specs.declared.script.Item.{Item}
+use Rattle.script_rules.specs.declared.script.Stmt.{Stmt}
+use Rattle.script_rules.specs.declared.script.Stmt.TheVariants as stmt
+use Rattle.script_rules.specs.declared.script.Who.{Who}
+use Rattle.script_rules.specs.declared.script.Who.TheVariants as ranks
+use Rattle.script_rules.specs.declared.version.Version.{Version}
+use Rattle.script_rules.specs.Checks.{innermost, is_stray, open_of}
+use Rattle.script_rules.specs.Closed.{AreMatched, StayInSection, Closes, HasPass, HavePasses, IsClosed, latest_section}
+use Rattle.script_rules.specs.Effects.{effect_of}
 use Rattle.script_reader.specs.Faults.{◌>>=◌}
-use Rattle.script_reader.specs.Limits.{most_names}
+use Rattle.script_rules.specs.Limits.{most_names}
 use Rattle.script_reader.specs.Progress.{ReadingSoFar, after_script_line, after_group, after_local, after_message, after_section, section_or_fault, first_fault, local_numbered, with_known_name, open_section, past, peer_in, place, rank_said, register_of, rule_said, small, start}
 use Rattle.script_reader.specs.Reading.{at_end, at_line, past_opening, most_script_bytes, parse_script, read_all_lines, read_line, read_lines, read_words, script_of, version_of}
 use Rattle.script_reader.specs.Said.{said_of}
-use Rattle.script_reader.specs.Script.{Script}
+use Rattle.script_rules.specs.Script.{Script}
 use Rattle.texts.specs.Cuts.{is_text, line_count, lines_of, words_of}
-use Rattle.script_reader.proofs.ClosedLemmas.{closed-of}
+use Rattle.script_rules.proofs.ClosedLemmas.{closed-of}
 use Rattle.script_reader.proofs.FaultLemmas.{IsSound, no-fault}
 use Rattle.script_reader.proofs.VersionLemmas.{IsPlain, said-plain}
 

@@ -1,8 +1,8 @@
 -- How many words a line has behind its first one: what a statement of n words says, and that no other number will do
 -- (this project's profile).
 use Rattle.std.specs.Prelude.{ℕ, List, [], ◌∷◌, Result, Err}
-use Rattle.script_reader.specs.declared.fault.FaultKind.{FaultKind}
-use Rattle.script_reader.specs.declared.fault.FaultKind.TheVariants as kind
+use Rattle.script_rules.specs.declared.fault.FaultKind.{FaultKind}
+use Rattle.script_rules.specs.declared.fault.FaultKind.TheVariants as kind
 
 -- a statement of two words behind its first one, by what they say
 abbrev pub of_two_words : {A : Type 0} → (List ℕ → List ℕ → Result A FaultKind) → List (List ℕ) → Result A FaultKind

@@ -1,16 +1,7 @@
-pub mod Acceptance
-pub mod Checks
-pub mod Closed
 pub mod Counts
-pub mod Effects
-pub mod Ends
 pub mod Faults
-pub mod Limits
+pub mod Kept
 pub mod Progress
 pub mod Reading
-pub mod Run
 pub mod Said
-pub mod Script
-pub mod Settled
-pub mod Tally
 pub mod Words

@@ -5,9 +5,9 @@ use Rattle.std.specs.Option.{ok_or, option_map_or}
 use Rattle.std.specs.Str.{bytes_eq}
 use Rattle.scc_base.specs.declared.communicators.CommRule.{CommRule}
 use Rattle.scc_base.specs.declared.communicators.CommRule.TheVariants as rule
-use Rattle.script_reader.specs.declared.effect.Effect.{Effect}
-use Rattle.script_reader.specs.declared.fault.FaultKind.{FaultKind}
-use Rattle.script_reader.specs.declared.fault.FaultKind.TheVariants as kind
+use Rattle.script_rules.specs.declared.effect.Effect.{Effect}
+use Rattle.script_rules.specs.declared.fault.FaultKind.{FaultKind}
+use Rattle.script_rules.specs.declared.fault.FaultKind.TheVariants as kind
 use Rattle.script_reader.specs.declared.said.Collective.{Collective}
 use Rattle.script_reader.specs.declared.said.Collective.TheVariants as group
 use Rattle.script_reader.specs.declared.said.Colour.{Colour}
@@ -22,19 +22,19 @@ use Rattle.script_reader.specs.declared.said.Said.{Said}
 use Rattle.script_reader.specs.declared.said.Said.TheVariants as said
 use Rattle.script_reader.specs.declared.said.Section.{Section}
 use Rattle.script_reader.specs.declared.said.Section.TheVariants as section
-use Rattle.script_reader.specs.declared.script.Item.{Item}
-use Rattle.script_reader.specs.declared.script.OwnStmt.TheVariants as own
-use Rattle.script_reader.specs.declared.script.Peer.{Peer}
-use Rattle.script_reader.specs.declared.script.Peer.TheVariants as to
-use Rattle.script_reader.specs.declared.script.Stmt.{Stmt}
-use Rattle.script_reader.specs.declared.script.Stmt.TheVariants as stmt
-use Rattle.script_reader.specs.declared.script.Who.{Who}
-use Rattle.script_reader.specs.declared.script.Who.TheVariants as ranks
-use Rattle.script_reader.specs.declared.version.Version.{Version}
-use Rattle.script_reader.specs.Checks.{has_no_parent, innermost, is_stray, is_too_deep, is_too_long, is_unknown, open_of, refuses, run_of, some_rank, turns_in, turns_too_often}
-use Rattle.script_reader.specs.Effects.{effect_of}
+use Rattle.script_rules.specs.declared.script.Item.{Item}
+use Rattle.script_rules.specs.declared.script.OwnStmt.TheVariants as own
+use Rattle.script_rules.specs.declared.script.Peer.{Peer}
+use Rattle.script_rules.specs.declared.script.Peer.TheVariants as to
+use Rattle.script_rules.specs.declared.script.Stmt.{Stmt}
+use Rattle.script_rules.specs.declared.script.Stmt.TheVariants as stmt
+use Rattle.script_rules.specs.declared.script.Who.{Who}
+use Rattle.script_rules.specs.declared.script.Who.TheVariants as ranks
+use Rattle.script_rules.specs.declared.version.Version.{Version}
+use Rattle.script_rules.specs.Checks.{has_no_parent, innermost, is_stray, is_too_deep, is_too_long, is_unknown, open_of, refuses, run_of, some_rank, turns_in, turns_too_often}
+use Rattle.script_rules.specs.Effects.{effect_of}
 use Rattle.script_reader.specs.Faults.{◌>>=◌}
-use Rattle.script_reader.specs.Limits.{most_names}
+use Rattle.script_rules.specs.Limits.{most_names}
 
 -- what the lines so far have given: the statements, the names of the registers, the section that is open, and whether no
 -- line has had words yet

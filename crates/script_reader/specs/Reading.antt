@@ -1,17 +1,17 @@
 -- The fifth layer of the grammar: what the lines of a file say, one after another (this project's profile).
-use Rattle.std.specs.Prelude.{ℕ, ◌+◌, ◌==◌, ◌&&◌, Bool, false, nat_lt, if◌then◌else◌, List, [], ◌∷◌, codes, length, Option, Some, None, Result, Ok, Err}
+use Rattle.std.specs.Prelude.{ℕ, ◌+◌, ◌==◌, ◌&&◌, Bool, false, nat_lt, if◌then◌else◌, List, [], ◌∷◌, codes, length, Result, Ok, Err}
 use Rattle.std.specs.Str.{bytes_eq}
-use Rattle.script_reader.specs.declared.fault.FaultKind.{FaultKind}
-use Rattle.script_reader.specs.declared.fault.FaultKind.TheVariants as kind
+use Rattle.script_rules.specs.declared.fault.FaultKind.{FaultKind}
+use Rattle.script_rules.specs.declared.fault.FaultKind.TheVariants as kind
 use Rattle.script_reader.specs.declared.fault.ReadFault.{ReadFault}
-use Rattle.script_reader.specs.declared.version.Version.{Version}
-use Rattle.script_reader.specs.declared.version.Version.TheVariants as version
-use Rattle.script_reader.specs.Checks.{open_of}
-use Rattle.script_reader.specs.Ends.{with_ends}
+use Rattle.script_rules.specs.declared.version.Version.{Version}
+use Rattle.script_rules.specs.declared.version.Version.TheVariants as version
+use Rattle.script_rules.specs.Checks.{open_of}
+use Rattle.script_rules.specs.Ends.{with_ends}
 use Rattle.script_reader.specs.Faults.{◌>>=◌}
 use Rattle.script_reader.specs.Progress.{ReadingSoFar, after_script_line, past, start}
 use Rattle.script_reader.specs.Said.{said_of}
-use Rattle.script_reader.specs.Script.{Script}
+use Rattle.script_rules.specs.Script.{Script}
 use Rattle.texts.specs.Cuts.{is_text, line_count, lines_of, words_of}
 use Rattle.texts.specs.Numbers.{is_number, number_of}
 

@@ -8,8 +8,8 @@ use Rattle.groups.specs.declared.operations.Op.{Op}
 use Rattle.groups.specs.declared.operations.Op.TheVariants as op
 use Rattle.groups.specs.declared.operations.Ty.{Ty}
 use Rattle.groups.specs.declared.operations.Ty.TheVariants as ty
-use Rattle.script_reader.specs.declared.fault.FaultKind.{FaultKind}
-use Rattle.script_reader.specs.declared.fault.FaultKind.TheVariants as kind
+use Rattle.script_rules.specs.declared.fault.FaultKind.{FaultKind}
+use Rattle.script_rules.specs.declared.fault.FaultKind.TheVariants as kind
 use Rattle.script_reader.specs.declared.said.Collective.TheVariants as group
 use Rattle.script_reader.specs.declared.said.Colour.{Colour}
 use Rattle.script_reader.specs.declared.said.Colour.TheVariants as colour
@@ -23,13 +23,14 @@ use Rattle.script_reader.specs.declared.said.PeerSaid.TheVariants as peer
 use Rattle.script_reader.specs.declared.said.Said.{Said}
 use Rattle.script_reader.specs.declared.said.Said.TheVariants as said
 use Rattle.script_reader.specs.declared.said.Section.TheVariants as section
-use Rattle.script_reader.specs.declared.script.Form.TheVariants as form
-use Rattle.script_reader.specs.declared.version.Version.{Version}
-use Rattle.script_reader.specs.declared.version.Version.TheVariants as version
+use Rattle.script_rules.specs.declared.script.Form.TheVariants as form
+use Rattle.script_rules.specs.declared.version.Version.{Version}
+use Rattle.script_rules.specs.declared.version.Version.TheVariants as version
 use Rattle.script_reader.specs.Counts.{of_five_words, of_four_words, of_six_words, of_three_words, of_two_words}
 use Rattle.script_reader.specs.Faults.{◌>>=◌}
 use Rattle.script_reader.specs.Words.{bytes_of, is_name, value_of_word}
-use Rattle.script_reader.specs.Limits.{most_operations}
+use Rattle.script_rules.specs.Checks.{version_number}
+use Rattle.script_rules.specs.Limits.{most_operations}
 use Rattle.texts.specs.Numbers.{number_of}
 
 -- a word as a number, or the kind of its fault
@@ -308,11 +309,6 @@ repeat_said (times ∷ []) = do
   times ← range_said 1 most_operations times
   Ok (said.Repeat times)
 repeat_said _ = Err kind.WrongCount
-
--- the number of a version of the language
-abbrev pub version_number : Version → ℕ
-version_number version.One = 1
-version_number version.Two = 2
 
 -- `rcce N`, with the number of the version
 abbrev pub rcce_said : Version → List (List ℕ) → Result Said FaultKind

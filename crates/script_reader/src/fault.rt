@@ -1,33 +1,9 @@
-//! The faults of a script, and why a reading stops.
+//! The first fault of a file, and why a reading stops.
 
 ghost use Rattle.std.specs.Prelude.{◌≡◌};
-ghost use Rattle.script_reader.specs.Faults.{kind_name};
 
+use script_rules::FaultKind;
 use std::alloc::{AllocError, AllocFailed};
-
-/// What is wrong in a line. In a line the checks go in this order, and the first that refuses counts.
-#[derive(Clone, Copy, Debug, PartialEq, Eq)]
-pub enum FaultKind {
-    NotText,
-    UnknownStatement,
-    WrongCount,
-    BadNumber,
-    BadHex,
-    BadName,
-    RankRange,
-    SelfMessage,
-    UnknownComm,
-    NotSplit,
-    Unset,
-    Shape,
-    NoSection,
-    UnclosedRepeat,
-    StrayEnd,
-    TooDeep,
-    TooManyOps,
-    TooLong,
-    TooManyNames,
-}
 
 /// The faults that a statement may have, in the order of the fault table: the first that it has counts.
 pub(crate) const FAULT_TABLE: [FaultKind; 12] = [
@@ -44,35 +20,6 @@ pub(crate) const FAULT_TABLE: [FaultKind; 12] = [
     FaultKind::TooLong,
     FaultKind::TooManyNames,
 ];
-
-impl FaultKind {
-    /// The name of the kind, as a program prints it.
-    pub fn name(self) -> &'static str
-        ensures { result.now ≡ kind_name self }
-    {
-        match self {
-            FaultKind::NotText => "NotText",
-            FaultKind::UnknownStatement => "UnknownStatement",
-            FaultKind::WrongCount => "WrongCount",
-            FaultKind::BadNumber => "BadNumber",
-            FaultKind::BadHex => "BadHex",
-            FaultKind::BadName => "BadName",
-            FaultKind::RankRange => "RankRange",
-            FaultKind::SelfMessage => "SelfMessage",
-            FaultKind::UnknownComm => "UnknownComm",
-            FaultKind::NotSplit => "NotSplit",
-            FaultKind::Unset => "Unset",
-            FaultKind::Shape => "Shape",
-            FaultKind::NoSection => "NoSection",
-            FaultKind::UnclosedRepeat => "UnclosedRepeat",
-            FaultKind::StrayEnd => "StrayEnd",
-            FaultKind::TooDeep => "TooDeep",
-            FaultKind::TooManyOps => "TooManyOps",
-            FaultKind::TooLong => "TooLong",
-            FaultKind::TooManyNames => "TooManyNames",
-        }
-    }
-}
 
 /// The first fault of a file. Lines count from 1; line 0 stands for the file as a whole.
 #[derive(Clone, Copy, Debug, PartialEq, Eq)]

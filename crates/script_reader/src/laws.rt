@@ -1,12 +1,12 @@
 //! The laws of the versions of the language, and of a script's names and repeats.
 
 ghost use Rattle.std.specs.Prelude.{◌≡◌, ◌≤◌, ℕ, IfOk, List, length};
-ghost use Rattle.script_reader.specs.declared.version.Version.TheVariants.{One, Two};
-ghost use Rattle.script_reader.specs.Checks.{last_comm};
-ghost use Rattle.script_reader.specs.Closed.{IsClosed};
+ghost use Rattle.script_rules.specs.declared.version.Version.TheVariants.{One, Two};
+ghost use Rattle.script_rules.specs.Checks.{last_comm};
+ghost use Rattle.script_rules.specs.Closed.{IsClosed};
 ghost use Rattle.script_reader.specs.Reading.{parse_script, read_as, read_file, version_of};
-ghost use Rattle.script_reader.specs.Settled.{NamesCommsTo, SplitsWorldAlone};
-ghost use Rattle.script_reader.specs.Limits.{most_names};
+ghost use Rattle.script_rules.specs.Settled.{NamesCommsTo, SplitsWorldAlone};
+ghost use Rattle.script_rules.specs.Limits.{most_names};
 ghost use Rattle.texts.specs.Cuts.{lines_of};
 
 /// A file is read by the grammar of version 1, but where its first line that has words is `rcce 2`.

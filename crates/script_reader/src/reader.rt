@@ -1,19 +1,13 @@
 //! The lines so far, and what a line adds to them.
 
-use crate::checks::{has_no_parent, is_new_split, is_unknown, refuses_by};
-use crate::effect::{Effect, effect_of};
-use crate::ends::tell_ends;
-use crate::fault::{FAULT_TABLE, FaultKind, LineStop};
-use crate::name::Name;
-use crate::repeats::{
-    MOST_OPEN, Open, innermost, is_stray, is_too_deep, note_repeat, turns_in, turns_too_often,
-};
-use crate::run::Run;
-use crate::script::{Item, Scripts, Stmt, Who, rules_of};
-use crate::tally::{Tally, no_tallies, note_item};
-use crate::uses::{is_too_long, reads};
-use crate::version::Version;
+use crate::fault::{FAULT_TABLE, LineStop};
 use arrayvec::ArrayVec;
+use script_rules::{
+    Effect, FaultKind, Item, MOST_OPEN, Name, Open, Run, Scripts, Stmt, Tally, Version, Who,
+    effect_of, has_no_parent, innermost, is_new_split, is_stray, is_too_deep, is_too_long,
+    is_unknown, no_tallies, note_item, note_repeat, reads, refuses_by, rules_of, tell_ends,
+    turns_in, turns_too_often,
+};
 use std::alloc::{AllocError, Global};
 use std::marker::Model;
 
@@ -43,7 +37,7 @@ pub(crate) struct Reader {
 
 impl Model for Reader {
     ghost use Rattle.script_reader.specs.Progress.{ReadingSoFar};
-    ghost use Rattle.script_reader.specs.Tally.{IsKept};
+    ghost use Rattle.script_reader.specs.Kept.{IsKept};
 
     ghost Value = { ReadingSoFar };
 
@@ -61,15 +55,16 @@ impl Model for Reader {
 
 impl Reader {
     ghost use Rattle.std.specs.Prelude.{◌≡◌, ◌+◌, ◌^◌, ◌<◌, ◌≤◌, ◌==◌, ◌&&◌, ◌++◌, ◌∷◌, [], false, IfOk, MatchResult, None, OnOk, Some, length};
-    ghost use Rattle.script_reader.specs.Checks.{innermost, last_comm, open_of, refuses, some_below};
-    ghost use Rattle.script_reader.specs.Effects.{effect_of};
+    ghost use Rattle.script_rules.specs.Checks.{innermost, last_comm, open_of, refuses, some_below};
+    ghost use Rattle.script_rules.specs.Effects.{effect_of};
     ghost use Rattle.script_reader.specs.Faults.{LineGives};
     ghost use Rattle.script_reader.specs.Progress.{section_or_fault, first_fault, has_fault, is_refused, with_known_name, open_section, past, place, register_of, start};
-    ghost use Rattle.script_reader.specs.Settled.{HasCommsTo, IsNamed};
+    ghost use Rattle.script_rules.specs.Settled.{HasCommsTo, IsNamed};
     ghost use Rattle.script_reader.specs.Reading.{script_of};
-    ghost use Rattle.script_reader.specs.Script.{has_rank};
-    ghost use Rattle.script_reader.specs.Tally.{IsAimed, IsMade, IsUpTo, register_pair};
-    ghost use Rattle.script_reader.specs.Limits.{most_names};
+    ghost use Rattle.script_rules.specs.Script.{has_rank};
+    ghost use Rattle.script_reader.specs.Kept.{IsUpTo, register_pair};
+    ghost use Rattle.script_rules.specs.Tally.{IsAimed, IsMade};
+    ghost use Rattle.script_rules.specs.Limits.{most_names};
 
     /// Before the first line.
     pub(crate) fn new(alloc: Global, version: Version, nue: u8) -> Result<Reader, AllocError>

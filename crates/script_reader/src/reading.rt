@@ -3,20 +3,19 @@
 ghost use Rattle.std.specs.Prelude.{◌≡◌, ◌<◌, ◌≤◌, ◌^◌, IfOk, OnOk, length, map};
 ghost use Rattle.script_reader.specs.Faults.{Gives, LineGives, stop_of};
 ghost use Rattle.script_reader.specs.Reading.{parse_script, read_all_lines, read_file, read_line, read_lines, read_words, says_two, version_of};
-ghost use Rattle.script_reader.specs.Tally.{IsUpTo};
-ghost use Rattle.script_reader.specs.Checks.{last_comm};
-ghost use Rattle.script_reader.specs.Settled.{HasCommsTo, NamesCommsTo, SplitsWorldAlone};
-ghost use Rattle.script_reader.specs.declared.version.Version.TheVariants.{One};
-ghost use Rattle.script_reader.specs.Limits.{most_names};
+ghost use Rattle.script_reader.specs.Kept.{IsUpTo};
+ghost use Rattle.script_rules.specs.Checks.{last_comm};
+ghost use Rattle.script_rules.specs.Settled.{HasCommsTo, NamesCommsTo, SplitsWorldAlone};
+ghost use Rattle.script_rules.specs.declared.version.Version.TheVariants.{One};
+ghost use Rattle.script_rules.specs.Limits.{most_names};
 ghost use Rattle.texts.specs.Cuts.{lines_of};
 
-use crate::fault::{FaultKind, LineStop, ReadFault, ReadStop};
+use crate::fault::{LineStop, ReadFault, ReadStop};
 use crate::reader::Reader;
 use crate::said::said_of;
-use crate::script::Scripts;
 use crate::taking::take;
-use crate::version::Version;
 use crate::words::is_word;
+use script_rules::{FaultKind, Scripts, Version};
 use std::alloc::{AllocError, Global};
 use texts::{is_number, is_text, line_count, lines, number, words};
 

@@ -4,18 +4,15 @@ ghost use Rattle.std.specs.Prelude.{◌≡◌, map};
 ghost use Rattle.script_reader.specs.Faults.{LineGives};
 ghost use Rattle.script_reader.specs.Said.{dash_of, ranks_said, one_word_said, group_said, local_said, local_word, rcce_said, register_said, repeat_said, said_of, section_said, span_said, ue_said};
 
-use crate::fault::{FaultKind, LineStop};
-use crate::name::Name;
+use crate::fault::LineStop;
 use crate::said_groups::{allreduce_said, barrier_said, bcast_said, reduce_said, split_said};
 use crate::said_locals::{
     apply_said, bytes_said, fill_said, numbers_said, post_said, print_said, rank_of_said,
     recv_said, send_said,
 };
-use crate::script::Form;
-use crate::tally::MOST_OPERATIONS;
-use crate::version::Version;
 use crate::words::{Parts, is_word, number_said, range_said};
 use groups::{Op, Ty};
+use script_rules::{FaultKind, Form, MOST_OPERATIONS, Name, Version};
 use std::alloc::Global;
 use texts::Bytes;
 

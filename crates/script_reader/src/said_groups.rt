@@ -3,12 +3,11 @@
 ghost use Rattle.std.specs.Prelude.{◌≡◌, map};
 ghost use Rattle.script_reader.specs.Said.{allreduce_words, reduce_words, bcast_words, allreduce_said, barrier_said, bcast_said, parent_split_said, reduce_said, split_said, world_split_said};
 
-use crate::fault::FaultKind;
 use crate::said::{Collective, Said};
-use crate::version::Version;
 use crate::words::{
     colour_said, name_said, number_said, of_said, operation_said, parts_said, type_said,
 };
+use script_rules::{FaultKind, Version};
 
 pub(crate) fn barrier_said(words: &[&[u8]]) -> Result<Said, FaultKind>
     ensures { result ≡ barrier_said (map (λ word. word.now) words.now) }

@@ -4,13 +4,13 @@ ghost use Rattle.std.specs.Prelude.{◌≡◌, [], ◌∷◌, map};
 ghost use Rattle.script_reader.specs.Faults.{LineGives};
 ghost use Rattle.script_reader.specs.Said.{post_words, send_words, hex_print_said, typed_print_said, values_named, recv_words, apply_words, fill_words, apply_said, bytes_said, fill_said, numbers_said, post_said, print_said, rank_of_said, recv_said, send_said};
 
-use crate::fault::{FaultKind, LineStop};
+use crate::fault::LineStop;
 use crate::said::{Local, Message, Said};
-use crate::script::Form;
 use crate::words::{
     hex_said, name_said, number_said, operation_said, peer_said, range_said, type_said, values_said,
 };
 use groups::Ty;
+use script_rules::{FaultKind, Form};
 use std::alloc::Global;
 
 fn bytes_words(alloc: Global, name: &[u8], hex: &[u8]) -> Result<Local, LineStop>

@@ -3,19 +3,19 @@
 ghost use Rattle.std.specs.Prelude.{◌≡◌, ◌<◌, ◌≤◌, IfOk, MatchResult, length, OnOk};
 ghost use Rattle.script_reader.specs.Faults.{LineGives};
 ghost use Rattle.script_reader.specs.Progress.{after_script_line, after_group, after_local, after_message, after_section, peer_in, rank_said, rule_said, small};
-ghost use Rattle.script_reader.specs.Tally.{IsParted, IsUpTo, IsPeerWithin};
+ghost use Rattle.script_reader.specs.Kept.{IsUpTo};
+ghost use Rattle.script_rules.specs.Tally.{IsParted, IsPeerWithin};
 ghost use Rattle.script_reader.specs.declared.said.Collective.TheVariants.{Allreduce, Bcast, Reduce, Split};
 ghost use Rattle.script_reader.specs.declared.said.Section.TheVariants.{Span};
-ghost use Rattle.script_reader.specs.Limits.{most_names};
+ghost use Rattle.script_rules.specs.Limits.{most_names};
 
-use crate::fault::{FaultKind, LineStop};
-use crate::name::Name;
+use crate::fault::LineStop;
 use crate::reader::{Pair, Reader};
 use crate::said::{Collective, Colour, Local, Message, PeerSaid, Said, Section};
-use crate::script::{OwnStmt, Peer, Stmt, Who};
 use crate::words::Parts;
 use groups::{Op, Ty};
 use scc_base::{CommRule, Rank};
+use script_rules::{FaultKind, Name, OwnStmt, Peer, Stmt, Who};
 
 /// A number as a rank.
 fn rank_said(nue: u8, number: u32) -> Result<Rank, FaultKind>

@@ -1,17 +1,17 @@
 //! Words: numbers, values, names and bytes.
 
-ghost use Rattle.std.specs.Prelude.{◌≡◌, ◌+◌, ◌≤◌, length, map, IfOk, OnOk, [], ◌++◌};
+ghost use Rattle.std.specs.Prelude.{◌≡◌, ◌+◌, ◌≤◌, map, IfOk, OnOk, [], ◌++◌};
 ghost use Rattle.std.specs.List.{list_all};
 ghost use Rattle.std.specs.Str.{bytes_eq};
 ghost use Rattle.script_reader.specs.Faults.{LineGives};
 ghost use Rattle.script_reader.specs.Said.{colour_said, hex_said, name_said, number_said, of_said, operation_said, peer_said, range_said, type_said, value_behind, values_said};
 ghost use Rattle.script_reader.specs.Words.{bytes_above, bytes_below, greatest, is_name, is_name_byte};
 
-use crate::fault::{FaultKind, LineStop};
-use crate::name::Name;
+use crate::fault::LineStop;
 use crate::said::{Colour, PeerSaid};
 use groups::{Op, Ty};
 use hex::FromHexError;
+use script_rules::{FaultKind, Name};
 use std::alloc::{AllocError, Global};
 use std::marker::Model;
 use texts::{Bytes, decimal, number};

@@ -29,7 +29,7 @@ use Rattle.send_recv.specs.declared.answers.RecvTurn.TheVariants as turn
 use Rattle.send_recv.specs.Chunks.{chunk_count, chunk_start, chunk_len, chunk_lines_of, lines_from}
 use Rattle.send_recv.specs.Ops.{RecvAt, is_received}
 use Rattle.send_recv.specs.Ranks.{Receiver}
-use Rattle.sync_flags.specs.Tries.{Tried, tries_at, changing_after}
+use Rattle.sync_flags.specs.Tries.{Aim, Tried, tries_at, changing_after}
 use Rattle.send_recv.specs.Sights.{chunk_at, layout_at, header_line, chunk_line, LooksFor, Lowers, Raises}
 use Rattle.send_recv.specs.Steps.{flag_spot, with_empty_cache, before_line, goes_on}
 use Rattle.send_recv.specs.Tries.{aim_of, aim_at}
@@ -162,6 +162,10 @@ spot_by layout own other from stage = None
 abbrev pub recv_spot : Seat → RecvAt → Option Spot
 recv_spot seat op = spot_by seat.setup.layout (host_of seat.setup.hosts seat.rank) (host_of seat.setup.hosts op.from) op.from op.stage
 
+-- what the one try of a receive's turn is for
+abbrev pub aim_of_receive : Seat → RecvAt → Option Aim
+aim_of_receive seat op = aim_at seat.setup.layout (recv_spot seat op)
+
 -- a spot at which some stage of the receive makes its try
 abbrev pub IsRecvSpot : Seat → RecvAt → Spot → Type 0
 IsRecvSpot seat op spot = (stage : RecvStage) × (recv_spot seat (record op { stage = stage }) ≡ Some spot)
@@ -216,7 +220,7 @@ pub record RecvTurned (old now : Receiver) (answer : RecvTurn) : Type 0 where
   -- what its stage does, and nothing else
   pub does : RecvDoes old old.op.stage (goes_on answer) now.sight now.core
   -- it waits exactly where its one try was vain
-  pub tried : Tried (aim_at (layout_at old.sight) (recv_spot old.sight.seat old.op)) events (recv_waits answer)
+  pub tried : Tried (aim_of_receive old.sight.seat old.op) events (recv_waits answer)
   -- it has freed the register that it took
   pub freed : changing_after false events ≡ false
   -- it makes no try at another spot of the receive

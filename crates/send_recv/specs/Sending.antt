@@ -245,6 +245,10 @@ send_spot seat op slot =
     send_spot_by seat.setup.layout (host_of seat.setup.hosts seat.rank) (host_of seat.setup.hosts op.to) op.to
     (slot_spot seat slot) op.stage
 
+-- what the one try of a send's turn is for
+abbrev pub aim_of_send : Seat → SendAt → SlotAt → Option Aim
+aim_of_send seat op slot = aim_at seat.setup.layout (send_spot seat op slot)
+
 -- the call that an op which is not at its end is to finish
 abbrev pub send_call : SendAt → List ℕ → List DataCall
 send_call op bytes = if is_sent op.stage then [] else (if op.posted then Post op.to op.head bytes ∷ [] else Send op.to op.head bytes ∷ [])
@@ -289,7 +293,7 @@ pub record SendTurned (old now : Sender) (answer : Turn) : Type 0 where
   -- what its stage does, and nothing else
   pub does : SendDoes old old.op.stage (moves_on answer) now.sight now.core
   -- it waits exactly where its one try was vain
-  pub tried : Tried (aim_at (layout_at old.sight) (send_spot old.sight.seat old.op old.slot)) events (waits_at answer)
+  pub tried : Tried (aim_of_send old.sight.seat old.op old.slot) events (waits_at answer)
   -- it has freed the register that it took
   pub freed : changing_after false events ≡ false
   -- its last turn ends with a store or a free: no row of vain tries is left, whatever was tried before

@@ -10,10 +10,11 @@ use Rattle.scc_proto.specs.Words.{are_peers}
 use Rattle.scc_proto.specs.Records.{chunk_of}
 use Rattle.scc_proto.specs.Ports.{Sight}
 use Rattle.put_get.specs.Cores.{Private}
+use Rattle.put_get.specs.Transfers.{line_at}
 use Rattle.send_recv.specs.Bytes.{words_at}
 use Rattle.send_recv.specs.Chunks.{chunk_start}
 use Rattle.send_recv.specs.Flags.{Looks, Changes, MayChange}
-use Rattle.send_recv.specs.Steps.{own_core, core_of, signal_flag, flag_spot, line_of_rank}
+use Rattle.send_recv.specs.Steps.{own_core, core_of, signal_flag, flag_spot}
 
 -- the layout of the flags
 abbrev pub layout_at : Sight → Layout
@@ -33,11 +34,11 @@ first_byte s chunk line = chunk_start (chunk_at s) chunk + 32 * line
 
 -- the header line of a rank
 abbrev pub header_line : Sight → ℕ → LineAt
-header_line s j = line_of_rank s.seat j 0
+header_line s j = line_at (core_of s.seat j) 0
 
 -- a line of the chunk buffer of a rank
 abbrev pub chunk_line : Sight → (j line : ℕ) → LineAt
-chunk_line s j line = line_of_rank s.seat j (first_chunk s.seat.setup.layout + line)
+chunk_line s j line = line_at (core_of s.seat j) (first_chunk s.seat.setup.layout + line)
 
 -- the header line of the own rank
 abbrev pub own_header_line : Sight → LineAt

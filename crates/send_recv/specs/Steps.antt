@@ -1,7 +1,7 @@
 -- What each step of a receive, of a send and of a slot does next.
 use Rattle.std.specs.Prelude.{◌≡◌, ◌≢◌, ℕ, ◌+◌, ◌==◌, ◌&&◌, Bool, true, false, if◌then◌else◌, nat_lt, List, [], Some, None, slice_index}
 use Rattle.scc_base.specs.Heads.{MessageHead}
-use Rattle.scc_base.specs.Places.{LineAt, FlagPlace, flag_word}
+use Rattle.scc_base.specs.Places.{FlagPlace, flag_word}
 use Rattle.scc_base.specs.Layouts.{signal_at, chunk_size}
 use Rattle.scc_base.specs.declared.signals.Signal.{Signal}
 use Rattle.scc_base.specs.Setups.{host_of}
@@ -40,10 +40,6 @@ signal_flag seat signal by = signal_at seat.setup.layout signal by
 -- the spot of a flag at a core: its word, and its bit
 abbrev pub flag_spot : ℕ → FlagPlace → Spot
 flag_spot core flag = spot_of_flag (flag_word core flag) flag.bit
-
--- a line of the buffer of a rank
-abbrev pub line_of_rank : Seat → ℕ → ℕ → LineAt
-line_of_rank seat j line = record { core = core_of seat j; line = line }
 
 -- the head that a header line says
 abbrev pub head_in_line : List ℕ → MessageHead

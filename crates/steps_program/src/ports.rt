@@ -22,7 +22,7 @@ fn make_at_home(chip: &mut Chip, kind: Kind, count: u32)
     requires empty { (r : ℕ) → events_in chip.old r ≡ [] }
     ensures made { HasMade chip.new kind count }
 {
-    let _nue = chip.setup().nue();
+    chip.known();
     let mut port = chip.port(Rank::of(0));
     make_many(&mut port, kind, count);
 }
@@ -49,7 +49,7 @@ fn make_away(chip: &mut Chip, kind: Kind, count: u32) -> Token
     requires empty { (r : ℕ) → events_in chip.old r ≡ [] }
     ensures made { HasMadeAway chip.new result kind count }
 {
-    let _nue = chip.setup().nue();
+    chip.known();
     let token = chip.spread(Rank::of(0));
     let mut port = chip.words().port(token);
     make_many(&mut port, kind, count);

@@ -1,15 +1,16 @@
 -- How looks and takes count as tries.
 use Rattle.std.proofs.Common.{◌≡◌, ℕ, zero, suc, ◌+◌, ◌<◌, Bool, true, false, ◌&&◌, ◌==◌, if◌then◌else◌, List, [], ◌∷◌, ◌++◌, Option, length, slice_index, refl, ◌∙◌, ap, arith}
-use Rattle.scc_base.specs.Places.{WordAt, line_of_word, word_of_line}
+use Rattle.scc_base.specs.Places.{WordAt, line_of_word}
 use Rattle.scc_base.specs.declared.events.Event.{Event}
+use Rattle.scc_proto.specs.Words.{is_at}
 use Rattle.scc_proto.proofs.Tests.{eqb_same}
 use Rattle.put_get.specs.Accesses.{loads_of}
 use Rattle.sync_flags.specs.Flags.{is_set_in}
-use Rattle.sync_flags.specs.Tries.{AtFlag, is_same_word, is_unwanted, vain_from}
+use Rattle.sync_flags.specs.Tries.{AtFlag, is_unwanted, vain_from}
 use Rattle.sync_flags.specs.Looks.{AreVain, looks_of}
 
 -- a word of the flag's line is the flag's word where it has its number
-at_word : (p : WordAt) (k : ℕ) → is_same_word p (word_of_line (line_of_word p) k) ≡ (k == p.word)
+at_word : (p : WordAt) (k : ℕ) → is_at p p.core p.line k ≡ (k == p.word)
 at_word p k = λ i. eqb_same p.core i && (eqb_same p.line i && (k == p.word))
 
 -- the count after one load of the line

@@ -4,8 +4,9 @@ use Rattle.std.proofs.Common.{◌≡◌, ℕ, suc, ◌≤◌, ◌↔◌, Bool, t
 use Rattle.scc_base.specs.declared.events.Access.{Access}
 use Rattle.scc_base.specs.declared.events.Access.TheVariants.{Load, Store, Take, Free}
 use Rattle.scc_base.specs.declared.events.Event.{Event}
+use Rattle.scc_proto.specs.Words.{is_at}
 use Rattle.put_get.specs.Transfers.{is_load}
-use Rattle.sync_flags.specs.Tries.{Aim, AtFlag, AtWord, AtRegister, is_take, is_write, is_same_word, is_changing, is_try, is_vain, tries_from, vain_after, vain_from, vain_tries, TriedInVain, changing_after, all_vain, has_write, EndsInVain}
+use Rattle.sync_flags.specs.Tries.{Aim, AtFlag, AtWord, AtRegister, is_take, is_write, is_changing, is_try, is_vain, tries_from, vain_after, vain_from, vain_tries, TriedInVain, changing_after, all_vain, has_write, EndsInVain}
 
 both : (a b : Bool) → (a && b) ≡ true → (a ≡ true) × (b ≡ true)
 both true b t = (refl, t)
@@ -67,11 +68,11 @@ no_take Free t = absurd (cc)
 -- a try is no store and no free
 no_write : (aim : Aim) (changing : Bool) (e : Event) → is_try changing aim e ≡ true → is_write e.access ≡ false
 no_write (AtFlag place bit want) changing e t =
-    let second = both (not changing) (is_load e.access && is_same_word place e.place) t in
-    no_load e.access (both (is_load e.access) (is_same_word place e.place) second.1).0
+    let second = both (not changing) (is_load e.access && is_at place e.place.core e.place.line e.place.word) t in
+    no_load e.access (both (is_load e.access) (is_at place e.place.core e.place.line e.place.word) second.1).0
 no_write (AtWord place value) changing e t =
-    let second = both (not changing) (is_load e.access && is_same_word place e.place) t in
-    no_load e.access (both (is_load e.access) (is_same_word place e.place) second.1).0
+    let second = both (not changing) (is_load e.access && is_at place e.place.core e.place.line e.place.word) t in
+    no_load e.access (both (is_load e.access) (is_at place e.place.core e.place.line e.place.word) second.1).0
 no_write (AtRegister core) changing e t = no_take e.access (both (is_take e.access) (e.place.core == core) t).0
 
 row_next : (aim : Aim) (changing : Bool) (n : ℕ) (e : Event) (es : List Event)

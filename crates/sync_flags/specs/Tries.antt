@@ -7,6 +7,7 @@ use Rattle.scc_base.specs.declared.events.Access.TheVariants.{Store, Take, Free}
 use Rattle.scc_base.specs.declared.events.Event.{Event}
 use Rattle.scc_base.specs.declared.events.Spot.{Spot}
 use Rattle.scc_base.specs.declared.events.Spot.TheVariants.{Flag, Register}
+use Rattle.scc_proto.specs.Words.{is_at}
 use Rattle.put_get.specs.Transfers.{is_load}
 use Rattle.sync_flags.specs.Flags.{is_set_in, spot_of_flag}
 
@@ -34,10 +35,6 @@ is_write Store = true
 is_write Free = true
 is_write access = false
 
--- whether two places are one word
-abbrev pub is_same_word : WordAt → WordAt → Bool
-is_same_word place other = (other.core == place.core) && ((other.line == place.line) && (other.word == place.word))
-
 -- after this event a bit flag is being changed: a register was taken, and was not freed since
 abbrev pub is_changing : Bool → Access → ℕ → Bool
 is_changing before Take value = before || (value == 1)
@@ -47,8 +44,8 @@ is_changing before access value = before
 -- a try at a flag or a word is a load of the word that is not made in the midst of a bit flag's change; a try at
 -- a register is a take of it
 abbrev pub is_try : Bool → Aim → Event → Bool
-is_try changing (AtFlag place bit want) e = not changing && (is_load e.access && is_same_word place e.place)
-is_try changing (AtWord place value) e = not changing && (is_load e.access && is_same_word place e.place)
+is_try changing (AtFlag place bit want) e = not changing && (is_load e.access && is_at place e.place.core e.place.line e.place.word)
+is_try changing (AtWord place value) e = not changing && (is_load e.access && is_at place e.place.core e.place.line e.place.word)
 is_try changing (AtRegister core) e = is_take e.access && (e.place.core == core)
 
 -- the flag is not as wanted

@@ -1,6 +1,6 @@
 //! The judging of the events of a trace, one after the other.
 
-ghost use Rattle.std.specs.Prelude.{◌≡◌, ◌≤◌};
+ghost use Rattle.std.specs.Prelude.{◌≡◌, ◌<◌, ◌≤◌};
 ghost use Rattle.trace_program.specs.Lists.{first_event_line};
 
 use crate::finished::FinishedCalls;
@@ -22,6 +22,13 @@ fn first_event_line(setup: &Setup) -> usize
         }
     }
     line
+}
+
+/// Does nothing. It tells a proof that a rank is below 48.
+fn known(rank: Rank)
+    ensures below { rank < 48 }
+{
+    let _ = rank.number();
 }
 
 /// An event that was refused: its line, its rank, and why.
@@ -74,7 +81,7 @@ impl Trial {
             → TriedBy asked self.new finished.new (event_added r (rank_event made.now)) refused) }
         ensures number { IfOk result (λ _. self.new.number ≡ self.old.number + 1) }
     {
-        let _ = made.rank.number();
+        known(made.rank);
         let line = self.first + self.number;
         self.number += 1;
         match self.judge.take(made.rank, &made.event) {

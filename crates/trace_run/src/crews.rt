@@ -31,7 +31,7 @@ fn turn_at<W: Worker, N: Witness>(
     ensures turned { OneTurn W.conduct chip.old crew.old at chip.new crew.new result.0 }
     ensures seen { HasSeenAll (N.setup result.1) (N.noted result.1) chip.new }
 {
-    let _ = chip.setup().nue();
+    chip.known();
     turn_at_home(chip, Rank::of(at as u8), &mut crew[at], witness)
 }
 

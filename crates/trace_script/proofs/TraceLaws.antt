@@ -1,8 +1,8 @@
 -- A run whose trace is written, by what its engine and its writer leave.
-use Rattle.std.proofs.Common.{◌≡◌, ℕ, ◌<◌, ◌≤◌, Bool, if◌then◌else◌, List, [], length, unwrap_or, Result, Ok, Err, inl, inr, refl, sym, ◌∙◌, ap, subst}
+use Rattle.std.proofs.Common.{◌≡◌, ℕ, ◌<◌, Bool, if◌then◌else◌, List, [], length, unwrap_or, Result, Ok, Err, inl, inr, refl, sym, ◌∙◌, ap, subst}
 use Rattle.rcce_io.specs.Sending.{CutShort, Sends, SinkView, with_text}
 use Rattle.rcce_io.specs.declared.writing.WriteFault.{WriteFault}
-use Rattle.scc_base.specs.Setups.{SetupView}
+use Rattle.scc_base.specs.Setups.{IsSetup, SetupView}
 use Rattle.scc_proto.specs.Agreement.{Agrees}
 use Rattle.scc_proto.specs.Words.{Memory, RankEvent}
 use Rattle.scc_mesh.specs.Scenes.{ChipView, IsNew, about_in, records_in}
@@ -38,13 +38,13 @@ use Rattle.trace_script.specs.declared.endings.TraceEnd.TheVariants as end_of
 use Rattle.trace_script.specs.Tracing.{AreChipEvents, IsTracedOver, StandsTraced, TellsEnd, TellsFault, TracesLoaded, TracesRun, one_thread, refused_line, traced_ran}
 
 module _ (asked : Asked) (first now : ChipView) (crew later : List (Member UeView)) (ranks : asked.setup.nue ≡ asked.script.nue) (new : IsNew asked.setup first)
-    (fresh : AreFresh asked.script asked.setup asked.setup.nue crew) (evictors : HaveEvictors asked.job.evict crew) (some_ranks : 1 ≤ asked.setup.nue)
+    (fresh : AreFresh asked.script asked.setup asked.setup.nue crew) (evictors : HaveEvictors asked.job.evict crew) (valid : IsSetup (about_in first))
     (memory : Memory) (agrees : Agrees (about_in now) memory (records_in now)) (stands : CrewStands ue_members first crew now later) where
   abbrev of_chip : IsFreshCrew asked.script first crew
   of_chip = crew_fresh asked.script asked.setup crew fresh first new
 
   some : 0 < length later
-  some = subst (λ (n : ℕ). 0 < n) (sym stands.goes.count) (fresh_some asked.script first crew asked.setup of_chip (sym new.about) some_ranks)
+  some = subst (λ (n : ℕ). 0 < n) (sym stands.goes.count) (fresh_some asked.script first crew of_chip valid)
 
   pub stands_traced : StandsTraced asked now
   stands_traced = record { setup = stands.goes.about ∙ new.about; whole = stands.is_crew.whole }

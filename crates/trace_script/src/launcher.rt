@@ -131,7 +131,7 @@ fn run_traced<O: Sink>(
     ensures over { IsTracedOver (asked_by loaded.now) chip.new crew.new result }
     ensures legal { AreLegal chip.new }
 {
-    let _ = chip.setup().nue();
+    chip.known();
     let end = write_run(chip, crew, seed_of(loaded.job.serial), out, judge);
     chip.agrees();
     end

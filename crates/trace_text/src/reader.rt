@@ -10,7 +10,7 @@ use crate::lines::event_said;
 use crate::traces::TraceEvent;
 use rcce_audit::words::words;
 use rcce_audit::{begins_comm, comm_said};
-use scc_base::{CommRule, CoreId, Layout, Setup};
+use scc_base::{CommRule, CoreId, Layout, Setup, world_alone};
 use scc_proto::History;
 use std::alloc::{AllocError, Global};
 
@@ -58,14 +58,12 @@ impl TraceReader {
     pub(crate) fn new(head: Head) -> TraceReader
         ensures { progress_of result ≡ behind_head (head_view head) }
     {
-        let mut comms = [CommRule::Absent; 16];
-        comms[0] = CommRule::World;
         let hosts = head.hosts;
         TraceReader {
             nue: head.nue,
             layout: head.layout,
             hosts,
-            comms,
+            comms: world_alone(),
             comm: 0,
             begun: false,
             made: History::new(),

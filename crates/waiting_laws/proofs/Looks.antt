@@ -9,11 +9,11 @@ use Rattle.scc_base.specs.declared.events.Event.{Event}
 use Rattle.scc_proto.specs.Agreement.{Agrees}
 use Rattle.scc_proto.specs.Registers.{Holder, Nobody, HeldBy}
 use Rattle.scc_proto.specs.Stages.{Record}
-use Rattle.scc_proto.specs.Words.{IsStep, IsStepBy, Memory, word_at}
+use Rattle.scc_proto.specs.Words.{is_at, IsStep, IsStepBy, Memory, word_at}
 use Rattle.scc_proto.proofs.Tests.{both_first, both_second, eqb_same, not_true, same_by_eqb, same_or_other}
 use Rattle.put_get.specs.Transfers.{is_load}
 use Rattle.sync_flags.specs.Flags.{is_set_in}
-use Rattle.sync_flags.specs.Tries.{Aim, AtFlag, AtRegister, AtWord, is_same_word, is_take, is_try, is_vain}
+use Rattle.sync_flags.specs.Tries.{Aim, AtFlag, AtRegister, AtWord, is_take, is_try, is_vain}
 use Rattle.chip_run.specs.Turns.{NoneElseHolds}
 use Rattle.waiting_laws.specs.Looks.{Tells}
 
@@ -41,7 +41,7 @@ none_is : {A : Type 0} (o : Option A) → is_none o ≡ true → o ≡ None
 none_is None is = refl
 none_is (Some x) is = absurd (cc)
 
-place_is : (place other : WordAt) → is_same_word place other ≡ true → other ≡ place
+place_is : (place other : WordAt) → is_at place other.core other.line other.word ≡ true → other ≡ place
 place_is place other is =
     let rest = both_second (other.core == place.core) ((other.line == place.line) && (other.word == place.word)) is in
     let core = same_by_eqb other.core place.core (both_first (other.core == place.core) ((other.line == place.line) && (other.word == place.word)) is) in
@@ -50,11 +50,11 @@ place_is place other is =
     λ i. record { core = core i; line = line i; word = word i }
 
 -- a load of a place that was a step has the place's word
-loaded : (changing : Bool) (memory : Memory) (place : WordAt) (e : Event) → (not changing && (is_load e.access && is_same_word place e.place)) ≡ true → IsStep memory e → word_at memory place ≡ e.value
+loaded : (changing : Bool) (memory : Memory) (place : WordAt) (e : Event) → (not changing && (is_load e.access && is_at place e.place.core e.place.line e.place.word)) ≡ true → IsStep memory e → word_at memory place ≡ e.value
 loaded changing memory place e try_is step =
-    let look = both_second (not changing) (is_load e.access && is_same_word place e.place) try_is in
-    let load = load_is e.access (both_first (is_load e.access) (is_same_word place e.place) look) in
-    let there = place_is place e.place (both_second (is_load e.access) (is_same_word place e.place) look) in
+    let look = both_second (not changing) (is_load e.access && is_at place e.place.core e.place.line e.place.word) try_is in
+    let load = load_is e.access (both_first (is_load e.access) (is_at place e.place.core e.place.line e.place.word) look) in
+    let there = place_is place e.place (both_second (is_load e.access) (is_at place e.place.core e.place.line e.place.word) look) in
     let has : word_at memory e.place ≡ e.value = subst (λ (a : Access). IsStepBy a e.place e.value memory) load step in
     ap (word_at memory) (sym there) ∙ has
 

@@ -7,9 +7,8 @@ ghost use Rattle.scc_proto.specs.Words.{Memory};
 ghost use Rattle.put_get.specs.Cores.{Private};
 ghost use Rattle.sync_flags.specs.Tries.{Aim};
 ghost use Rattle.send_recv.specs.Ops.{RecvAt, SendAt, SlotAt};
-ghost use Rattle.send_recv.specs.Receiving.{IsReceiving, recv_spot};
-ghost use Rattle.send_recv.specs.Sending.{IsSending, send_spot};
-ghost use Rattle.send_recv.specs.Tries.{aim_at};
+ghost use Rattle.send_recv.specs.Receiving.{IsReceiving, aim_of_receive};
+ghost use Rattle.send_recv.specs.Sending.{IsSending, aim_of_send};
 ghost use Rattle.chip_run.specs.Wants.{Want};
 ghost use Rattle.waiting_laws.specs.Looks.{LookedInVain, SeatWaits};
 
@@ -18,11 +17,11 @@ pub fn vain_looks()
     ensures sends { (seat : Seat) (memory : Memory) (records : ℕ → Record) (rec : Record) (aim : Aim) (c : Private) (op : SendAt)
         (slot : SlotAt) (bytes : List ℕ)
         → LookedInVain seat memory records rec aim → IsSending seat rec c op slot bytes
-        → aim_at seat.setup.layout (send_spot seat op slot) ≡ Some aim
+        → aim_of_send seat op slot ≡ Some aim
         → SeatWaits seat memory records (Want.Send op.to op.head) }
     ensures receives { (seat : Seat) (memory : Memory) (records : ℕ → Record) (rec : Record) (aim : Aim) (c : Private) (op : RecvAt)
         (bytes : List ℕ)
         → LookedInVain seat memory records rec aim → IsReceiving seat rec c op bytes
-        → aim_at seat.setup.layout (recv_spot seat op) ≡ Some aim
+        → aim_of_receive seat op ≡ Some aim
         → SeatWaits seat memory records (Want.Recv op.from) }
 {}

@@ -19,7 +19,7 @@ use Rattle.scc_proto.proofs.Layouts.MoveFacts.{IsViewStep, SameView}
 use Rattle.scc_proto.proofs.Tests.{same_or_other, put_here, put_there, peers_are, peers_swap}
 use Rattle.scc_proto.proofs.Pairs.PairFrames.{same_pair}
 use Rattle.scc_proto.proofs.Agreement.SingleLaw.{single_kept}
-use Rattle.scc_proto.proofs.Pairs.SenderLaw.{sender_kept, header_left, chunk_left}
+use Rattle.scc_proto.proofs.Pairs.SenderLaw.{sender_kept, buffer_left}
 use Rattle.scc_proto.proofs.Pairs.PairLaw.{pairs_kept}
 use Rattle.scc_proto.proofs.Barriers.GroupLaw.{groups_kept}
 use Rattle.scc_proto.proofs.Legality.LegalLaws.{legal_grown}
@@ -107,8 +107,8 @@ senders_kept s me view records move step senders r below =
     (subst (λ (x : Record). BufferStands x ((view_after_move me move view).header me) ((view_after_move me move view).chunk me)) (sym (put_here records me (after (chunk_of s) move (records me))))
     (sender_kept s me view (records me) move step (senders me step.rank))))
     (λ t ne. subst (λ (x : Record). BufferStands x ((view_after_move me move view).header r) ((view_after_move me move view).chunk r)) (sym (put_there records me (after (chunk_of s) move (records me)) r ne))
-    (subst (λ (h : ℕ → ℕ). BufferStands (records r) h ((view_after_move me move view).chunk r)) (sym (header_left me r view move ne))
-    (subst (λ (c : ℕ → ℕ). BufferStands (records r) (view.header r) c) (sym (chunk_left me r view move ne)) (senders r below))))
+    (subst (λ (h : ℕ → ℕ). BufferStands (records r) h ((view_after_move me move view).chunk r)) (sym (buffer_left me r view move ne).0)
+    (subst (λ (c : ℕ → ℕ). BufferStands (records r) (view.header r) c) (sym (buffer_left me r view move ne).1) (senders r below))))
 
 -- ---- all records
 

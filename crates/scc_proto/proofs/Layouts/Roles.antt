@@ -221,7 +221,7 @@ ready_line s from to peers = let back : 49 + to - 49 ≡ to = omega arith in
     ∙ ap (λ (r : ℕ). if_peers s from r (SignalFlag Ready r from)) back ∙ if_yes (are_peers s from to) (SignalFlag Ready to from) IdleWord peers
 
 -- the lines of a signal's flags are among those of flags
-signal_lines : (signal : Signal) → (1 ≤ first_signal signal) × (first_signal signal ≤ 49)
+pub signal_lines : (signal : Signal) → (1 ≤ first_signal signal) × (first_signal signal ≤ 49)
 signal_lines Sent = (omega arith, omega arith)
 signal_lines Ready = (omega arith, omega arith)
 

@@ -18,7 +18,7 @@ use Rattle.scc_proto.proofs.Layouts.MoveFacts.{IsMoveOf, Tells, IsViewStep}
 use Rattle.scc_proto.proofs.Tests.{same_or_other, put_here, put_there, put_two_here, put_two_first, put_two_second, put_signal_left, eqb_same, same_by_eqb, ArePeers, peers_are}
 use Rattle.scc_proto.proofs.Pairs.PairFrames.{same_pair, sending-read_chunk, sending-lower_sent, sending-raise_ready, sending-flip_gather, sending-look_gather, sending-write_release, sending-look_release, taking-draft_header, taking-draft_chunk, taking-raise_sent, taking-look_ready, taking-lower_ready, taking-flip_gather, taking-look_gather, taking-write_release, taking-look_release, sent-calls_received, received-calls_raised, received-calls_sent, sent-finished_bar, received-finished_bar, sent-calls_released, received-calls_released, sent-calls_let_go, received-calls_let_go}
 use Rattle.scc_proto.proofs.Pairs.OfferFacts.{offers, posted_last}
-use Rattle.scc_proto.proofs.Pairs.SenderLaw.{header_left, chunk_left}
+use Rattle.scc_proto.proofs.Pairs.SenderLaw.{buffer_left}
 use Rattle.scc_proto.proofs.Pairs.SenderMoves.{header_drafted, chunk_drafted, sent_raised_here, sent_raised_there, ready_looked_at, ready_lowered}
 use Rattle.scc_proto.proofs.Pairs.TakerMoves.{Stands, sent_looked_at, header_read, chunk_read, sent_lowered_here, sent_lowered_there, ready_raised_here, ready_raised_there}
 
@@ -76,8 +76,8 @@ module _ (s : SetupView) (from me : ℕ) (view : View) (other rec : Record) (sin
   offered a p m w is = offers s from me a p m w (view.header from) (view.chunk from) other single stands is
 
   pub of_taker : (move : Move) → IsMoveOf s me move → Tells me move view → permits (chunk_of s) move rec ≡ true → Phase (chunk_of s) (pair_of from me (view_after_move me move view) other (after (chunk_of s) move rec))
-  of_taker (DraftHeader k v) own told may = same_pair (chunk_of s) (pair_of from me view other rec) _ refl refl refl (taking-draft_header from k v rec.stage) refl (header_left me from view (DraftHeader k v) peers.apart) refl refl refl phase
-  of_taker (DraftChunk k v) own told may = same_pair (chunk_of s) (pair_of from me view other rec) _ refl refl refl (taking-draft_chunk from k v rec.stage) refl refl (chunk_left me from view (DraftChunk k v) peers.apart) refl refl phase
+  of_taker (DraftHeader k v) own told may = same_pair (chunk_of s) (pair_of from me view other rec) _ refl refl refl (taking-draft_header from k v rec.stage) refl (buffer_left me from view (DraftHeader k v) peers.apart).0 refl refl refl phase
+  of_taker (DraftChunk k v) own told may = same_pair (chunk_of s) (pair_of from me view other rec) _ refl refl refl (taking-draft_chunk from k v rec.stage) refl refl (buffer_left me from view (DraftChunk k v) peers.apart).1 refl refl phase
   of_taker (RaiseSignal Sent to) own told may = same_pair (chunk_of s) (pair_of from me view other rec) _ (put_two_first (view.signal Sent) me to 1 from me peers.apart) refl refl (taking-raise_sent from to rec.stage) refl refl refl refl
       (received-calls_raised from rec.calls (chunk_of s) to rec.stage) phase
   of_taker (LookSignal Sent is_set) own told may = sent_looked_at (chunk_of s) from (view.signal Sent from me) (view.signal Ready me from) (sending_side me other.stage other.post) rec.stage (rec.notes from) (view.header from) (view.chunk from) _ rec.calls
@@ -166,5 +166,5 @@ pairs_kept s me view records move step singles senders pairs from to peers =
     let b : next to ≡ records to = put_there records me (after (chunk_of s) move (records me)) to nf in
     same_pair (chunk_of s) (pair_of from to view (records from) (records to)) _ (signal_left me Sent from to view move ne nf) (signal_left me Ready to from view move nf ne)
     (ap (λ (x : Record). sending_side to x.stage x.post) a) (ap (λ (x : Record). taking_side from x.stage) b) (ap (λ (x : Record). x.notes from) b)
-    (header_left me from view move ne) (chunk_left me from view move ne)
+    (buffer_left me from view move ne).0 (buffer_left me from view move ne).1
     (ap (λ (x : Record). sent_messages to x.calls) a) (ap (λ (x : Record). received_messages from x.calls) b) (pairs from to peers)))

@@ -201,36 +201,19 @@ pub sender_kept : (s : SetupView) (me : ℕ) (view : View) (rec : Record) (move 
 sender_kept s me view rec move step old = sender_by s me view rec old move step.permitted
 
 -- no other rank's buffer changes
-pub header_left : (me r : ℕ) (view : View) (move : Move) → r ≢ me → (view_after_move me move view).header r ≡ view.header r
-header_left me r view (DraftHeader k v) ne = λ i j. put_two_first view.header me k v r j ne i
-header_left me r view (DraftChunk k v) ne = refl
-header_left me r view (RaiseSignal signal to) ne = refl
-header_left me r view (LookSignal signal is_set) ne = refl
-header_left me r view (ReadHeader from k v) ne = refl
-header_left me r view (ReadChunk from k v) ne = refl
-header_left me r view (LowerSignal Sent from) ne = refl
-header_left me r view (LowerSignal Ready by) ne = refl
-header_left me r view (FlipGather comm value last) ne = refl
-header_left me r view (LookGather comm from place value) ne = refl
-header_left me r view (WriteRelease comm to place value last) ne = refl
-header_left me r view (LookRelease comm value) ne = refl
-header_left me r view (StoreHeap place value) ne = refl
-header_left me r view NoMove ne = refl
-header_left me r view Misplaced ne = refl
-
-pub chunk_left : (me r : ℕ) (view : View) (move : Move) → r ≢ me → (view_after_move me move view).chunk r ≡ view.chunk r
-chunk_left me r view (DraftHeader k v) ne = refl
-chunk_left me r view (DraftChunk k v) ne = λ i j. put_two_first view.chunk me k v r j ne i
-chunk_left me r view (RaiseSignal signal to) ne = refl
-chunk_left me r view (LookSignal signal is_set) ne = refl
-chunk_left me r view (ReadHeader from k v) ne = refl
-chunk_left me r view (ReadChunk from k v) ne = refl
-chunk_left me r view (LowerSignal Sent from) ne = refl
-chunk_left me r view (LowerSignal Ready by) ne = refl
-chunk_left me r view (FlipGather comm value last) ne = refl
-chunk_left me r view (LookGather comm from place value) ne = refl
-chunk_left me r view (WriteRelease comm to place value last) ne = refl
-chunk_left me r view (LookRelease comm value) ne = refl
-chunk_left me r view (StoreHeap place value) ne = refl
-chunk_left me r view NoMove ne = refl
-chunk_left me r view Misplaced ne = refl
+pub buffer_left : (me r : ℕ) (view : View) (move : Move) → r ≢ me
+    → ((view_after_move me move view).header r ≡ view.header r) × ((view_after_move me move view).chunk r ≡ view.chunk r)
+buffer_left me r view (DraftHeader k v) ne = ((λ i j. put_two_first view.header me k v r j ne i), refl)
+buffer_left me r view (DraftChunk k v) ne = (refl, (λ i j. put_two_first view.chunk me k v r j ne i))
+buffer_left me r view (RaiseSignal signal to) ne = (refl, refl)
+buffer_left me r view (LookSignal signal is_set) ne = (refl, refl)
+buffer_left me r view (ReadHeader from k v) ne = (refl, refl)
+buffer_left me r view (ReadChunk from k v) ne = (refl, refl)
+buffer_left me r view (LowerSignal signal by) ne = (refl, refl)
+buffer_left me r view (FlipGather comm value last) ne = (refl, refl)
+buffer_left me r view (LookGather comm from place value) ne = (refl, refl)
+buffer_left me r view (WriteRelease comm to place value last) ne = (refl, refl)
+buffer_left me r view (LookRelease comm value) ne = (refl, refl)
+buffer_left me r view (StoreHeap place value) ne = (refl, refl)
+buffer_left me r view NoMove ne = (refl, refl)
+buffer_left me r view Misplaced ne = (refl, refl)

@@ -20,15 +20,15 @@ use Rattle.scc_base.specs.Heads.{IsHead, plain_head}
 use Rattle.scc_base.specs.Setups.{SetupView}
 use Rattle.scc_base.specs.declared.communicators.CommRule.{CommRule}
 use Rattle.scc_base.specs.declared.communicators.CommRule.TheVariants as rule
-use Rattle.script_reader.specs.Checks.{has_root, is_absent, is_to_self}
-use Rattle.script_reader.specs.Effects.{comm_needed, effect_of}
-use Rattle.script_reader.specs.Script.{IsSized, Script, has_rank, peer_of, rules_of}
-use Rattle.script_reader.specs.Settled.{HasPeer, IsSettled, IsWholeScript}
-use Rattle.script_reader.specs.declared.script.Item.{Item}
-use Rattle.script_reader.specs.declared.script.Peer.{Peer}
-use Rattle.script_reader.specs.declared.script.Stmt.{Stmt}
-use Rattle.script_reader.specs.declared.script.Stmt.TheVariants as stmt
-use Rattle.script_reader.proofs.SettledLemmas.{present-low}
+use Rattle.script_rules.specs.Checks.{has_root, is_absent, is_to_self}
+use Rattle.script_rules.specs.Effects.{comm_needed, effect_of}
+use Rattle.script_rules.specs.Script.{IsSized, Script, has_rank, peer_of, rules_of}
+use Rattle.script_rules.specs.Settled.{HasPeer, IsSettled, IsWholeScript}
+use Rattle.script_rules.specs.declared.script.Item.{Item}
+use Rattle.script_rules.specs.declared.script.Peer.{Peer}
+use Rattle.script_rules.specs.declared.script.Stmt.{Stmt}
+use Rattle.script_rules.specs.declared.script.Stmt.TheVariants as stmt
+use Rattle.script_rules.proofs.SettledLemmas.{present-low}
 use Rattle.script_machine.specs.declared.prims.Operands.{Operands}
 use Rattle.script_machine.specs.Program.{Act, Prim, acts_of, begins, call_steps, can_call, part_of, parts_of, prims_of, program_of, setup_of}
 use Rattle.script_machine.proofs.ProgramLengths.LengthLemmas.{at-found}

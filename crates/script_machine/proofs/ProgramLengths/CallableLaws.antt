@@ -10,15 +10,15 @@ use Rattle.scc_base.specs.Communicators.{rule_of}
 use Rattle.scc_base.specs.Setups.{size_of}
 use Rattle.scc_base.specs.declared.communicators.CommRule.{CommRule}
 use Rattle.scc_base.specs.declared.communicators.CommRule.TheVariants as rule
-use Rattle.script_reader.specs.Checks.{has_no_root, has_root, is_absent, is_past_group}
-use Rattle.script_reader.specs.Effects.{comm_needed, effect_of}
-use Rattle.script_reader.specs.Script.{IsSized, Script, has_rank, rules_of}
-use Rattle.script_reader.specs.Settled.{IsSettled, IsWholeScript, run_with}
-use Rattle.script_reader.specs.declared.script.Item.{Item}
-use Rattle.script_reader.specs.declared.script.Stmt.{Stmt}
-use Rattle.script_reader.specs.declared.script.Stmt.TheVariants as stmt
+use Rattle.script_rules.specs.Checks.{has_no_root, has_root, is_absent, is_past_group}
+use Rattle.script_rules.specs.Effects.{comm_needed, effect_of}
+use Rattle.script_rules.specs.Script.{IsSized, Script, has_rank, rules_of}
+use Rattle.script_rules.specs.Settled.{IsSettled, IsWholeScript, run_with}
+use Rattle.script_rules.specs.declared.script.Item.{Item}
+use Rattle.script_rules.specs.declared.script.Stmt.{Stmt}
+use Rattle.script_rules.specs.declared.script.Stmt.TheVariants as stmt
 use Rattle.script_machine.proofs.ProgramLengths.LengthLemmas.{at-found}
-use Rattle.script_reader.proofs.SettledLemmas.{present-low}
+use Rattle.script_rules.proofs.SettledLemmas.{present-low}
 use Rattle.script_machine.specs.declared.prims.Collective.{Collective}
 use Rattle.script_machine.specs.Program.{can_call, collective_of, setup_of}
 use Rattle.script_machine.proofs.Choices as choices

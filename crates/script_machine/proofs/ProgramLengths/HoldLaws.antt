@@ -1,6 +1,6 @@
 -- What the machine of a rank holds has room for what comes, and comes to what the rank comes to.
 use Rattle.std.proofs.Common.{◌≡◌, ℕ, true, List, [], length, drop, Option, Some, refl, ap, arith}
-use Rattle.script_reader.specs.declared.script.OwnStmt.TheVariants as own
+use Rattle.script_rules.specs.declared.script.OwnStmt.TheVariants as own
 use Rattle.script_machine.specs.declared.held.Held.{Held}
 use Rattle.script_machine.specs.declared.prims.Action.{Action}
 use Rattle.script_machine.specs.declared.prims.Action.TheVariants as action

@@ -6,14 +6,14 @@ use Rattle.groups.specs.declared.operations.Ty.{Ty}
 use Rattle.scc_base.specs.Communicators.{key_of}
 use Rattle.scc_base.specs.Groups.{place_in}
 use Rattle.scc_base.specs.declared.communicators.CommRule.{CommRule}
-use Rattle.script_reader.specs.Acceptance.{IsFitting, IsPostable, IsReadable, IsWholeOf, length_before, length_of}
-use Rattle.script_reader.specs.Effects.{effect_of}
-use Rattle.script_reader.specs.Script.{Script, has_rank, rules_of}
-use Rattle.script_reader.specs.Settled.{IsWholeScript, run_with}
-use Rattle.script_reader.specs.declared.script.Item.{Item}
-use Rattle.script_reader.specs.declared.script.Stmt.{Stmt}
-use Rattle.script_reader.specs.declared.script.Stmt.TheVariants as stmt
-use Rattle.script_reader.proofs.AcceptanceLemmas.{fitting-law, postable-law, set-law, stays-law}
+use Rattle.script_rules.specs.Acceptance.{IsFitting, IsPostable, IsReadable, IsWholeOf, length_before, length_of}
+use Rattle.script_rules.specs.Effects.{effect_of}
+use Rattle.script_rules.specs.Script.{Script, has_rank, rules_of}
+use Rattle.script_rules.specs.Settled.{IsWholeScript, run_with}
+use Rattle.script_rules.specs.declared.script.Item.{Item}
+use Rattle.script_rules.specs.declared.script.Stmt.{Stmt}
+use Rattle.script_rules.specs.declared.script.Stmt.TheVariants as stmt
+use Rattle.script_rules.proofs.AcceptanceLemmas.{fitting-law, postable-law, set-law, stays-law}
 
 -- a length that is there, and a multiple of the type's width
 abbrev pub IsEven : Ty → Option ℕ → Type 0

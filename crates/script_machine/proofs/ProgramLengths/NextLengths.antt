@@ -3,8 +3,8 @@ use Rattle.std.proofs.Common.{◌≡◌, ℕ, zero, suc, ◌+◌, ◌%◌, ◌==
 use Rattle.std.proofs.lemmas.Bool.{eqb-true}
 use Rattle.std.proofs.lemmas.List.{length-append, map-set}
 use Rattle.std.proofs.lemmas.List.Sums.{sum_by-append}
-use Rattle.script_reader.specs.declared.script.OwnStmt.{OwnStmt}
-use Rattle.script_reader.specs.declared.script.OwnStmt.TheVariants as own
+use Rattle.script_rules.specs.declared.script.OwnStmt.{OwnStmt}
+use Rattle.script_rules.specs.declared.script.OwnStmt.TheVariants as own
 use Rattle.script_machine.specs.Printed.{Printed}
 use Rattle.groups.specs.Folds.{bytes_in, fold_values}
 use Rattle.groups.specs.declared.operations.Op.{Op}

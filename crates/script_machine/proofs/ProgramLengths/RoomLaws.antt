@@ -11,7 +11,7 @@ use Rattle.script_machine.specs.Printed.{Printed}
 use Rattle.script_machine.specs.declared.prims.Standing.{Standing}
 use Rattle.script_machine.specs.declared.prims.Standing.TheVariants as standing
 use Rattle.script_machine.specs.declared.prints.Entry.{Entry}
-use Rattle.script_reader.specs.Script.{Script}
+use Rattle.script_rules.specs.Script.{Script}
 use Rattle.scc_base.specs.Heads.{MessageHead}
 use Rattle.script_machine.specs.Lengths.{Lengths, length_of_register, lengths_after, lengths_of, with_register}
 use Rattle.script_machine.specs.Local.{Local, local_next, local_start, next_by_act, next_by_prim, next_prim, prim_by_standing}

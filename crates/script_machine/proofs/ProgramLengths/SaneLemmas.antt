@@ -7,7 +7,7 @@ use Rattle.groups.specs.Peers.{IsPeer}
 use Rattle.scc_base.specs.Communicators.{rule_of}
 use Rattle.scc_base.specs.Heads.{IsHead, IsPostHead, MessageHead}
 use Rattle.scc_base.specs.declared.communicators.CommRule.TheVariants as rule
-use Rattle.script_reader.specs.Script.{Script, rules_of}
+use Rattle.script_rules.specs.Script.{Script, rules_of}
 use Rattle.script_machine.specs.declared.prims.Source.{Source}
 use Rattle.script_machine.specs.declared.prims.Source.TheVariants as source_of
 use Rattle.script_machine.specs.declared.prims.Standing.{Standing}

@@ -2,9 +2,9 @@
 use Rattle.std.proofs.Common.{◌≡◌, ℕ, zero, suc, ◌+◌, ◌-◌, ◌<◌, ◌≤◌, ◌⊎◌, inl, inr, List, [], ◌∷◌, length, slice_get, Some, refl, sym, ap, subst, ◌∙◌, arith}
 use Rattle.std.proofs.lemmas.Bool.{cases_lt}
 use Rattle.scc_base.specs.Setups.{SetupView}
-use Rattle.script_reader.specs.declared.script.Item.{Item}
-use Rattle.script_reader.specs.declared.effect.Nesting.{Nesting}
-use Rattle.script_reader.specs.declared.effect.Nesting.TheVariants as nesting
+use Rattle.script_rules.specs.declared.script.Item.{Item}
+use Rattle.script_rules.specs.declared.effect.Nesting.{Nesting}
+use Rattle.script_rules.specs.declared.effect.Nesting.TheVariants as nesting
 use Rattle.script_machine.specs.declared.course.Open.{Open}
 use Rattle.script_machine.specs.Depths.{AreHeld, HasRoom, IsDeep, depth_after, depth_at, depth_from}
 use Rattle.script_machine.specs.Program.{marks_of, nesting_at}

@@ -2,11 +2,11 @@
 use Rattle.std.proofs.Common.{◌≡◌, ℕ, zero, suc, ◌-◌, ◌<◌, ◌≤◌, Bool, true, false, cond, List, [], ◌∷◌, ◌++◌, map, length, drop, slice_get, Option, Some, None, refl, sym, ap, ◌∙◌, arith}
 use Rattle.std.proofs.lemmas.List.Elements.{filter_map-append}
 use Rattle.scc_base.specs.Setups.{SetupView}
-use Rattle.script_reader.specs.declared.script.Item.{Item}
-use Rattle.script_reader.specs.Effects.{effect_of}
-use Rattle.script_reader.specs.Script.{Script, has_rank}
-use Rattle.script_reader.specs.declared.effect.Nesting.{Nesting}
-use Rattle.script_reader.specs.declared.effect.Nesting.TheVariants as nesting
+use Rattle.script_rules.specs.declared.script.Item.{Item}
+use Rattle.script_rules.specs.Effects.{effect_of}
+use Rattle.script_rules.specs.Script.{Script, has_rank}
+use Rattle.script_rules.specs.declared.effect.Nesting.{Nesting}
+use Rattle.script_rules.specs.declared.effect.Nesting.TheVariants as nesting
 use Rattle.script_machine.specs.Program.{Act, Prim, Unrolled, acts_of, copies, in_front, unrolled_marks, marks_by, marks_in, marks_of, nesting_at, prims_in, prims_of, program_of, unrolled_repeat, setup_of, unrolled_items}
 use Rattle.script_machine.specs.Walk.{is_end, prim_of}
 use Rattle.script_machine.proofs.Walks.WalkLaws.{end_prim}

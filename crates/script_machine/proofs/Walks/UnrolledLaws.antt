@@ -1,9 +1,9 @@
 -- A rank's program is made of what its items make: what holds of each of these, and of two lists one behind the other, holds of it.
 use Rattle.std.proofs.Common.{◌≡◌, ℕ, zero, suc, ◌-◌, List, [], ◌∷◌, ◌++◌, Some, refl, slice_get}
 use Rattle.scc_base.specs.Setups.{SetupView}
-use Rattle.script_reader.specs.declared.effect.Nesting.{Nesting}
-use Rattle.script_reader.specs.declared.effect.Nesting.TheVariants as nesting
-use Rattle.script_reader.specs.declared.script.Item.{Item}
+use Rattle.script_rules.specs.declared.effect.Nesting.{Nesting}
+use Rattle.script_rules.specs.declared.effect.Nesting.TheVariants as nesting
+use Rattle.script_rules.specs.declared.script.Item.{Item}
 use Rattle.script_machine.specs.Program.{Prim, Unrolled, copies, in_front, nesting_at, prims_of, unrolled_repeat, unrolled_items}
 
 module _ (Holds : List Prim → Type 0) (empty : Holds []) (both : (one two : List Prim) → Holds one → Holds two → Holds (one ++ two)) where

@@ -9,16 +9,16 @@ use Rattle.scc_base.specs.Setups.{SetupView}
 use Rattle.groups.specs.declared.collectives.Coll.{Coll}
 use Rattle.groups.specs.declared.collectives.Step.{Step}
 use Rattle.groups.specs.Collectives.{steps_of}
-use Rattle.script_reader.specs.declared.script.Item.{Item}
-use Rattle.script_reader.specs.declared.script.Stmt.{Stmt}
-use Rattle.script_reader.specs.declared.script.Stmt.TheVariants as stmt
-use Rattle.script_reader.specs.Effects.{effect_of}
-use Rattle.script_reader.specs.Script.{Script, has_rank, rules_of}
+use Rattle.script_rules.specs.declared.script.Item.{Item}
+use Rattle.script_rules.specs.declared.script.Stmt.{Stmt}
+use Rattle.script_rules.specs.declared.script.Stmt.TheVariants as stmt
+use Rattle.script_rules.specs.Effects.{effect_of}
+use Rattle.script_rules.specs.Script.{Script, has_rank, rules_of}
 use Rattle.scc_base.specs.declared.communicators.CommRule.{CommRule}
 use Rattle.scc_base.specs.declared.layouts.Layout.TheVariants.{LineFlags}
 use Rattle.std.specs.List.{range_with_len}
-use Rattle.script_reader.specs.declared.effect.Nesting.{Nesting}
-use Rattle.script_reader.specs.declared.effect.Nesting.TheVariants as nesting
+use Rattle.script_rules.specs.declared.effect.Nesting.{Nesting}
+use Rattle.script_rules.specs.declared.effect.Nesting.TheVariants as nesting
 use Rattle.script_machine.specs.declared.prims.Operands.{Operands}
 use Rattle.script_machine.specs.declared.course.Open.{Open}
 use Rattle.script_machine.specs.Program.{Act, Prim, Unrolled, acts_of, begins, call_steps, can_call, copies, in_front, unrolled_marks, marks_by, marks_in, marks_of, nesting_at, part_of, parts_of, prims_of, unrolled_repeat, setup_of}

@@ -8,9 +8,9 @@ use Rattle.scc_base.specs.Heads.{MessageHead}
 use Rattle.scc_base.specs.Setups.{SetupView, members_of, place_of, setup_key, size_of}
 use Rattle.scc_base.proofs.GroupFacts.{member_at_place, place_found}
 use Rattle.groups.specs.declared.collectives.Coll.TheVariants as coll
-use Rattle.script_reader.specs.Script.{Script}
-use Rattle.script_reader.specs.declared.script.Stmt.{Stmt}
-use Rattle.script_reader.specs.declared.script.Stmt.TheVariants as stmt
+use Rattle.script_rules.specs.Script.{Script}
+use Rattle.script_rules.specs.declared.script.Stmt.{Stmt}
+use Rattle.script_rules.specs.declared.script.Stmt.TheVariants as stmt
 use Rattle.script_machine.specs.declared.prims.Operands.{Operands}
 use Rattle.script_plain.specs.Collectives.{IsOther, gone_through}
 use Rattle.script_plain.specs.Meaning.{State}

@@ -4,9 +4,9 @@ use Rattle.std.proofs.lemmas.Bool.{cases_lt}
 use Rattle.std.proofs.lemmas.List.{append-nil}
 use Rattle.std.proofs.lemmas.Option.{slice_get_within}
 use Rattle.scc_base.specs.Calls.{DataCall, Message}
-use Rattle.script_reader.specs.declared.script.Item.{Item}
-use Rattle.script_reader.specs.declared.script.Stmt.{Stmt}
-use Rattle.script_reader.specs.Script.{Script}
+use Rattle.script_rules.specs.declared.script.Item.{Item}
+use Rattle.script_rules.specs.declared.script.Stmt.{Stmt}
+use Rattle.script_rules.specs.Script.{Script}
 use Rattle.script_plain.specs.Collectives.{AreOwnWays, CameTo, IsOfRank, MadeByItems, StandsAtStatement, gone_through, start_of_rank}
 use Rattle.script_plain.specs.Meaning.{State}
 use Rattle.script_plain.specs.Messages.{is_of, sent_by}

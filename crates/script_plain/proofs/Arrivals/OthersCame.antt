@@ -13,9 +13,9 @@ use Rattle.groups.specs.declared.collectives.Coll.{Coll}
 use Rattle.groups.specs.declared.collectives.Coll.TheVariants as coll
 use Rattle.groups.specs.declared.operations.Op.{Op}
 use Rattle.groups.specs.declared.operations.Ty.{Ty}
-use Rattle.script_reader.specs.Script.{Script}
-use Rattle.script_reader.specs.declared.script.Stmt.{Stmt}
-use Rattle.script_reader.specs.declared.script.Stmt.TheVariants as stmt
+use Rattle.script_rules.specs.Script.{Script}
+use Rattle.script_rules.specs.declared.script.Stmt.{Stmt}
+use Rattle.script_rules.specs.declared.script.Stmt.TheVariants as stmt
 use Rattle.script_machine.specs.declared.prims.Operands.{Operands}
 use Rattle.script_machine.specs.declared.prims.Source.TheVariants as source_of
 use Rattle.script_plain.specs.Collectives.{AllCame, AllGive, AreOwnWays, CameTo, Casts, GivesPart, IsOther, OthersGave, OthersGaveToAll, RootCame, TellsFold, gone_through}

@@ -1,11 +1,11 @@
 -- What collective calls give, wherever steps lead.
-use Rattle.script_reader.specs.Script.{Script}
+use Rattle.script_rules.specs.Script.{Script}
 use Rattle.std.proofs.Common.{◌≡◌, length}
 use Rattle.script_plain.specs.Collectives.{AreOwnWays, CollectivesHold}
 use Rattle.script_plain.specs.Meaning.{State, plain_end}
 use Rattle.script_plain.specs.Messages.{AreDelivered}
 use Rattle.script_plain.specs.Step.{Configuration}
-use Rattle.script_reader.specs.Settled.{IsWholeScript}
+use Rattle.script_rules.specs.Settled.{IsWholeScript}
 use Rattle.script_plain.proofs.Collectives.BroadcastLaws.{broadcast}
 use Rattle.script_plain.proofs.Collectives.CollectiveFits.{AreFit, are_fit}
 use Rattle.script_plain.proofs.Arrivals.CountLaws.{counted}

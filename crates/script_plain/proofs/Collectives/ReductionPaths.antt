@@ -78,7 +78,7 @@ module _ (kind comm line dst src : ℕ) (op : Op) (ty : Ty) (head : MessageHead)
   }
     where
       asked : MessageHead
-      asked = with_length head (length (register_at u.local src))
+      asked = head_with_length head (length (register_at u.local src))
 
       m : Message
       m = record { head = asked; bytes = one }

@@ -5,10 +5,10 @@ use Rattle.scc_base.specs.Heads.{MessageHead}
 use Rattle.scc_base.specs.Setups.{SetupView}
 use Rattle.scc_base.specs.declared.kinds.Kind.TheVariants as kind_of
 use Rattle.groups.specs.Collectives.{head_of_kind, others_of}
-use Rattle.script_reader.specs.Script.{Script}
-use Rattle.script_reader.specs.Settled.{IsWholeScript}
-use Rattle.script_reader.specs.declared.script.Stmt.{Stmt}
-use Rattle.script_reader.specs.declared.script.Stmt.TheVariants as stmt
+use Rattle.script_rules.specs.Script.{Script}
+use Rattle.script_rules.specs.Settled.{IsWholeScript}
+use Rattle.script_rules.specs.declared.script.Stmt.{Stmt}
+use Rattle.script_rules.specs.declared.script.Stmt.TheVariants as stmt
 use Rattle.script_machine.specs.declared.prims.Source.TheVariants as source_of
 use Rattle.script_plain.specs.Collectives.{AreUntouched, HasDone}
 use Rattle.script_plain.specs.Meaning.{State}

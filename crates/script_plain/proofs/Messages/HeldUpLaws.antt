@@ -10,8 +10,8 @@ use Rattle.scc_base.specs.Groups.{is_with, root_in}
 use Rattle.scc_base.specs.Calls.{DataCall}
 use Rattle.scc_base.specs.Heads.{MessageHead}
 use Rattle.scc_base.proofs.GroupFacts.{root_once, root_with, root_within, with_same, with_true}
-use Rattle.script_reader.specs.Script.{Script}
-use Rattle.script_reader.specs.Settled.{IsWholeScript}
+use Rattle.script_rules.specs.Script.{Script}
+use Rattle.script_rules.specs.Settled.{IsWholeScript}
 use Rattle.script_machine.specs.declared.posts.Posted.{Posted}
 use Rattle.script_machine.specs.declared.prims.Standing.{Standing}
 use Rattle.script_machine.specs.declared.prims.Standing.TheVariants as standing

@@ -4,7 +4,7 @@ use Rattle.std.specs.Prelude.{is_some}
 use Rattle.std.specs.Option.{option_map, option_map_or}
 use Rattle.std.proofs.lemmas.List.{append-nil, length-map}
 use Rattle.std.proofs.lemmas.Option.{slice_get-map}
-use Rattle.script_reader.specs.Script.{Script}
+use Rattle.script_rules.specs.Script.{Script}
 use Rattle.script_plain.specs.declared.matches.Match.{Match}
 use Rattle.script_plain.specs.Code.{BringsAt, BringsLowest}
 use Rattle.script_machine.specs.Local.{Local, most_steps_left, local_next, statement_line}

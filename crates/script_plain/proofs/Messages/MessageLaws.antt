@@ -15,7 +15,7 @@ use Rattle.scc_base.specs.Heads.{MessageHead}
 use Rattle.scc_base.specs.Runs.{EndsAt, Runs}
 use Rattle.scc_base.proofs.Confluence.{other_end}
 use Rattle.groups.proofs.StepLemmas.{get_front}
-use Rattle.script_reader.specs.Script.{Script}
+use Rattle.script_rules.specs.Script.{Script}
 use Rattle.script_machine.specs.declared.posts.Posted.{Posted}
 use Rattle.script_machine.specs.Local.{Local, local_next, local_start}
 use Rattle.script_plain.specs.Meaning.{IsPlainStep, State, keys_of, next_of, plain_end, next_with_calls, start_of, steps_left}

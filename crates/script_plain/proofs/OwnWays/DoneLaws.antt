@@ -2,8 +2,8 @@
 use Rattle.std.proofs.Common.{◌≡◌, ℕ, ◌+◌, ◌≤◌, List, [], ◌∷◌, ◌++◌, length, refl, sym, ap, ◌∙◌, subst, arith}
 use Rattle.std.proofs.lemmas.List.{length-append, length-map}
 use Rattle.scc_base.specs.Runs.{Runs}
-use Rattle.script_reader.specs.Script.{Script}
-use Rattle.script_reader.specs.declared.script.Stmt.{Stmt}
+use Rattle.script_rules.specs.Script.{Script}
+use Rattle.script_rules.specs.declared.script.Stmt.{Stmt}
 use Rattle.script_machine.specs.declared.prims.Standing.TheVariants as standing
 use Rattle.script_plain.specs.Collectives.{AreDone, HasDone, HasStatement, gone_by, gone_through, made_by, start_of_rank}
 use Rattle.script_plain.specs.Meaning.{IsPlainStep, State, keys_of, next_of, start_of}

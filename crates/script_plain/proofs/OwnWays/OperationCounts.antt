@@ -12,20 +12,20 @@ use Rattle.groups.specs.declared.collectives.Coll.{Coll}
 use Rattle.groups.specs.declared.collectives.Coll.TheVariants as coll
 use Rattle.groups.specs.declared.operations.Op.TheVariants as op_of
 use Rattle.groups.specs.declared.operations.Ty.TheVariants as ty_of
-use Rattle.script_reader.specs.Checks.{cost_of, has_root, is_known, open_of, repeats_after, operations, run_of, steps_in, turns_in}
-use Rattle.script_reader.specs.Closed.{AreMatched, StayInSection, Closes, HasPass, HavePasses, IsClosed, latest_section}
-use Rattle.script_reader.specs.Effects.{comm_needed, effect_of}
-use Rattle.script_reader.specs.Limits.{most_operations}
-use Rattle.script_reader.specs.Script.{Script, has_rank, rules_of}
-use Rattle.script_reader.specs.Settled.{AreInLine, IsInLine, IsWholeScript}
-use Rattle.script_reader.specs.declared.script.Item.{Item}
-use Rattle.script_reader.specs.declared.script.Stmt.{Stmt}
-use Rattle.script_reader.specs.declared.script.Stmt.TheVariants as stmt
-use Rattle.script_reader.specs.declared.script.Who.{Who}
-use Rattle.script_reader.proofs.AcceptanceLemmas.{worked-law}
-use Rattle.script_reader.proofs.SettledLemmas.{Extends, key-same, present-low}
-use Rattle.script_reader.specs.declared.effect.Nesting.{Nesting}
-use Rattle.script_reader.specs.declared.effect.Nesting.TheVariants as nesting
+use Rattle.script_rules.specs.Checks.{cost_of, has_root, is_known, open_of, repeats_after, operations, run_of, steps_in, turns_in}
+use Rattle.script_rules.specs.Closed.{AreMatched, StayInSection, Closes, HasPass, HavePasses, IsClosed, latest_section}
+use Rattle.script_rules.specs.Effects.{comm_needed, effect_of}
+use Rattle.script_rules.specs.Limits.{most_operations}
+use Rattle.script_rules.specs.Script.{Script, has_rank, rules_of}
+use Rattle.script_rules.specs.Settled.{AreInLine, IsInLine, IsWholeScript}
+use Rattle.script_rules.specs.declared.script.Item.{Item}
+use Rattle.script_rules.specs.declared.script.Stmt.{Stmt}
+use Rattle.script_rules.specs.declared.script.Stmt.TheVariants as stmt
+use Rattle.script_rules.specs.declared.script.Who.{Who}
+use Rattle.script_rules.proofs.AcceptanceLemmas.{worked-law}
+use Rattle.script_rules.proofs.SettledLemmas.{Extends, key-same, present-low}
+use Rattle.script_rules.specs.declared.effect.Nesting.{Nesting}
+use Rattle.script_rules.specs.declared.effect.Nesting.TheVariants as nesting
 use Rattle.script_machine.specs.declared.prims.Operands.{Operands}
 use Rattle.script_machine.specs.Program.{Prim, Unrolled, acts_of, begins, call_steps, can_call, collective_of, in_front, unrolled_marks, marks_by, marks_in, part_of, parts_of, program_of, setup_of}
 use Rattle.script_machine.proofs.ProgramLengths.CallableLaws.{callable, known}

@@ -7,7 +7,7 @@ use Rattle.std.proofs.lemmas.Option.{same_Some, slice_get-map}
 use Rattle.scc_base.specs.Groups.{is_with}
 use Rattle.scc_base.specs.Heads.{MessageHead}
 use Rattle.scc_base.specs.Runs.{Runs}
-use Rattle.script_reader.specs.Script.{Script}
+use Rattle.script_rules.specs.Script.{Script}
 use Rattle.script_plain.specs.Collectives.{AreOwnWays, gone_by, gone_through, start_of_rank}
 use Rattle.scc_base.specs.Calls.{DataCall}
 use Rattle.script_machine.specs.Program.{Act, Prim}

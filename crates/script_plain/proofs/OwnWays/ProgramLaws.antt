@@ -3,8 +3,8 @@ use Rattle.std.proofs.Common.{◌≡◌, ℕ, ◌<◌, ◌≤◌, Bool, true, fa
 use Rattle.std.proofs.lemmas.Bool.{cases_lt}
 use Rattle.std.proofs.lemmas.List.{append-nil}
 use Rattle.scc_base.specs.Setups.{SetupView}
-use Rattle.script_reader.specs.declared.script.Item.{Item}
-use Rattle.script_reader.specs.Script.{Script, has_rank}
+use Rattle.script_rules.specs.declared.script.Item.{Item}
+use Rattle.script_rules.specs.Script.{Script, has_rank}
 use Rattle.script_machine.specs.declared.prims.Standing.TheVariants as standing
 pub use Rattle.script_plain.specs.Collectives.{IsOfRank, MadeByItems, made_by}
 use Rattle.script_plain.specs.Collectives.MadeByItems.{Done, Then}

@@ -13,16 +13,16 @@ use Rattle.groups.specs.Collectives.{comm_of, other_steps, root_place, root_step
 use Rattle.groups.specs.declared.collectives.Coll.{Coll}
 use Rattle.groups.specs.declared.collectives.Coll.TheVariants as coll
 use Rattle.groups.specs.declared.collectives.Step.{Step}
-use Rattle.script_reader.specs.Checks.{has_root, open_of, repeats_after, turns_in}
-use Rattle.script_reader.specs.Closed.{AreMatched, StayInSection, HavePasses}
-use Rattle.script_reader.specs.Effects.{effect_of}
-use Rattle.script_reader.specs.Script.{rules_of}
-use Rattle.script_reader.specs.Settled.{AreInLine}
-use Rattle.script_reader.specs.declared.script.Item.{Item}
-use Rattle.script_reader.specs.declared.script.Stmt.{Stmt}
-use Rattle.script_reader.specs.declared.script.Stmt.TheVariants as stmt
-use Rattle.script_reader.proofs.SettledLemmas.{same-more}
-use Rattle.script_reader.specs.declared.effect.Nesting.TheVariants as nesting
+use Rattle.script_rules.specs.Checks.{has_root, open_of, repeats_after, turns_in}
+use Rattle.script_rules.specs.Closed.{AreMatched, StayInSection, HavePasses}
+use Rattle.script_rules.specs.Effects.{effect_of}
+use Rattle.script_rules.specs.Script.{rules_of}
+use Rattle.script_rules.specs.Settled.{AreInLine}
+use Rattle.script_rules.specs.declared.script.Item.{Item}
+use Rattle.script_rules.specs.declared.script.Stmt.{Stmt}
+use Rattle.script_rules.specs.declared.script.Stmt.TheVariants as stmt
+use Rattle.script_rules.proofs.SettledLemmas.{same-more}
+use Rattle.script_rules.specs.declared.effect.Nesting.TheVariants as nesting
 use Rattle.script_machine.specs.Program.{Act, Prim, Unrolled, copies, in_front, unrolled_repeat}
 
 -- what a statement does, in its line

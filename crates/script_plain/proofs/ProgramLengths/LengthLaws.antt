@@ -13,10 +13,10 @@ use Rattle.groups.specs.Folds.{bytes_in}
 use Rattle.groups.specs.declared.operations.Op.{Op}
 use Rattle.groups.specs.declared.operations.Ty.{Ty}
 use Rattle.groups.specs.declared.operations.Ty.TheVariants as ty_of
-use Rattle.script_reader.specs.Script.{Script, has_rank, rules_of}
-use Rattle.script_reader.specs.Settled.{IsWholeScript}
-use Rattle.script_reader.specs.declared.script.Item.{Item}
-use Rattle.script_reader.specs.declared.script.Stmt.TheVariants as stmt
+use Rattle.script_rules.specs.Script.{Script, has_rank, rules_of}
+use Rattle.script_rules.specs.Settled.{IsWholeScript}
+use Rattle.script_rules.specs.declared.script.Item.{Item}
+use Rattle.script_rules.specs.declared.script.Stmt.TheVariants as stmt
 use Rattle.script_machine.specs.declared.posts.Posted.{Posted}
 use Rattle.script_plain.specs.Collectives.{gone_through, start_of_rank}
 use Rattle.script_machine.specs.Local.{register_at}

@@ -14,10 +14,10 @@ use Rattle.groups.proofs.FoldLemmas.{bytes_length}
 use Rattle.scc_base.specs.Heads.{MessageHead}
 use Rattle.scc_base.specs.Setups.{SetupView, members_of, place_of}
 use Rattle.scc_base.specs.declared.kinds.Kind.TheVariants as kind
-use Rattle.script_reader.specs.Script.{has_rank}
-use Rattle.script_reader.specs.declared.script.Item.{Item}
-use Rattle.script_reader.specs.declared.script.Stmt.{Stmt}
-use Rattle.script_reader.specs.declared.script.Stmt.TheVariants as stmt
+use Rattle.script_rules.specs.Script.{has_rank}
+use Rattle.script_rules.specs.declared.script.Item.{Item}
+use Rattle.script_rules.specs.declared.script.Stmt.{Stmt}
+use Rattle.script_rules.specs.declared.script.Stmt.TheVariants as stmt
 use Rattle.script_machine.proofs.ProgramLengths.LengthLemmas.{Reckons}
 use Rattle.script_machine.specs.declared.prims.Operands.{Operands}
 use Rattle.script_machine.specs.Program.{Act, Prim, acts_of, begins, call_steps, can_call, part_of, parts_of, prims_of, unrolled_items}

@@ -2,8 +2,8 @@
 use Rattle.std.proofs.Common.{◌≡◌, ℕ, zero, suc, ◌<◌, ◌≤◌, List, [], length, Option, replicate, subst, arith}
 use Rattle.std.specs.Prelude.{slice_index_or}
 use Rattle.scc_base.specs.Calls.{DataCall}
-use Rattle.script_reader.specs.Script.{Script}
-use Rattle.script_reader.specs.Settled.{IsWholeScript}
+use Rattle.script_rules.specs.Script.{Script}
+use Rattle.script_rules.specs.Settled.{IsWholeScript}
 use Rattle.script_machine.specs.declared.posts.Posted.{Posted}
 use Rattle.script_plain.specs.Collectives.{start_of_rank}
 use Rattle.script_machine.specs.Local.{Local, local_next}

@@ -7,7 +7,7 @@ use Rattle.scc_base.specs.Heads.{MessageHead}
 use Rattle.scc_base.specs.Communicators.{key_of}
 use Rattle.scc_base.specs.declared.communicators.CommRule.{CommRule}
 use Rattle.scc_base.specs.Calls.{DataCall}
-use Rattle.script_reader.specs.Script.{Script, rules_of}
+use Rattle.script_rules.specs.Script.{Script, rules_of}
 use Rattle.script_plain.specs.Code.{config}
 use Rattle.script_machine.specs.Program.{Act, Prim}
 use Rattle.script_machine.specs.Program.Act.{Recv, Gather}

@@ -1,10 +1,11 @@
 -- The events of one line that is read: its loads, what they leave in the cache, and how many they are.
 use Rattle.std.proofs.Common.{◌≡◌, ◌≢◌, ◌⊎◌, inl, inr, ℕ, suc, ◌+◌, ◌*◌, ◌<◌, ◌≤◌, Bool, true, false, ◌==◌, ◌&&◌, if◌then◌else◌, List, [], ◌∷◌, ◌++◌, None, refl, sym, ◌∙◌, ap, subst, arith, append-nil, append_assoc}
-use Rattle.scc_base.specs.Places.{LineAt, word_of_line}
+use Rattle.scc_base.specs.Places.{LineAt}
 use Rattle.std.specs.List.{list_all}
 use Rattle.scc_base.specs.Setups.{SetupView}
 use Rattle.scc_base.specs.declared.events.Event.{Event}
 use Rattle.scc_proto.specs.Ports.{Sight, Did}
+use Rattle.scc_proto.specs.Words.{is_at}
 use Rattle.scc_proto.proofs.PortLaws.{did_nothing, did_both}
 use Rattle.line_cache.specs.Lines.{cached_words}
 use Rattle.put_get.specs.Accesses.{loads_of}
@@ -13,7 +14,7 @@ use Rattle.put_get.proofs.FillLemmas.{fills_evictions, fills_held}
 use Rattle.put_get.specs.Transfers.{load_count}
 use Rattle.put_get.proofs.StepLemmas.{events_once}
 use Rattle.put_get.proofs.WorkLemmas.{spends_line, stands_once}
-use Rattle.sync_flags.specs.Tries.{Aim, AtFlag, AtWord, AtRegister, is_same_word, tries_from, tries_at, changing_after}
+use Rattle.sync_flags.specs.Tries.{Aim, AtFlag, AtWord, AtRegister, tries_from, tries_at, changing_after}
 use Rattle.sync_flags.proofs.RowLemmas.{tries-append, changing-append}
 use Rattle.scc_base.specs.Layouts.{signal_at, first_chunk}
 use Rattle.scc_base.specs.declared.signals.Signal.TheVariants.{Sent}
@@ -52,10 +53,10 @@ none_of b m = if b then suc m else m
 loads_none : (aim : Aim) (line : LineAt) (words : List ℕ) → MissesLine line aim → (n : ℕ) → tries_from aim false n (loads_of line words) ≡ n
 loads_none (AtRegister core) line words apart n = refl
 loads_none (AtFlag place bit want) line words apart n =
-    let test : (k : ℕ) → is_same_word place (word_of_line line k) ≡ false = λ k. (λ i. (line.core == place.core) && (apart i && (k == place.word))) ∙ and_false (line.core == place.core) in
+    let test : (k : ℕ) → is_at place line.core line.line k ≡ false = λ k. (λ i. (line.core == place.core) && (apart i && (k == place.word))) ∙ and_false (line.core == place.core) in
     λ i. none_of (test 3 i) (none_of (test 2 i) (none_of (test 1 i) (none_of (test 0 i) n)))
 loads_none (AtWord place value) line words apart n =
-    let test : (k : ℕ) → is_same_word place (word_of_line line k) ≡ false = λ k. (λ i. (line.core == place.core) && (apart i && (k == place.word))) ∙ and_false (line.core == place.core) in
+    let test : (k : ℕ) → is_at place line.core line.line k ≡ false = λ k. (λ i. (line.core == place.core) && (apart i && (k == place.word))) ∙ and_false (line.core == place.core) in
     λ i. none_of (test 3 i) (none_of (test 2 i) (none_of (test 1 i) (none_of (test 0 i) n)))
 
 none_loaded : (line : LineAt) (words : List ℕ) → NoTries line (loads_of line words)

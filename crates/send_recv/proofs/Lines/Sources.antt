@@ -12,7 +12,8 @@ use Rattle.scc_proto.specs.Ports.{Seat}
 use Rattle.scc_proto.proofs.Tests.{put_here, eqb_same}
 use Rattle.scc_proto.proofs.Layouts.Roles.{if_yes, role_header, role_chunk_line, chunk_lines-end}
 use Rattle.scc_proto.proofs.Layouts.PlaceMoves.{header_loaded, chunk_loaded}
-use Rattle.send_recv.specs.Steps.{line_of_rank}
+use Rattle.put_get.specs.Transfers.{line_at}
+use Rattle.send_recv.specs.Steps.{core_of}
 use Rattle.send_recv.specs.Receiving.{IsNotedLine}
 use Rattle.send_recv.proofs.Lines.NotedReads.{HasWords, IsSource, IsCondition}
 
@@ -32,7 +33,7 @@ with_header base j n = record base { notes = table_with base.notes j (Some n) }
 abbrev pub with_taken : Record → ℕ → Progress → Notes → Record
 with_taken base j message n = record base { stage = Taking j message n }
 
-pub header_source : (seat : Seat) (base : Record) (j : ℕ) → IsSetup seat.setup → j < seat.setup.nue → IsSource seat (line_of_rank seat j 0) 0 (with_header base j)
+pub header_source : (seat : Seat) (base : Record) (j : ℕ) → IsSetup seat.setup → j < seat.setup.nue → IsSource seat (line_at (core_of seat j) 0) 0 (with_header base j)
 header_source seat base j valid below = record {
   next = λ k v n small. (header_loaded seat (with_header base j n) valid j k v below).becomes
       ∙ ap (λ (f : ℕ → Option Notes). record base { notes = f })
@@ -46,7 +47,7 @@ header_source seat base j valid below = record {
 }
 
 pub chunk_source : (seat : Seat) (base : Record) (j i : ℕ) (message : Progress) → IsSetup seat.setup → j < seat.setup.nue → i < chunk_lines seat.setup.layout
-    → IsSource seat (line_of_rank seat j (first_chunk seat.setup.layout + i)) (4 * i) (with_taken base j message)
+    → IsSource seat (line_at (core_of seat j) (first_chunk seat.setup.layout + i)) (4 * i) (with_taken base j message)
 chunk_source seat base j i message valid below low = record {
   next = λ k v n small. (chunk_loaded seat (with_taken base j message n) valid j i k v below low).becomes
       ∙ ap (λ (st : Stage). record base { stage = st }) (if_yes (j == j) (Taking j message (note_word (4 * i + k) v n)) (Taking j message n) (eqb_same j));
@@ -67,7 +68,7 @@ header_condition line = record {
 }
 
 pub chunk_condition : (seat : Seat) (j i : ℕ) → i < chunk_lines seat.setup.layout
-    → IsCondition (line_of_rank seat j (first_chunk seat.setup.layout + i)) (4 * i) (IsNotedLine seat.setup.layout (host_of seat.setup.hosts j))
+    → IsCondition (line_at (core_of seat j) (first_chunk seat.setup.layout + i)) (4 * i) (IsNotedLine seat.setup.layout (host_of seat.setup.hosts j))
 chunk_condition seat j i low =
     let first = first_chunk seat.setup.layout in
     let back : (first + i) - first ≡ i = omega arith in

@@ -20,8 +20,9 @@ use Rattle.scc_proto.proofs.Tests.{put_here}
 use Rattle.scc_proto.proofs.Layouts.Roles.{own_word, role_spare_bits, if_no}
 use Rattle.scc_proto.proofs.Layouts.PlaceMoves.{idle_loaded, register_taken, register_freed, signal_bits_noted}
 use Rattle.put_get.specs.Accesses.{loads_of}
+use Rattle.put_get.specs.Transfers.{line_at}
 use Rattle.sync_flags.specs.Flags.{with_bit}
-use Rattle.send_recv.specs.Steps.{core_of, line_of_rank}
+use Rattle.send_recv.specs.Steps.{core_of}
 use Rattle.send_recv.proofs.Lines.Sources.{put_again}
 use Rattle.send_recv.proofs.Receiving.HeadTurn.{put_self}
 use Rattle.send_recv.proofs.Looks.LookLemmas.{on_four}
@@ -47,13 +48,13 @@ change_hold f rec core flags = ap (λ (h : ℕ → Option FlagWords). record rec
 
 -- the flags' line of a core was loaded under its register
 pub line_noted : (seat : Seat) (rec : Record) (r : ℕ) (words : List ℕ) → IsSetup seat.setup → seat.setup.layout ≡ BitFlags → r < seat.setup.nue → rec.held (core_of seat r) ≡ None
-    → record_on seat rec (take_of (core_of seat r) true ∷ loads_of (line_of_rank seat r 1) words) ≡ with_hold rec (core_of seat r) (both_noted (slice_index words 0) (slice_index words 1))
+    → record_on seat rec (take_of (core_of seat r) true ∷ loads_of (line_at (core_of seat r) 1) words) ≡ with_hold rec (core_of seat r) (both_noted (slice_index words 0) (slice_index words 1))
 line_noted seat rec r words valid bits below free =
     let core = core_of seat r in
     let none : FlagWords = record { sent = None; ready = None } in
     let one : FlagWords = record { sent = Some (slice_index words 0); ready = None } in
     let two : FlagWords = both_noted (slice_index words 0) (slice_index words 1) in
-    ap (λ (x : Record). record_on seat x (loads_of (line_of_rank seat r 1) words)) (register_taken seat rec valid core free).becomes
+    ap (λ (x : Record). record_on seat x (loads_of (line_at (core_of seat r) 1) words)) (register_taken seat rec valid core free).becomes
     ∙ on_four seat (with_hold rec core none) (with_hold rec core one) (with_hold rec core two) (with_hold rec core two) (with_hold rec core two) _ _ _ _
     ((signal_bits_noted seat (with_hold rec core none) valid bits Sent r (slice_index words 0) below (is_held rec core none)).becomes ∙ change_hold (note_flags Sent (slice_index words 0)) rec core none)
     ((signal_bits_noted seat (with_hold rec core one) valid bits Ready r (slice_index words 1) below (is_held rec core one)).becomes ∙ change_hold (note_flags Ready (slice_index words 1)) rec core one)

@@ -119,21 +119,17 @@ flag_moved s t c d r signal by set move valid hands empty moves changes = flag_m
 -- ---- the two changes of a signal's flag
 
 -- lowering and raising ask nothing of a register that is held, and leave it
-lower_apart : (size : ℕ) (signal : Signal) (by : ℕ) (rec : Record) (core : ℕ) (flags : FlagWords) → after size (LowerSignal signal by) (with_hold rec core flags) ≡ with_hold (after size (LowerSignal signal by) rec) core flags
-lower_apart size Sent by rec core flags = refl
-lower_apart size Ready by rec core flags = refl
+lower_apart : (size : ℕ) (signal : Signal) (by : ℕ) (rec : Record) (core : ℕ) (flags : FlagWords)
+    → (after size (LowerSignal signal by) (with_hold rec core flags) ≡ with_hold (after size (LowerSignal signal by) rec) core flags)
+    × (permits size (LowerSignal signal by) rec ≡ true → permits size (LowerSignal signal by) (with_hold rec core flags) ≡ true)
+lower_apart size Sent by rec core flags = (refl, λ may. may)
+lower_apart size Ready by rec core flags = (refl, λ may. may)
 
-lower_permits : (size : ℕ) (signal : Signal) (by : ℕ) (rec : Record) (core : ℕ) (flags : FlagWords) → permits size (LowerSignal signal by) rec ≡ true → permits size (LowerSignal signal by) (with_hold rec core flags) ≡ true
-lower_permits size Sent by rec core flags may = may
-lower_permits size Ready by rec core flags may = may
-
-raise_apart : (size : ℕ) (signal : Signal) (at : ℕ) (rec : Record) (core : ℕ) (flags : FlagWords) → after size (RaiseSignal signal at) (with_hold rec core flags) ≡ with_hold (after size (RaiseSignal signal at) rec) core flags
-raise_apart size Sent at rec core flags = refl
-raise_apart size Ready at rec core flags = refl
-
-raise_permits : (size : ℕ) (signal : Signal) (at : ℕ) (rec : Record) (core : ℕ) (flags : FlagWords) → permits size (RaiseSignal signal at) rec ≡ true → permits size (RaiseSignal signal at) (with_hold rec core flags) ≡ true
-raise_permits size Sent at rec core flags may = may
-raise_permits size Ready at rec core flags may = may
+raise_apart : (size : ℕ) (signal : Signal) (at : ℕ) (rec : Record) (core : ℕ) (flags : FlagWords)
+    → (after size (RaiseSignal signal at) (with_hold rec core flags) ≡ with_hold (after size (RaiseSignal signal at) rec) core flags)
+    × (permits size (RaiseSignal signal at) rec ≡ true → permits size (RaiseSignal signal at) (with_hold rec core flags) ≡ true)
+raise_apart size Sent at rec core flags = (refl, λ may. may)
+raise_apart size Ready at rec core flags = (refl, λ may. may)
 
 -- a rank lowers the flag of a signal at its own core, where what it noted of it says that it is set
 pub signal_lowers : (layout : Layout) (s : Sight) (signal : Signal) (by : ℕ) → s.seat.setup.layout ≡ layout → IsSetup s.seat.setup → are_peers s.seat.setup s.seat.rank by ≡ true
@@ -147,13 +143,13 @@ signal_lowers BitFlags s signal by bits valid peers set may =
     record {
       below = p.one;
       forget = forget_flags signal;
-      apart = lower_apart (chunk_of s.seat.setup) signal by (record_in s) core;
+      apart = λ flags. (lower_apart (chunk_of s.seat.setup) signal by (record_in s) core flags).0;
       turns = set;
       stored = λ words is_set.
           let word = slice_index words (signal_word signal) in
           signal_bit_lowered s.seat (noted_under s.seat (record_in s) s.seat.rank words) valid bits signal by word (with_bit by false word) peers
           (is_noted signal (record_in s) core words) is_set (bit_taken word by is_set)
-          (lower_permits (chunk_of s.seat.setup) signal by (record_in s) core (both_noted (slice_index words 0) (slice_index words 1)) may);
+          ((lower_apart (chunk_of s.seat.setup) signal by (record_in s) core (both_noted (slice_index words 0) (slice_index words 1))).1 may);
     }
 
 -- a rank raises its flag of a signal at the core of another rank, where what it noted of it says that it is clear
@@ -168,7 +164,7 @@ signal_raises BitFlags s signal at bits valid peers clear may =
     record {
       below = p.other;
       forget = forget_flags signal;
-      apart = raise_apart (chunk_of s.seat.setup) signal at (record_in s) core;
+      apart = λ flags. (raise_apart (chunk_of s.seat.setup) signal at (record_in s) core flags).0;
       turns = clear;
       stored = λ words is_clear.
           let rec : Record = noted_under s.seat (record_in s) at words in
@@ -176,7 +172,7 @@ signal_raises BitFlags s signal at bits valid peers clear may =
           subst (λ v. Makes s.seat rec (store_of (flag_word core (signal_at BitFlags signal s.seat.rank)) v) (change_held (forget_flags signal) core (after (chunk_of s.seat.setup) (RaiseSignal signal at) rec)))
           (sym (bit_given word s.seat.rank is_clear))
           (signal_bit_raised s.seat rec valid bits signal at word peers (is_noted signal (record_in s) core words) is_clear
-          (raise_permits (chunk_of s.seat.setup) signal at (record_in s) core (both_noted (slice_index words 0) (slice_index words 1)) may));
+          ((raise_apart (chunk_of s.seat.setup) signal at (record_in s) core (both_noted (slice_index words 0) (slice_index words 1))).1 may));
     }
 
 -- ---- what a sound record says of them

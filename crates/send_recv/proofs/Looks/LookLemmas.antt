@@ -11,19 +11,21 @@ use Rattle.scc_base.specs.declared.layouts.Layout.{Layout}
 use Rattle.scc_base.specs.declared.layouts.Layout.TheVariants.{LineFlags, BitFlags}
 use Rattle.scc_proto.specs.Stages.{Filling, Raised, Answered, Stage, Idle, Drafting, Sending, Between, Taking, Barrier, OnItsWay, Record}
 use Rattle.scc_proto.specs.Moves.{LookSignal, look_ready, post_answered, after}
+use Rattle.scc_proto.specs.Tables.{put_signal}
 use Rattle.scc_proto.specs.Words.{are_peers}
 use Rattle.scc_proto.specs.Records.{look_at, look_at_bits, chunk_of}
 use Rattle.scc_proto.specs.Ports.{Seat, Sight, Did, record_in, record_next, record_on}
 use Rattle.scc_proto.proofs.PortLaws.{record_did}
-use Rattle.scc_proto.proofs.Tests.{eqb_same, peers_are}
-use Rattle.scc_proto.proofs.Layouts.Roles.{own_word, role_spare_line, role_spare_bits}
+use Rattle.scc_proto.proofs.Tests.{eqb_same, peers_are, put_signal_here}
+use Rattle.scc_proto.proofs.Layouts.Roles.{own_word, signal_lines, role_spare_line, role_spare_bits}
 use Rattle.scc_proto.proofs.Layouts.PlaceMoves.{idle_loaded, signal_loaded, signal_bits_loaded}
 use Rattle.put_get.specs.Accesses.{loads_of}
 use Rattle.put_get.specs.Cores.{Private}
+use Rattle.put_get.specs.Transfers.{line_at}
 use Rattle.sync_flags.specs.Flags.{is_set_in}
 use Rattle.send_recv.specs.Flags.{Looks}
 use Rattle.send_recv.specs.Turns.{HoldsNoneBy, HoldsNone}
-use Rattle.send_recv.specs.Steps.{own_core, line_of_rank}
+use Rattle.send_recv.specs.Steps.{own_core, core_of}
 
 -- the record after four events
 pub on_four : (seat : Seat) (a b c d last : Record) (e0 e1 e2 e3 : Event) → record_next seat a e0 ≡ b → record_next seat b e1 ≡ c → record_next seat c e2 ≡ d → record_next seat d e3 ≡ last
@@ -44,10 +46,7 @@ none_set = λ j. false
 
 -- flags of one signal were seen, and none of the other
 abbrev seen_alone : Signal → (ℕ → Bool) → Signal → ℕ → Bool
-seen_alone Sent p Sent = p
-seen_alone Sent p Ready = none_set
-seen_alone Ready p Sent = none_set
-seen_alone Ready p Ready = p
+seen_alone signal p = put_signal (λ other. none_set) signal p
 
 seen_none : (stage : Stage) → look_ready none_set stage ≡ stage
 seen_none Idle = refl
@@ -72,7 +71,7 @@ looked_sent_alone size rec p = λ i. record (after size (LookSignal Sent p) rec)
 -- the line of a flag that fills one: its other words are idle
 four_of_line : (seat : Seat) (rec last : Record) (line : ℕ) (words : List ℕ) → IsSetup seat.setup → seat.setup.layout ≡ LineFlags → seat.rank < seat.setup.nue → 1 ≤ line → line < 97
     → record_next seat rec (load_of (own_word seat.setup seat.rank line 0) (slice_index words 0)) ≡ last
-    → record_on seat rec (loads_of (line_of_rank seat seat.rank line) words) ≡ last
+    → record_on seat rec (loads_of (line_at (core_of seat seat.rank) line) words) ≡ last
 four_of_line seat rec last line words valid lines below low high first =
     let high2 : line < first_gather seat.setup.layout = subst (λ (l : Layout). line < first_gather l) (sym lines) high in
     let idle : (word : ℕ) → word ≢ 0 → record_next seat last (load_of (own_word seat.setup seat.rank line word) (slice_index words word)) ≡ last
@@ -87,15 +86,13 @@ line_loaded Sent seat rec j words valid lines peers =
 line_loaded Ready seat rec j words valid lines peers = (signal_loaded seat rec valid lines Ready j (slice_index words 0) peers).becomes
 
 lines_end : (signal : Signal) (j n : ℕ) → j < n → n ≤ 48 → first_signal signal + j < 97
-lines_end Sent j n low most = omega (arith, low, most)
-lines_end Ready j n low most = omega (arith, low, most)
+lines_end signal j n low most = let lines = signal_lines signal in omega (arith, lines.1, low, most)
 
 lines_begin : (signal : Signal) (j : ℕ) → 1 ≤ first_signal signal + j
-lines_begin Sent j = omega arith
-lines_begin Ready j = omega arith
+lines_begin signal j = let lines = signal_lines signal in omega (arith, lines.0)
 
 signal_line : (signal : Signal) (seat : Seat) (rec : Record) (j : ℕ) (words : List ℕ) → IsSetup seat.setup → seat.setup.layout ≡ LineFlags → are_peers seat.setup seat.rank j ≡ true
-    → record_on seat rec (loads_of (line_of_rank seat seat.rank (first_signal signal + j)) words)
+    → record_on seat rec (loads_of (line_at (core_of seat seat.rank) (first_signal signal + j)) words)
     ≡ after (chunk_of seat.setup) (LookSignal Ready (seen_alone signal (look_at j (slice_index words 0)) Ready)) (after (chunk_of seat.setup) (LookSignal Sent (seen_alone signal (look_at j (slice_index words 0)) Sent)) rec)
 signal_line signal seat rec j words valid lines peers =
     let p = peers_are seat.setup seat.rank j peers in
@@ -105,7 +102,7 @@ signal_line signal seat rec j words valid lines peers =
 -- ---- bit flags: the line has the flags of all ranks
 
 bits_line : (seat : Seat) (rec : Record) (words : List ℕ) → IsSetup seat.setup → seat.setup.layout ≡ BitFlags → seat.rank < seat.setup.nue → rec.held (own_core seat) ≡ None
-    → record_on seat rec (loads_of (line_of_rank seat seat.rank 1) words)
+    → record_on seat rec (loads_of (line_at (core_of seat seat.rank) 1) words)
     ≡ after (chunk_of seat.setup) (LookSignal Ready (look_at_bits seat.setup seat.rank (slice_index words 1))) (after (chunk_of seat.setup) (LookSignal Sent (look_at_bits seat.setup seat.rank (slice_index words 0))) rec)
 bits_line seat rec words valid bits below free =
     let a : Record = after (chunk_of seat.setup) (LookSignal Sent (look_at_bits seat.setup seat.rank (slice_index words 0))) rec in
@@ -124,8 +121,7 @@ pub record LooksAt (s t : Sight) (signal : Signal) (j : ℕ) (found : Bool) : Ty
   pub tells : looked.seen signal j ≡ found
 
 at_itself : (signal : Signal) (j value : ℕ) → seen_alone signal (look_at j value) signal j ≡ (value == 1)
-at_itself Sent j value = ap (λ b. b && (value == 1)) (eqb_same j)
-at_itself Ready j value = ap (λ b. b && (value == 1)) (eqb_same j)
+at_itself signal j value = ap (λ (p : ℕ → Bool). p j) (put_signal_here (λ other. none_set) signal (look_at j value)) ∙ ap (λ b. b && (value == 1)) (eqb_same j)
 
 looks_by : (layout : Layout) (signal : Signal) (s t : Sight) (j : ℕ) (words : List ℕ) → s.seat.setup.layout ≡ layout → IsSetup s.seat.setup → are_peers s.seat.setup s.seat.rank j ≡ true
     → HoldsNoneBy layout (record_in s).held → Did s (loads_of (line_of_word (flag_word (own_core s.seat) (signal_at layout signal j))) words) t

@@ -19,7 +19,7 @@ use Rattle.scc_proto.proofs.Tests.{put_here, put_there, same_or_other, peers_are
 use Rattle.scc_proto.proofs.Words.NoteFacts.{has_all-from}
 use Rattle.scc_proto.proofs.Layouts.Roles.{if_yes}
 use Rattle.put_get.specs.Cores.{Private, ReadsLine}
-use Rattle.put_get.specs.Transfers.{load_count}
+use Rattle.put_get.specs.Transfers.{line_at, load_count}
 use Rattle.send_recv.specs.declared.stages.RecvStage.{RecvStage}
 use Rattle.send_recv.specs.declared.stages.RecvStage.TheVariants.{Header, Lower}
 use Rattle.send_recv.specs.declared.answers.RecvTurn.{RecvTurn}
@@ -27,7 +27,7 @@ use Rattle.send_recv.specs.declared.answers.RecvTurn.TheVariants.{Moved, Mismatc
 use Rattle.send_recv.specs.Chunks.{chunk_count, chunk_start, chunk_len, lines_from}
 use Rattle.send_recv.specs.Ops.{RecvAt, is_received}
 use Rattle.send_recv.specs.Receiving.{IsAtRecvStage, IsReceiving, RecvStands, SaysHead, between, progress_at, spot_by, recv_spot, IsRecvSpot, recv_left, recv_left_by, lines_now, lines_left, lines_left_by, flag_lines, is_look, filled_to, filled_by}
-use Rattle.send_recv.specs.Steps.{with_empty_cache, own_core, core_of, line_of_rank, head_in_line, is_same_head, HeadRead, Same, Differs}
+use Rattle.send_recv.specs.Steps.{with_empty_cache, own_core, core_of, head_in_line, is_same_head, HeadRead, Same, Differs}
 use Rattle.sync_flags.specs.Tries.{NoTry, tries_at}
 use Rattle.send_recv.specs.Tries.{aim_of, aim_at}
 use Rattle.send_recv.specs.Turns.{IsSamePost, KeepsAllButMessages}
@@ -97,9 +97,9 @@ pub record HeaderRead (s : Sight) (op : RecvAt) (words : List ℕ) (t : Sight) :
   pub has : HasWords header 0 words
 
 pub header_read : (s t : Sight) (c d : Private) (op : RecvAt) (words : List ℕ) (header : Notes) → IsSetup s.seat.setup → op.from < s.seat.setup.nue → (record_in s).notes op.from ≡ Some header
-    → ReadsLine s (with_empty_cache c) (line_of_rank s.seat op.from 0) words t d → HeaderRead s op words t
+    → ReadsLine s (with_empty_cache c) (line_at (core_of s.seat op.from) 0) words t d → HeaderRead s op words t
 header_read s t c d op words header valid below seen reads =
-    let line = line_of_rank s.seat op.from 0 in
+    let line = line_at (core_of s.seat op.from) 0 in
     let is : record_in s ≡ with_header (record_in s) op.from header = ap (λ (f : ℕ → Option Notes). record (record_in s) { notes = f }) (put_self (record_in s).notes op.from (Some header) seen) in
     let r = line_notes s t (with_empty_cache c) d s.seat line 0 (with_header (record_in s) op.from) (IsNotedHeader line) words header
     (header_source s.seat (record_in s) op.from valid below) (header_condition line) refl is tt reads in
@@ -126,9 +126,9 @@ peer_below seat j valid peers =
     let other = p.other in
     omega (arith, within, other)
 
-head_elsewhere : (seat : Seat) (op : RecvAt) (es : List Event) (at : Spot) → IsSetup seat.setup → are_peers seat.setup seat.rank op.from ≡ true → NoTries (line_of_rank seat op.from 0) es
+head_elsewhere : (seat : Seat) (op : RecvAt) (es : List Event) (at : Spot) → IsSetup seat.setup → are_peers seat.setup seat.rank op.from ≡ true → NoTries (line_at (core_of seat op.from) 0) es
     → IsRecvSpot seat op at → tries_at (aim_of seat.setup.layout at) es ≡ 0
-head_elsewhere seat op es at valid peers tries spot = read_elsewhere seat op (line_of_rank seat op.from 0) es at (peer_below seat op.from valid peers) (inl refl) tries spot
+head_elsewhere seat op es at valid peers tries spot = read_elsewhere seat op (line_at (core_of seat op.from) 0) es at (peer_below seat op.from valid peers) (inl refl) tries spot
 
 head_fuller : (size : ℕ) (op : RecvAt) → op.stage ≡ Header → filled_to size op ≤ filled_to size (record op { stage = Lower })
 head_fuller size op header = let e = ap (λ (st : RecvStage). filled_by (chunk_start size op.chunk) op.head.len st (chunk_len size op.head.len op.chunk)) header in omega (arith, e)
@@ -161,7 +161,7 @@ head_work layout size op events a b at le =
     more events a b y x z le e = omega (arith, le, e)
 
 pub head_turn : (s t : Sight) (c d : Private) (op now : RecvAt) (bytes words : List ℕ) (answer : RecvTurn) → IsSetup s.seat.setup → RecvStands s c op bytes → op.stage ≡ Header → IsSoundPort t
-    → ReadsLine s (with_empty_cache c) (line_of_rank s.seat op.from 0) words t d → HeadRead words op now answer → Turns s c op bytes t d now bytes answer
+    → ReadsLine s (with_empty_cache c) (line_at (core_of s.seat op.from) 0) words t d → HeadRead words op now answer → Turns s c op bytes t d now bytes answer
 head_turn s t c d op now bytes words answer valid r header sound reads (Same e now_is ans) =
     let size = chunk_of s.seat.setup in
     let at : IsAtRecvStage s.seat (record_in s) c op bytes Header = subst (λ (st : RecvStage). IsAtRecvStage s.seat (record_in s) c op bytes st) header r.at in
@@ -169,7 +169,7 @@ head_turn s t c d op now bytes words answer valid r header sound reads (Same e n
     let h = header_read s t c d op words at.2 valid p.other at.3 reads in
     let notes = header_notes s t op words h in
     let says = words_say h.header words h.has (sound.heads op.from h.header notes) in
-    let ev = reads_whole s t (with_empty_cache c) d (line_of_rank s.seat op.from 0) words reads in
+    let ev = reads_whole s t (with_empty_cache c) d (line_at (core_of s.seat op.from) 0) words reads in
     let stage : (record_in t).stage ≡ Idle = ap (λ (x : Record). x.stage) h.record_is ∙ at.1 in
     let next : RecvAt = record op { stage = Lower } in
     let rest : KeepsAllButMessages (record_in s) (record_in t) = record {
@@ -211,7 +211,7 @@ head_turn s t c d op now bytes words answer valid r header sound reads (Differs 
     let h = header_read s t c d op words at.2 valid p.other at.3 reads in
     let notes = header_notes s t op words h in
     let says = words_say h.header words h.has (sound.heads op.from h.header notes) in
-    let ev = reads_whole s t (with_empty_cache c) d (line_of_rank s.seat op.from 0) words reads in
+    let ev = reads_whole s t (with_empty_cache c) d (line_at (core_of s.seat op.from) 0) words reads in
     let same : (record_in t).stage ≡ (record_in s).stage = ap (λ (x : Record). x.stage) h.record_is in
     let calls : (record_in t).calls ≡ (record_in s).calls = ap (λ (x : Record). x.calls) h.record_is in
     let post = post_kept (record_in s).post (record_in t).post (ap (λ (x : Record). x.post) h.record_is) in
@@ -253,7 +253,7 @@ head_turn s t c d op now bytes words answer valid r header sound reads (Differs 
 
 -- a line of a rank's buffer was read, with nothing cached
 pub read_at : (s t : Sight) (c c1 d : Private) (j i : ℕ) (core : ℕ) (line : LineAt) (words : List ℕ) → c1 ≡ record c { lines = [] } → line ≡ record { core = core; line = i } → core ≡ host_of s.seat.setup.hosts j
-    → ReadsLine s c1 line words t d → ReadsLine s (with_empty_cache c) (line_of_rank s.seat j i) words t d
+    → ReadsLine s c1 line words t d → ReadsLine s (with_empty_cache c) (line_at (core_of s.seat j) i) words t d
 read_at s t c c1 d j i core line words empty is at reads =
     subst (λ (l : LineAt). ReadsLine s (with_empty_cache c) l words t d) (is ∙ (λ p. record { core = at p; line = i })) (subst (λ (x : Private). ReadsLine s x line words t d) empty reads)
 

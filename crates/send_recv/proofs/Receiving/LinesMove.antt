@@ -15,7 +15,7 @@ use Rattle.scc_proto.proofs.PortLaws.{seat_kept}
 use Rattle.scc_proto.proofs.Tests.{peers_are}
 use Rattle.scc_proto.proofs.Layouts.Roles.{lt_is, lt_not}
 use Rattle.put_get.specs.Cores.{Private, ReadsLine}
-use Rattle.put_get.specs.Transfers.{load_count}
+use Rattle.put_get.specs.Transfers.{line_at, load_count}
 use Rattle.send_recv.specs.declared.stages.RecvStage.{RecvStage}
 use Rattle.send_recv.specs.declared.stages.RecvStage.TheVariants.{Lines, Raise}
 use Rattle.send_recv.specs.declared.answers.RecvTurn.TheVariants.{Moved}
@@ -23,7 +23,7 @@ use Rattle.send_recv.specs.Bytes.{byte_of_line}
 use Rattle.send_recv.specs.Chunks.{chunk_count, chunk_start, chunk_len, chunk_lines_of, lines_from}
 use Rattle.send_recv.specs.Ops.{RecvAt, is_received}
 use Rattle.send_recv.specs.Receiving.{IsAtRecvStage, IsReceiving, RecvStands, AreNoted, IsTakingLines, lines_now, spot_by, recv_left, recv_left_by, lines_left, lines_left_by, flag_lines, is_look, filled_to, filled_by}
-use Rattle.send_recv.specs.Steps.{with_empty_cache, own_core, core_of, before_line, line_of_rank, after_line}
+use Rattle.send_recv.specs.Steps.{with_empty_cache, own_core, core_of, before_line, after_line}
 use Rattle.sync_flags.specs.Tries.{NoTry}
 use Rattle.send_recv.specs.Tries.{aim_at}
 use Rattle.send_recv.specs.Turns.{KeepsAllButMessages, LastHeld}
@@ -142,7 +142,7 @@ at_next false seat rec d op after i m next low taking noted =
 
 lines_by : (b : Bool) (s t : Sight) (c d : Private) (op : RecvAt) (i : ℕ) (bytes after words : List ℕ) → nat_lt (i + 1) (lines_now (chunk_of s.seat.setup) op) ≡ b
     → IsSetup s.seat.setup → RecvStands s c op bytes → op.stage ≡ Lines i
-    → ReadsLine s (before_line i c) (line_of_rank s.seat op.from (first_chunk s.seat.setup.layout + i)) words t d → length after ≡ length bytes
+    → ReadsLine s (before_line i c) (line_at (core_of s.seat op.from) (first_chunk s.seat.setup.layout + i)) words t d → length after ≡ length bytes
     → ((k : ℕ) → k < 32 → chunk_start (chunk_of s.seat.setup) op.chunk + 32 * i + k < length bytes → slice_index after (chunk_start (chunk_of s.seat.setup) op.chunk + 32 * i + k) ≡ byte_of_line words k)
     → ((k : ℕ) → k < chunk_start (chunk_of s.seat.setup) op.chunk + 32 * i → slice_index after k ≡ slice_index bytes k)
     → ((k : ℕ) → chunk_start (chunk_of s.seat.setup) op.chunk + 32 * i + 32 ≤ k → slice_index after k ≡ slice_index bytes k)
@@ -155,7 +155,7 @@ lines_by b s t c d op i bytes after words next valid r stage reads same put befo
     let p = peers_are s.seat.setup s.seat.rank op.from r.peers in
     let taken = taken_line s t c d op bytes after words i at.1 valid p.other r.long low at.2 at.3 reads same put before in
     let is = taken.3 in
-    let ev = reads_whole s t (before_line i c) d (line_of_rank s.seat op.from (first_chunk layout + i)) words reads in
+    let ev = reads_whole s t (before_line i c) d (line_at (core_of s.seat op.from) (first_chunk layout + i)) words reads in
     let now : RecvAt = record op { stage = next_stage b i } in
     let kept : (before_line i c).evictions ≡ c.evictions = cleared_same (i == 0) c in
     let rest : KeepsAllButMessages (record_in s) (record_in t) = record {
@@ -183,7 +183,7 @@ lines_by b s t c d op i bytes after words next valid r stage reads same put befo
         tried = NoTry (ap (λ (st : RecvStage). aim_at layout (spot_by layout (own_core s.seat) (core_of s.seat op.from) op.from st)) stage
             ∙ ap (λ (o : Option Spot). aim_at layout o) (spot_lines layout (own_core s.seat) (core_of s.seat op.from) op.from i)) refl;
         freed = ev.tries.freed;
-        elsewhere = λ at spot ne. read_elsewhere s.seat op (line_of_rank s.seat op.from (first_chunk layout + i)) ev.events at (peer_below s.seat op.from valid r.peers) (inr (from_first (first_chunk layout) i)) ev.tries spot;
+        elsewhere = λ at spot ne. read_elsewhere s.seat op (line_at (core_of s.seat op.from) (first_chunk layout + i)) ev.events at (peer_below s.seat op.from valid r.peers) (inr (from_first (first_chunk layout) i)) ev.tries spot;
         fuller = line_fuller b size op i stage;
         fewer = line_fewer b layout size op i next stage low;
         rests = λ spot w. absurd (cc);
@@ -208,7 +208,7 @@ lines_by b s t c d op i bytes after words next valid r stage reads same put befo
     }
 
 pub lines_turn : (s t : Sight) (c d : Private) (op : RecvAt) (i : ℕ) (bytes after words : List ℕ) → IsSetup s.seat.setup → RecvStands s c op bytes → op.stage ≡ Lines i
-    → ReadsLine s (before_line i c) (line_of_rank s.seat op.from (first_chunk s.seat.setup.layout + i)) words t d → length after ≡ length bytes
+    → ReadsLine s (before_line i c) (line_at (core_of s.seat op.from) (first_chunk s.seat.setup.layout + i)) words t d → length after ≡ length bytes
     → ((k : ℕ) → k < 32 → chunk_start (chunk_of s.seat.setup) op.chunk + 32 * i + k < length bytes → slice_index after (chunk_start (chunk_of s.seat.setup) op.chunk + 32 * i + k) ≡ byte_of_line words k)
     → ((k : ℕ) → k < chunk_start (chunk_of s.seat.setup) op.chunk + 32 * i → slice_index after k ≡ slice_index bytes k)
     → ((k : ℕ) → chunk_start (chunk_of s.seat.setup) op.chunk + 32 * i + 32 ≤ k → slice_index after k ≡ slice_index bytes k)

@@ -14,11 +14,12 @@ use Rattle.scc_proto.proofs.Words.NoteFacts.{has_all-at, has_all-from}
 use Rattle.line_cache.specs.declared.cache.Entry.{Entry}
 use Rattle.put_get.specs.Cores.{Private, ReadsLine}
 use Rattle.put_get.proofs.EntryLemmas.{EachEntry}
+use Rattle.put_get.specs.Transfers.{line_at}
 use Rattle.send_recv.specs.Bytes.{byte_of_line}
 use Rattle.send_recv.specs.Chunks.{chunk_start, chunk_len, chunk_lines_of}
 use Rattle.send_recv.specs.Ops.{RecvAt}
 use Rattle.send_recv.specs.Receiving.{IsRead, IsNotedLine, AreNoted, IsTakingLines, progress_at, lines_now}
-use Rattle.send_recv.specs.Steps.{with_empty_cache, before_line, line_of_rank}
+use Rattle.send_recv.specs.Steps.{core_of, with_empty_cache, before_line}
 use Rattle.send_recv.proofs.Lines.NotedReads.{Grows, HasWords, line_notes}
 use Rattle.send_recv.proofs.Lines.Sources.{with_taken, chunk_source, chunk_condition}
 
@@ -105,7 +106,7 @@ line_within layout len chunk i low = omega (arith, low)
 pub taken_line : (s t : Sight) (c d : Private) (op : RecvAt) (bytes after words : List ℕ) (i : ℕ) (chunk : Notes) → IsSetup s.seat.setup → op.from < s.seat.setup.nue → length bytes ≡ op.head.len
     → i < lines_now (chunk_of s.seat.setup) op → IsTakingLines (chunk_of s.seat.setup) (record_in s) op bytes chunk i
     → (i ≢ 0 → AreNoted s.seat.setup.layout (host_of s.seat.setup.hosts op.from) chunk c.lines)
-    → ReadsLine s (before_line i c) (line_of_rank s.seat op.from (first_chunk s.seat.setup.layout + i)) words t d → length after ≡ length bytes
+    → ReadsLine s (before_line i c) (line_at (core_of s.seat op.from) (first_chunk s.seat.setup.layout + i)) words t d → length after ≡ length bytes
     → ((k : ℕ) → k < 32 → chunk_start (chunk_of s.seat.setup) op.chunk + 32 * i + k < length bytes → slice_index after (chunk_start (chunk_of s.seat.setup) op.chunk + 32 * i + k) ≡ byte_of_line words k)
     → ((k : ℕ) → k < chunk_start (chunk_of s.seat.setup) op.chunk + 32 * i → slice_index after k ≡ slice_index bytes k)
     → (m : Notes) × IsTakingLines (chunk_of s.seat.setup) (record_in t) op after m (i + 1) × AreNoted s.seat.setup.layout (host_of s.seat.setup.hosts op.from) m d.lines
@@ -117,7 +118,7 @@ taken_line s t c d op bytes after words i chunk valid below long low taking cach
     let message = progress_at size op.head op.chunk bytes in
     let within = line_within layout op.head.len op.chunk i low in
     let is : record_in s ≡ with_taken (record_in s) op.from message chunk = λ p. record (record_in s) { stage = taking.stage p } in
-    let r = line_notes s t (before_line i c) d s.seat (line_of_rank s.seat op.from (first_chunk layout + i)) (4 * i) (with_taken (record_in s) op.from message) (IsNotedLine layout core) words chunk
+    let r = line_notes s t (before_line i c) d s.seat (line_at (core_of s.seat op.from) (first_chunk layout + i)) (4 * i) (with_taken (record_in s) op.from message) (IsNotedLine layout core) words chunk
     (chunk_source s.seat (record_in s) op.from i message valid below within) (chunk_condition s.seat op.from i within) refl is (cached_before layout core chunk i c cached) reads in
     let front : take (chunk_start size op.chunk) bytes ≡ take (chunk_start size op.chunk) after
     = take_agree (chunk_start size op.chunk) bytes after (sym same) (λ k small. sym (before k (omega (arith, small)))) in (

@@ -14,14 +14,14 @@ use Rattle.scc_proto.proofs.Layouts.Roles.{lt_is, lt_not}
 use Rattle.write_combine.specs.Combining.{handed_out}
 use Rattle.put_get.specs.Accesses.{stores_of}
 use Rattle.put_get.specs.Cores.{Private, WritesLine, Flushes}
-use Rattle.put_get.specs.Transfers.{load_count}
+use Rattle.put_get.specs.Transfers.{line_at, load_count}
 use Rattle.send_recv.specs.declared.stages.SendStage.{SendStage}
 use Rattle.send_recv.specs.declared.stages.SendStage.TheVariants.{Lines, Flush, Raise}
 use Rattle.send_recv.specs.Bytes.{words_at}
 use Rattle.send_recv.specs.Chunks.{chunk_count, chunk_start, lines_from}
 use Rattle.send_recv.specs.Ops.{SendAt, SlotAt, is_sent, slot_left}
 use Rattle.send_recv.specs.Sending.{IsAtSendStage, IsSending, SendStands, HasDrafted, IsBeforeRaise, lines_in_hand, waiting, of_chunk, send_left, send_spot_by, slot_spot}
-use Rattle.send_recv.specs.Steps.{own_core, core_of, line_of_rank, before_raise, after_written, after_flush}
+use Rattle.send_recv.specs.Steps.{own_core, core_of, before_raise, after_written, after_flush}
 use Rattle.sync_flags.specs.Tries.{NoTry}
 use Rattle.send_recv.specs.Tries.{aim_at}
 use Rattle.send_recv.specs.Turns.{NoLoad}
@@ -36,7 +36,7 @@ use Rattle.send_recv.proofs.Sending.SendWork.{none_work}
 -- what the write of a line asks
 pub record MayWriteLine (s : Sight) (c : Private) (op : SendAt) (i : ℕ) : Type 0 where
   pub in_chunk : i < lines_in_hand (chunk_of s.seat.setup) op
-  pub other : handed_out c.out (line_of_rank s.seat s.seat.rank (first_chunk s.seat.setup.layout + i)) ≡ c.out
+  pub other : handed_out c.out (line_at (core_of s.seat s.seat.rank) (first_chunk s.seat.setup.layout + i)) ≡ c.out
   pub permitted : MayMakeAll s.seat (record_in s) (stores_of c.out)
 
 pub may_write_line : (s : Sight) (c : Private) (op : SendAt) (slot : SlotAt) (bytes : List ℕ) (i : ℕ) → IsSetup s.seat.setup → SendStands s c op slot bytes → op.stage ≡ Lines i → MayWriteLine s c op i
@@ -92,7 +92,7 @@ line_open true layout i = refl
 line_open false layout i = raise_open layout
 
 line_by : (b : Bool) (s t : Sight) (c d : Private) (op : SendAt) (slot : SlotAt) (bytes : List ℕ) (i : ℕ) → nat_lt (i + 1) (lines_in_hand (chunk_of s.seat.setup) op) ≡ b → IsSetup s.seat.setup → SendStands s c op slot bytes → op.stage ≡ Lines i
-    → WritesLine s c (line_of_rank s.seat s.seat.rank (first_chunk s.seat.setup.layout + i)) (words_at bytes (chunk_start (chunk_of s.seat.setup) op.chunk + 32 * i)) t d
+    → WritesLine s c (line_at (core_of s.seat s.seat.rank) (first_chunk s.seat.setup.layout + i)) (words_at bytes (chunk_start (chunk_of s.seat.setup) op.chunk + 32 * i)) t d
     → SendTurns s c op slot bytes t d (record op { stage = line_next b s.seat.setup.layout i }) slot Moved
 line_by b s t c d op slot bytes i next valid r stage w =
     let size = chunk_of s.seat.setup in
@@ -126,7 +126,7 @@ line_by b s t c d op slot bytes i next valid r stage w =
     }
 
 pub line_turn : (s t : Sight) (c d : Private) (op : SendAt) (slot : SlotAt) (bytes : List ℕ) (i : ℕ) → IsSetup s.seat.setup → SendStands s c op slot bytes → op.stage ≡ Lines i
-    → WritesLine s c (line_of_rank s.seat s.seat.rank (first_chunk s.seat.setup.layout + i)) (words_at bytes (chunk_start (chunk_of s.seat.setup) op.chunk + 32 * i)) t d
+    → WritesLine s c (line_at (core_of s.seat s.seat.rank) (first_chunk s.seat.setup.layout + i)) (words_at bytes (chunk_start (chunk_of s.seat.setup) op.chunk + 32 * i)) t d
     → SendTurns s c op slot bytes t d (after_written s.seat.setup.layout i op) slot Moved
 line_turn s t c d op slot bytes i valid r stage w = line_by (nat_lt (i + 1) (lines_in_hand (chunk_of s.seat.setup) op)) s t c d op slot bytes i refl valid r stage w
 

@@ -18,13 +18,14 @@ use Rattle.write_combine.specs.declared.combiner.Out.{Out}
 use Rattle.write_combine.specs.Combining.{handed_out}
 use Rattle.put_get.specs.Accesses.{stores_of, whole_line}
 use Rattle.put_get.specs.Cores.{Private, WritesLine}
+use Rattle.put_get.specs.Transfers.{line_at}
 use Rattle.send_recv.specs.declared.stages.SendStage.{SendStage}
 use Rattle.send_recv.specs.declared.stages.SendStage.TheVariants.{Header, Lines}
 use Rattle.send_recv.specs.Bytes.{words_at}
 use Rattle.send_recv.specs.Chunks.{chunk_count, chunk_start, lines_from}
 use Rattle.send_recv.specs.Ops.{SendAt, SlotAt, is_sent, slot_left, slot_left_by}
 use Rattle.send_recv.specs.Sending.{IsAtSendStage, IsSending, SendStands, StartDoes, HasDrafted, HasNoLines, DraftedBefore, own_line, header_words, lines_in_hand, waiting, of_chunk, send_left, send_spot_by, slot_spot_by}
-use Rattle.send_recv.specs.Steps.{own_core, core_of, line_of_rank, before_raise, after_header}
+use Rattle.send_recv.specs.Steps.{own_core, core_of, before_raise, after_header}
 use Rattle.sync_flags.specs.Tries.{NoTry}
 use Rattle.send_recv.specs.Tries.{aim_at}
 use Rattle.send_recv.specs.Turns.{StoresFromBuffer, NoLoad}
@@ -68,17 +69,17 @@ none_or : (b : Bool) (o : Out) (line : LineAt) → handed_out (Some o) line ≡ 
 none_or true o line h = h
 none_or false o line h = refl
 
-waiting_other : (seat : Seat) (op : SendAt) (bytes : List ℕ) (i : ℕ) → handed_out (waiting seat op bytes i) (line_of_rank seat seat.rank (first_chunk seat.setup.layout + i)) ≡ waiting seat op bytes i
+waiting_other : (seat : Seat) (op : SendAt) (bytes : List ℕ) (i : ℕ) → handed_out (waiting seat op bytes i) (line_at (core_of seat seat.rank) (first_chunk seat.setup.layout + i)) ≡ waiting seat op bytes i
 waiting_other seat op bytes zero =
     let above = first_chunk-above seat.setup.layout in
-    none_or (op.chunk == 0) (whole_line (own_line seat 0) (header_words op.head op.posted)) (line_of_rank seat seat.rank (first_chunk seat.setup.layout + 0))
+    none_or (op.chunk == 0) (whole_line (own_line seat 0) (header_words op.head op.posted)) (line_at (core_of seat seat.rank) (first_chunk seat.setup.layout + 0))
     (other_by (own_core seat) 0 (first_chunk seat.setup.layout + 0) (whole_line (own_line seat 0) (header_words op.head op.posted)) (λ e. absurd (omega (arith, e, above))) refl)
 waiting_other seat op bytes (suc i) =
     other_by (own_core seat) (first_chunk seat.setup.layout + i) (first_chunk seat.setup.layout + suc i)
     (whole_line (own_line seat (first_chunk seat.setup.layout + i)) (words_at bytes (chunk_start (chunk_of seat.setup) op.chunk + 32 * i))) (λ e. absurd (omega (arith, e))) refl
 
-pub line_is_other : (seat : Seat) (c : Private) (op : SendAt) (bytes : List ℕ) (i : ℕ) → c.out ≡ waiting seat op bytes i → handed_out c.out (line_of_rank seat seat.rank (first_chunk seat.setup.layout + i)) ≡ c.out
-line_is_other seat c op bytes i out = subst (λ (o : Option Out). handed_out o (line_of_rank seat seat.rank (first_chunk seat.setup.layout + i)) ≡ o) (sym out) (waiting_other seat op bytes i)
+pub line_is_other : (seat : Seat) (c : Private) (op : SendAt) (bytes : List ℕ) (i : ℕ) → c.out ≡ waiting seat op bytes i → handed_out c.out (line_at (core_of seat seat.rank) (first_chunk seat.setup.layout + i)) ≡ c.out
+line_is_other seat c op bytes i out = subst (λ (o : Option Out). handed_out o (line_at (core_of seat seat.rank) (first_chunk seat.setup.layout + i)) ≡ o) (sym out) (waiting_other seat op bytes i)
 
 -- the events are what was in the buffer, and nothing else
 pub only_drafts : (setup : SetupView) (c : Private) (out : Option Out) → c.out ≡ out → StoresFromBuffer setup c (stores_of out)
@@ -137,7 +138,7 @@ first_line : (old : Sender) (t : Sight) (d : Private) (to : Option ℕ) → to �
 first_line old t d to empty does = subst (λ (o : Option ℕ). StartDoes old o true t d) (sym empty) does
 
 header_by : (b : Bool) (s t : Sight) (c d : Private) (op : SendAt) (slot : SlotAt) (bytes : List ℕ) → (lines_in_hand (chunk_of s.seat.setup) op == 0) ≡ b → SendStands s c op slot bytes → op.stage ≡ Header → slot.to ≡ None
-    → WritesLine s c (line_of_rank s.seat s.seat.rank 0) (header_words op.head op.posted) t d → SendTurns s c op slot bytes t d (record op { stage = header_next b s.seat.setup.layout }) slot Moved
+    → WritesLine s c (line_at (core_of s.seat s.seat.rank) 0) (header_words op.head op.posted) t d → SendTurns s c op slot bytes t d (record op { stage = header_next b s.seat.setup.layout }) slot Moved
 header_by b s t c d op slot bytes lines r header empty w =
     let size = chunk_of s.seat.setup in
     let layout = s.seat.setup.layout in
@@ -174,5 +175,5 @@ header_by b s t c d op slot bytes lines r header empty w =
     }
 
 pub header_turn : (s t : Sight) (c d : Private) (op : SendAt) (slot : SlotAt) (bytes : List ℕ) → SendStands s c op slot bytes → op.stage ≡ Header → slot.to ≡ None
-    → WritesLine s c (line_of_rank s.seat s.seat.rank 0) (header_words op.head op.posted) t d → SendTurns s c op slot bytes t d (after_header s.seat.setup.layout op) slot Moved
+    → WritesLine s c (line_at (core_of s.seat s.seat.rank) 0) (header_words op.head op.posted) t d → SendTurns s c op slot bytes t d (after_header s.seat.setup.layout op) slot Moved
 header_turn s t c d op slot bytes r header empty w = header_by (lines_in_hand (chunk_of s.seat.setup) op == 0) s t c d op slot bytes refl r header empty w

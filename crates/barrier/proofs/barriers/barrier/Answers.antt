@@ -1,10 +1,9 @@
-use Rattle.std.proofs.Common.{arith}
 use Rattle.barrier.proofs.CallLemmas.{underway_none, underway_moved, underway_waited, underway_ends, underway_stalls, left_falls}
 use Rattle.sync_flags.proofs.LoopLemmas.{measure_falls}
 use Rattle.barrier.proofs.barriers.barrier.Goals as goal
 
 pub turns-init : goal.turns-init
-turns-init g c = let some = c.requires.some in (underway_none c.requires.stands, omega (arith, some))
+turns-init g c = (underway_none c.requires.stands, c.requires.some)
 
 pub returns-in-Done : goal.returns-in-Done
 returns-in-Done g c = record { ends = underway_ends c.turns.invariant.0 c.in-Done.ensures.stands c.in-Done.ensures.turned }
@@ -13,14 +12,10 @@ pub turns-smaller-in-Moved : goal.turns-smaller-in-Moved
 turns-smaller-in-Moved g c = measure_falls _ _ _ _ (left_falls c.turns.invariant.0 c.in-Moved.ensures.turned) c.turns.invariant.1
 
 pub turns-preserved-in-Moved : goal.turns-preserved-in-Moved
-turns-preserved-in-Moved g c =
-    let some = c.requires.some in
-    (underway_moved c.turns.invariant.0 c.in-Moved.ensures.stands c.in-Moved.ensures.turned, omega (arith, some))
+turns-preserved-in-Moved g c = (underway_moved c.turns.invariant.0 c.in-Moved.ensures.stands c.in-Moved.ensures.turned, c.requires.some)
 
 pub returns-then-vain-polls : goal.returns-then-vain-polls
 returns-then-vain-polls g c = record { ends = underway_stalls c.turns.invariant.0 c.in-Waiting.ensures.stands c.in-Waiting.ensures.turned c.args.polls c.if-vain-polls.true }
 
 pub turns-preserved : goal.turns-preserved
-turns-preserved g c =
-    let more = c.if-vain-polls.false in
-    (underway_waited c.turns.invariant.0 c.in-Waiting.ensures.stands c.in-Waiting.ensures.turned, omega (arith, more))
+turns-preserved g c = (underway_waited c.turns.invariant.0 c.in-Waiting.ensures.stands c.in-Waiting.ensures.turned, c.if-vain-polls.false)

@@ -1,6 +1,7 @@
 use Rattle.std.proofs.Common.{◌∙◌, ◌+◌, ℕ, sym, subst, arith, slice_index}
 use Rattle.std.proofs.lemmas.List.{length-map}
-use Rattle.rcce_audit.specs.Standings.{calls_at_rank, standing_of}
+use Rattle.rcce_audit.specs.Logs.{calls_at_rank}
+use Rattle.rcce_audit.specs.Standings.{standing_of}
 use Rattle.rcce_audit.specs.Verdicts.{IsFirstLeft}
 use Rattle.rcce_audit.specs.Views.{data_list, data_lists, data_of}
 use Rattle.rcce_audit.proofs.StandingLemmas.{first_left, none_left, some_get}

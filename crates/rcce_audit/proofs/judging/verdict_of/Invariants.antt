@@ -1,5 +1,5 @@
 use Rattle.std.proofs.Common.{◌≡◌, ◌<◌, ℕ, None, slice_get, slice_index}
-use Rattle.rcce_audit.specs.Standings.{calls_at_rank}
+use Rattle.rcce_audit.specs.Logs.{calls_at_rank}
 use Rattle.rcce_audit.specs.Views.{data_lists}
 use Rattle.rcce_audit.proofs.judging.verdict_of.Given as goal
 

@@ -2,7 +2,8 @@ use Rattle.std.proofs.Common.{◌∙◌, ◌∷◌, ◌+◌, ℕ, ap, option_map
 use Rattle.scc_base.specs.Groups.{root_in}
 use Rattle.scc_base.specs.Setups.{setup_key}
 use Rattle.rcce_audit.specs.declared.logs.LogCall.{LogCall}
-use Rattle.rcce_audit.specs.Standings.{calls_at_rank, partner_of}
+use Rattle.rcce_audit.specs.Logs.{calls_at_rank}
+use Rattle.rcce_audit.specs.Standings.{partner_of}
 use Rattle.rcce_audit.specs.Views.{data_lists, data_of}
 use Rattle.rcce_audit.proofs.StandingLemmas.{partner_at, partner_none}
 use Rattle.rcce_audit.proofs.progress.partner.Goals as goal

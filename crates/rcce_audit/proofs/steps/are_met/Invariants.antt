@@ -2,7 +2,7 @@ use Rattle.std.proofs.Common.{◌≡◌, ◌<◌, ℕ, Some, true, slice_get, sl
 use Rattle.scc_base.specs.Calls.{Bar}
 use Rattle.scc_base.specs.Setups.{setup_key}
 use Rattle.scc_proto.specs.Legality.{in_group}
-use Rattle.rcce_audit.specs.Standings.{calls_at_rank}
+use Rattle.rcce_audit.specs.Logs.{calls_at_rank}
 use Rattle.rcce_audit.specs.Views.{data_lists}
 use Rattle.rcce_audit.proofs.steps.are_met.Given as goal
 

@@ -1,6 +1,6 @@
 use Rattle.std.proofs.Common.{◌∙◌, ℕ, List, ap, sym, slice_get, slice_index, option_map}
 use Rattle.scc_base.specs.Calls.{DataCall, Send, Recv, Post, Bar}
-use Rattle.rcce_audit.specs.Standings.{calls_at_rank}
+use Rattle.rcce_audit.specs.Logs.{calls_at_rank}
 use Rattle.rcce_audit.specs.Views.{data_lists, data_of}
 use Rattle.rcce_audit.proofs.StepLemmas.{front_of, none_first, tries_first}
 use Rattle.rcce_audit.proofs.steps.try_first.Goals as goal

@@ -4,8 +4,7 @@ use Rattle.std.proofs.lemmas.Bool.Decides.{nat_tests}
 use Rattle.scc_base.specs.Calls.{Bar}
 use Rattle.scc_base.specs.Setups.{setup_key}
 use Rattle.scc_proto.specs.Legality.{in_group}
-use Rattle.rcce_audit.specs.Logs.{IsLogCall}
-use Rattle.rcce_audit.specs.Standings.{calls_at_rank}
+use Rattle.rcce_audit.specs.Logs.{IsLogCall, calls_at_rank}
 use Rattle.rcce_audit.specs.Views.{data_lists}
 use Rattle.rcce_audit.proofs.StepLemmas.{all_get, meet_acts, no_meet, no_meet_root, rank_below}
 use Rattle.rcce_audit.proofs.steps.try_meet.Goals as goal

@@ -3,8 +3,7 @@ use Rattle.std.proofs.lemmas.Bool.{true≢false}
 use Rattle.std.proofs.lemmas.Option.{slice_get_within}
 use Rattle.scc_base.specs.Calls.{Recv, Send}
 use Rattle.scc_proto.specs.Legality.{Outgoing}
-use Rattle.rcce_audit.specs.Logs.{IsLogCall}
-use Rattle.rcce_audit.specs.Standings.{calls_at_rank}
+use Rattle.rcce_audit.specs.Logs.{IsLogCall, calls_at_rank}
 use Rattle.rcce_audit.specs.Views.{data_lists}
 use Rattle.rcce_audit.proofs.StepLemmas.{all_get, no_pair, pair_at}
 use Rattle.rcce_audit.proofs.steps.try_pair.Goals as goal

@@ -12,7 +12,7 @@ run-end-requires-clause-crew g c = λ κs lives. fresh_crew c.requires.fresh.0 c
 
 pub run-end-requires-clause-some : goal.run-end-requires-clause-some
 run-end-requires-clause-some g c = λ κs lives.
-    fresh_some c.requires.fresh.0 c.args.chip.now c.args.crew.now c.setup.result.now c.requires.fresh.1 c.setup.ensures.gives c.nue.ensures.valid.some_ranks
+    fresh_some c.requires.fresh.0 c.args.chip.now c.args.crew.now c.requires.fresh.1 c.known.ensures.valid
 
 pub returns-clause-stands : goal.returns-clause-stands
 returns-clause-stands g c =
@@ -32,7 +32,7 @@ returns-clause-gives g c = λ script fresh.
     let stands : CrewStands ue_members c.args.chip.now c.args.crew.now c.run-end.new.chip c.run-end.new.crew = c.run-end.ensures.stands in
     let all = still_run ue_members member_ue members_run script c.args.chip.now chip c.args.crew.now crew stands.goes (fresh_run script c.args.chip.now c.args.crew.now fresh) in
     let some : 0 < length c.run-end.new.crew =
-    subst (λ (n : ℕ). 0 < n) (sym stands.goes.count) (fresh_some script c.args.chip.now c.args.crew.now c.setup.result.now fresh c.setup.ensures.gives c.nue.ensures.valid.some_ranks) in
+    subst (λ (n : ℕ). 0 < n) (sym stands.goes.count) (fresh_some script c.args.chip.now c.args.crew.now fresh c.known.ensures.valid) in
     let first = some_worker crew some in
     let rests = subst (λ (n : ℕ). AllRest ue_members c.run-end.new.chip c.run-end.new.crew n) stands.is_crew.each c.run-end.ensures.rests in
     record {

@@ -3,7 +3,7 @@ use Rattle.script_gen.specs.Scripts.{gen_script_of}
 use Rattle.script_gen.proofs.GenLaws.{gen_read}
 use Rattle.script_reader.specs.Faults.{Gives}
 use Rattle.script_reader.specs.Reading.{parse_script}
-use Rattle.script_reader.specs.Script.{Script}
+use Rattle.script_rules.specs.Script.{Script}
 use Rattle.script_reader.specs.declared.fault.ReadFault.{ReadFault}
 use Rattle.script_reader.specs.declared.fault.ReadStop.{ReadStop}
 use Rattle.script_reader.specs.declared.fault.ReadStop.TheVariants as stops

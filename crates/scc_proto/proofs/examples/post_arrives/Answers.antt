@@ -4,22 +4,6 @@ use Rattle.scc_proto.specs.Records.{act_of, record_of}
 use Rattle.scc_proto.specs.Messages.{has_all, bytes_from, is_zero_from}
 use Rattle.scc_proto.proofs.examples.post_arrives.Goals as goal
 
-pub returns-clause-permitted : goal.returns-clause-permitted
+pub returns : goal.returns
 unfolding act_of record_of has_all is_zero_from bytes_from key_of
-returns-clause-permitted c = search rules
-
-pub returns-clause-posted : goal.returns-clause-posted
-unfolding act_of record_of has_all is_zero_from bytes_from key_of
-returns-clause-posted c = refl
-
-pub returns-clause-on_its_way : goal.returns-clause-on_its_way
-unfolding act_of record_of has_all is_zero_from bytes_from key_of
-returns-clause-on_its_way c = refl
-
-pub returns-clause-received : goal.returns-clause-received
-unfolding act_of record_of has_all is_zero_from bytes_from key_of
-returns-clause-received c = refl
-
-pub returns-clause-taken : goal.returns-clause-taken
-unfolding act_of record_of has_all is_zero_from bytes_from key_of
-returns-clause-taken c = refl
+returns c = record { is_run = search rules; permitted = search rules; posted = refl; on_its_way = refl; received = refl; taken = refl }

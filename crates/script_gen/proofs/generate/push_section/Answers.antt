@@ -1,13 +1,10 @@
-use Rattle.std.proofs.Common.{List, ℕ, [], ◌∷◌, ◌++◌, ◌∙◌, ap, codes, map}
+use Rattle.std.proofs.Common.{map}
+use Rattle.rcce_io.specs.Pieces.{piece_text}
 use Rattle.rcce_io.specs.Sending.{joined_texts}
-use Rattle.script_gen.specs.Pieces.{gen_piece_text}
-use Rattle.script_gen.proofs.Sections.{section_parts}
+use Rattle.script_gen.proofs.Sections.{section_put}
 use Rattle.script_gen.proofs.generate.push_section.Goals as goal
 
 pub returns : goal.returns
 returns c =
-    let exchange = joined_texts (map gen_piece_text c.args.exchange.now) in
-    let last = joined_texts (codes "allreduce 0 sum long me me\nend\n" ∷ c.args.shown.now ∷ codes "print long me\n" ∷ []) in
-    c.in_ok-push_all-3.ensures
-    ∙ ap (λ (t : List ℕ). t ++ last) (c.in_ok-push_all-2.ensures ∙ ap (λ (t : List ℕ). t ++ exchange) c.in_ok-push_all.ensures)
-    ∙ section_parts c.args.text.now.items c.args.ranks.now c.args.s exchange c.args.shown.now
+    section_put c.args.ranks.now c.args.s (joined_texts (map piece_text c.args.exchange.now)) c.args.shown.now c.args.text.now _ _ _
+    c.in_ok-push.ensures c.in_ok-push-2.ensures c.in_ok-push-3.ensures

@@ -1,6 +1,6 @@
 use Rattle.std.proofs.Common.{◌≡◌, ◌+◌, ◌≤◌, ◌∙◌, ap, arith, length, sym}
 use Rattle.std.proofs.lemmas.Option.{slice_get_within}
-use Rattle.script_reader.specs.Script.{has_rank}
+use Rattle.script_rules.specs.Script.{has_rank}
 use Rattle.script_machine.specs.Depths.{depth_after, depth_at}
 use Rattle.script_machine.specs.Program.{nesting_at}
 use Rattle.script_machine.proofs.Walks.DepthLaws.{deepest_end, deepest_more, depth_more, depth_next}

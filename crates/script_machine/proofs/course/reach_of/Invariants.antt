@@ -1,6 +1,6 @@
 use Rattle.std.proofs.Common.{◌≡◌, ◌<◌, ◌≤◌, ℕ, false, slice_get, Some}
-use Rattle.script_reader.specs.declared.script.Item.{Item}
-use Rattle.script_reader.specs.Script.{has_rank}
+use Rattle.script_rules.specs.declared.script.Item.{Item}
+use Rattle.script_rules.specs.Script.{has_rank}
 use Rattle.script_machine.specs.Depths.{depth_at}
 use Rattle.script_machine.proofs.course.reach_of.Given as goal
 

@@ -1,9 +1,9 @@
 use Rattle.std.proofs.Common.{◌≡◌, ◌∙◌, Bool, true, false, cond, ap, refl, sym}
-use Rattle.script_reader.specs.Effects.{effect_of}
-use Rattle.script_reader.specs.Script.{has_rank}
-use Rattle.script_reader.specs.declared.effect.Effect.{Effect}
-use Rattle.script_reader.specs.declared.effect.Nesting.{Nesting}
-use Rattle.script_reader.specs.declared.effect.Nesting.TheVariants as nesting
+use Rattle.script_rules.specs.Effects.{effect_of}
+use Rattle.script_rules.specs.Script.{has_rank}
+use Rattle.script_rules.specs.declared.effect.Effect.{Effect}
+use Rattle.script_rules.specs.declared.effect.Nesting.{Nesting}
+use Rattle.script_rules.specs.declared.effect.Nesting.TheVariants as nesting
 use Rattle.script_machine.proofs.nestings.nesting_at.Goals as goal
 
 -- what does nothing to the repeats does nothing at any rank

@@ -1,7 +1,7 @@
 use Rattle.std.proofs.Common.{◌∙◌, ℕ, suc, None, ap, length, replicate, sym}
 use Rattle.std.proofs.lemmas.List.{length-replicate}
 use Rattle.std.proofs.lemmas.List.FromFn.{length-map-range_with_len}
-use Rattle.script_reader.specs.Script.{first_split}
+use Rattle.script_rules.specs.Script.{first_split}
 use Rattle.script_plain.proofs.Runs.PlainLaws.{length-start_of}
 use Rattle.script_plain.proofs.steps.begin.Goals as goal
 

@@ -1,8 +1,8 @@
 use Rattle.std.proofs.Common.{ap, subst, sym}
 use Rattle.std.specs.Prelude.{IfOk}
-use Rattle.script_reader.specs.declared.version.Version.{Version}
+use Rattle.script_rules.specs.declared.version.Version.{Version}
 use Rattle.script_reader.specs.Reading.{read_as}
-use Rattle.script_reader.specs.Settled.{SplitsWorldAlone}
+use Rattle.script_rules.specs.Settled.{SplitsWorldAlone}
 use Rattle.script_reader.proofs.CommLemmas.{names-low}
 use Rattle.script_reader.proofs.VersionLemmas.{first-flat}
 use Rattle.script_reader.proofs.laws.version_law.Goals as goal

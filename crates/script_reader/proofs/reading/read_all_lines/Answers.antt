@@ -1,8 +1,8 @@
 use Rattle.std.proofs.Common.{◌∙◌, ap, subst}
-use Rattle.script_reader.specs.declared.version.Version.{Version}
-use Rattle.script_reader.specs.Checks.{last_comm}
+use Rattle.script_rules.specs.declared.version.Version.{Version}
+use Rattle.script_rules.specs.Checks.{last_comm}
 use Rattle.script_reader.specs.Progress.{ReadingSoFar}
-use Rattle.script_reader.specs.Settled.{HasCommsTo}
+use Rattle.script_rules.specs.Settled.{HasCommsTo}
 use Rattle.script_reader.proofs.reading.read_all_lines.Goals as goal
 
 -- the reader still has the version that it began with

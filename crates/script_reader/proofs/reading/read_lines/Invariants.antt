@@ -1,5 +1,5 @@
 use Rattle.std.proofs.Common.{◌≡◌, ◌≤◌, drop, length, map}
-use Rattle.script_reader.specs.Limits.{most_names}
+use Rattle.script_rules.specs.Limits.{most_names}
 use Rattle.script_reader.specs.Reading.{read_lines}
 use Rattle.script_reader.proofs.reading.read_lines.Given as goal
 

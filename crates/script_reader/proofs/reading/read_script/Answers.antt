@@ -1,9 +1,9 @@
 use Rattle.std.proofs.Common.{◌≡◌, subst, sym}
 use Rattle.std.specs.Prelude.{IfOk}
-use Rattle.script_reader.specs.declared.version.Version.{Version}
+use Rattle.script_rules.specs.declared.version.Version.{Version}
 use Rattle.script_reader.specs.Reading.{read_as, version_of}
-use Rattle.script_reader.specs.Settled.{NamesCommsTo, SplitsWorldAlone}
-use Rattle.script_reader.specs.Checks.{last_comm}
+use Rattle.script_rules.specs.Settled.{NamesCommsTo, SplitsWorldAlone}
+use Rattle.script_rules.specs.Checks.{last_comm}
 use Rattle.texts.specs.Cuts.{lines_of}
 use Rattle.script_reader.proofs.CommLemmas.{names-low}
 use Rattle.script_reader.proofs.RankLemmas.{parse_has}

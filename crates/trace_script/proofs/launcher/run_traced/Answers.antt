@@ -1,5 +1,4 @@
-use Rattle.std.proofs.Common.{◌≤◌, sym, ◌∙◌, subst}
-use Rattle.scc_base.specs.Setups.{SetupView}
+use Rattle.std.proofs.Common.{sym, ◌∙◌}
 use Rattle.rcce_run.proofs.FreshCrews.{crew_fresh}
 use Rattle.rcce_run.proofs.UeEnds.{fresh_crew, fresh_some}
 use Rattle.run_program.specs.Loading.{asked_by}
@@ -14,8 +13,7 @@ write_run-end-requires-clause-crew g c =
 pub write_run-end-requires-clause-some : goal.write_run-end-requires-clause-some
 write_run-end-requires-clause-some g c =
     let loaded = c.args.loaded.now in
-    fresh_some loaded.script c.args.chip.now c.args.crew.now c.setup.result.now (crew_fresh loaded.script loaded.setup c.args.crew.now c.requires.fresh c.args.chip.now c.requires.chip)
-    c.setup.ensures.gives c.nue.ensures.valid.some_ranks
+    fresh_some loaded.script c.args.chip.now c.args.crew.now (crew_fresh loaded.script loaded.setup c.args.crew.now c.requires.fresh c.args.chip.now c.requires.chip) c.known.ensures.valid
 
 pub write_run-end-requires-clause-judge : goal.write_run-end-requires-clause-judge
 write_run-end-requires-clause-judge g c = (c.requires.judge.0 ∙ sym c.requires.chip.about, c.requires.judge.1)
@@ -24,16 +22,14 @@ pub returns-clause-stands : goal.returns-clause-stands
 returns-clause-stands g c =
     let loaded = c.args.loaded.now in
     let (memory, agrees) = c.agrees.ensures.words in
-    let some = subst (λ (s : SetupView). 1 ≤ s.nue) (c.setup.ensures.gives ∙ c.requires.chip.about) c.nue.ensures.valid.some_ranks in
-    stands_traced (asked_by loaded) c.args.chip.now c.write_run-end.new.chip c.args.crew.now c.write_run-end.new.crew loaded.ranks c.requires.chip c.requires.fresh c.requires.evictors some memory agrees
+    stands_traced (asked_by loaded) c.args.chip.now c.write_run-end.new.chip c.args.crew.now c.write_run-end.new.crew loaded.ranks c.requires.chip c.requires.fresh c.requires.evictors c.known.ensures.valid memory agrees
     c.write_run-end.ensures.stands
 
 pub returns-clause-over : goal.returns-clause-over
 returns-clause-over g c =
     let loaded = c.args.loaded.now in
     let (memory, agrees) = c.agrees.ensures.words in
-    let some = subst (λ (s : SetupView). 1 ≤ s.nue) (c.setup.ensures.gives ∙ c.requires.chip.about) c.nue.ensures.valid.some_ranks in
-    traced_over (asked_by loaded) c.args.chip.now c.write_run-end.new.chip c.args.crew.now c.write_run-end.new.crew loaded.ranks c.requires.chip c.requires.fresh c.requires.evictors some memory agrees
+    traced_over (asked_by loaded) c.args.chip.now c.write_run-end.new.chip c.args.crew.now c.write_run-end.new.crew loaded.ranks c.requires.chip c.requires.fresh c.requires.evictors c.known.ensures.valid memory agrees
     c.write_run-end.ensures.stands c.seed_of.result c.write_run-end.result c.seed_of.ensures c.write_run-end.ensures.ends
 
 pub returns-clause-legal : goal.returns-clause-legal

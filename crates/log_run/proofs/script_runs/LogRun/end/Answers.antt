@@ -1,5 +1,5 @@
 use Rattle.std.proofs.Common.{subst}
-use Rattle.script_reader.specs.Script.{Script}
+use Rattle.script_rules.specs.Script.{Script}
 use Rattle.rcce_run.specs.Crews.{EndsAs}
 use Rattle.log_run.proofs.script_runs.LogRun.end.Goals as goal
 

@@ -1,5 +1,5 @@
 use Rattle.std.proofs.Common.{ap, ◌∙◌}
-use Rattle.script_reader.specs.Script.{Script}
+use Rattle.script_rules.specs.Script.{Script}
 use Rattle.log_run.proofs.script_runs.LogRun.nue.Goals as goal
 
 pub returns-clause-gives : goal.returns-clause-gives

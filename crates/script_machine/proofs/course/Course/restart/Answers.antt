@@ -1,5 +1,5 @@
 use Rattle.std.proofs.Common.{◌∙◌, ap, sym, subst, List, Option}
-use Rattle.script_reader.specs.Script.{rules_of}
+use Rattle.script_rules.specs.Script.{rules_of}
 use Rattle.script_machine.specs.declared.course.Open.{Open}
 use Rattle.script_machine.specs.Program.{Prim, marks_in}
 use Rattle.script_machine.specs.Walk.{AreOpenAt, CourseView, left_at}

@@ -1,5 +1,5 @@
 use Rattle.std.proofs.Common.{◌∙◌, ap, sym}
-use Rattle.script_reader.specs.Script.{rules_of}
+use Rattle.script_rules.specs.Script.{rules_of}
 use Rattle.script_machine.specs.Program.{prims_in, program_of}
 use Rattle.script_machine.specs.Walk.{CourseView, WalkView}
 use Rattle.script_machine.proofs.Walks.MarkLaws.{program_is}

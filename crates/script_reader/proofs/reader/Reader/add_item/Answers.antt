@@ -3,24 +3,25 @@ use Rattle.std.proofs.lemmas.List.{get_or_push}
 use Rattle.scc_base.specs.Communicators.{AreRules}
 use Rattle.scc_base.specs.Setups.{SetupView}
 use Rattle.scc_base.specs.declared.communicators.CommRule.{CommRule}
-use Rattle.script_reader.specs.declared.effect.Effect.{Effect}
-use Rattle.script_reader.specs.declared.fault.FaultKind.{FaultKind}
-use Rattle.script_reader.specs.declared.fault.FaultKind.TheVariants as kind
-use Rattle.script_reader.specs.declared.repeats.Open.{Open}
-use Rattle.script_reader.specs.declared.script.Item.{Item}
-use Rattle.script_reader.specs.declared.script.Who.{Who}
-use Rattle.script_reader.specs.declared.tally.Tally.{Tally}
-use Rattle.script_reader.specs.Checks.{is_too_deep, repeats_after, refuses, some_rank, turns_in, turns_too_often}
-use Rattle.script_reader.specs.Effects.{effect_of}
+use Rattle.script_rules.specs.declared.effect.Effect.{Effect}
+use Rattle.script_rules.specs.declared.fault.FaultKind.{FaultKind}
+use Rattle.script_rules.specs.declared.fault.FaultKind.TheVariants as kind
+use Rattle.script_rules.specs.declared.repeats.Open.{Open}
+use Rattle.script_rules.specs.declared.script.Item.{Item}
+use Rattle.script_rules.specs.declared.script.Who.{Who}
+use Rattle.script_rules.specs.declared.tally.Tally.{Tally}
+use Rattle.script_rules.specs.Checks.{is_too_deep, repeats_after, refuses, some_rank, turns_in, turns_too_often}
+use Rattle.script_rules.specs.Effects.{effect_of}
 use Rattle.script_reader.specs.Progress.{ReadingSoFar}
-use Rattle.script_reader.specs.Script.{rules_of}
-use Rattle.script_reader.specs.Settled.{IsNamed}
-use Rattle.script_reader.specs.Tally.{IsAimed, IsKept, IsMade, is_new_split, noted_at}
-use Rattle.script_reader.proofs.FaultLemmas.{IsSound, no-fault, sound-at}
+use Rattle.script_rules.specs.Script.{rules_of}
+use Rattle.script_rules.specs.Settled.{IsNamed}
+use Rattle.script_reader.specs.Kept.{IsKept}
+use Rattle.script_rules.specs.Tally.{IsAimed, IsMade, is_new_split, noted_at}
+use Rattle.script_reader.proofs.FaultLemmas.{IsSound, no-fault, sound-at, passed-all}
 use Rattle.script_reader.proofs.ReaderLemmas.{kept-more, run-after, run-stays}
-use Rattle.script_reader.proofs.RuleLemmas.{rules-kept, rules-made}
-use Rattle.script_reader.proofs.SettledLemmas.{passed-all, settled-new}
-use Rattle.script_reader.proofs.TallyLemmas.{written-back}
+use Rattle.script_rules.proofs.RuleLemmas.{rules-kept, rules-made}
+use Rattle.script_rules.proofs.SettledLemmas.{settled-new}
+use Rattle.script_rules.proofs.TallyLemmas.{written-back}
 use Rattle.script_reader.proofs.reader.Reader.add_item.Goals as goal
 
 -- a statement without a fault opens no repeat too many, nor does it turn too often

@@ -1,17 +1,17 @@
 use Rattle.std.proofs.Common.{◌≡◌, ◌<◌, All, List, ◌∙◌, ap, arith, drop, length, subst, sym}
 use Rattle.scc_base.specs.Communicators.{AreRules, rule_of}
 use Rattle.scc_base.specs.declared.communicators.CommRule.{CommRule}
-use Rattle.script_reader.specs.declared.script.Item.{Item}
-use Rattle.script_reader.specs.Ends.{with_ends}
-use Rattle.script_reader.specs.Checks.{last_comm}
+use Rattle.script_rules.specs.declared.script.Item.{Item}
+use Rattle.script_rules.specs.Ends.{with_ends}
+use Rattle.script_rules.specs.Checks.{last_comm}
 use Rattle.script_reader.specs.Progress.{ReadingSoFar}
-use Rattle.script_reader.specs.Script.{Script, rules_of}
+use Rattle.script_rules.specs.Script.{Script, rules_of}
 use Rattle.scc_base.specs.declared.communicators.CommRule.TheVariants as rule
-use Rattle.script_reader.specs.Settled.{IsAccepted, IsSettled}
-use Rattle.script_reader.proofs.SettledLemmas.{rules-low, settled-with_ends, world-present}
-use Rattle.script_reader.proofs.BareLemmas.{lines-with_ends, passed-with_ends}
-use Rattle.script_reader.proofs.EndLemmas.{named-with_ends, rules-with_ends, sized-with_ends}
-use Rattle.script_reader.proofs.TallyLemmas.{written-back}
+use Rattle.script_rules.specs.Settled.{IsAccepted, IsSettled}
+use Rattle.script_rules.proofs.SettledLemmas.{rules-low, settled-with_ends, world-present}
+use Rattle.script_rules.proofs.BareLemmas.{lines-with_ends, passed-with_ends}
+use Rattle.script_rules.proofs.EndLemmas.{named-with_ends, rules-with_ends, sized-with_ends}
+use Rattle.script_rules.proofs.TallyLemmas.{written-back}
 use Rattle.script_reader.proofs.reader.Reader.finish.Goals as goal
 
 -- what was written back are the items with their ends

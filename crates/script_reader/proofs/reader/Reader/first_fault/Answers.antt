@@ -1,6 +1,6 @@
 use Rattle.std.proofs.Common.{◌≡◌, ◌∙◌, ℕ, ◌<◌, ◌+◌, suc, Bool, false, List, Some, add-one, ap, cond, drop, drop-cons, get_or, length, sym}
 use Rattle.std.specs.List.{find}
-use Rattle.script_reader.specs.declared.fault.FaultKind.{FaultKind}
+use Rattle.script_rules.specs.declared.fault.FaultKind.{FaultKind}
 use Rattle.script_reader.specs.Progress.{fault_table, has_fault}
 use Rattle.script_reader.proofs.reader.Reader.first_fault.Goals as goal
 

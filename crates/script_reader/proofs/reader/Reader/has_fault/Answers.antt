@@ -1,10 +1,10 @@
 use Rattle.std.proofs.Common.{◌≡◌, ◌||◌, ◌==◌, ℕ, not, ◌∙◌, ap, false, subst, sym}
 use Rattle.std.specs.Prelude.{is_some}
 use Rattle.scc_base.specs.Setups.{SetupView}
-use Rattle.script_reader.specs.Checks.{has_no_parent, run_of}
+use Rattle.script_rules.specs.Checks.{has_no_parent, run_of}
 use Rattle.script_reader.specs.Progress.{ReadingSoFar, has_fault, past}
-use Rattle.script_reader.specs.Tally.{reads}
-use Rattle.script_reader.proofs.CheckLemmas.{neither}
+use Rattle.script_rules.specs.Tally.{reads}
+use Rattle.script_rules.proofs.CheckLemmas.{neither}
 use Rattle.script_reader.proofs.FaultLemmas.{of-world, without-peer, without-read, without-register, without-root}
 use Rattle.script_reader.proofs.reader.Reader.has_fault.Goals as goal
 use Rattle.script_reader.proofs.reader.Reader.has_fault.Goals.{then-reads-2, else-reads-2}

@@ -1,7 +1,7 @@
 use Rattle.std.proofs.Common.{◌∙◌, ◌<◌, arith, subst, sym}
-use Rattle.script_reader.specs.Checks.{refuses}
+use Rattle.script_rules.specs.Checks.{refuses}
 use Rattle.script_reader.specs.Progress.{ReadingSoFar, past}
-use Rattle.script_reader.proofs.CheckLemmas.{some_rank-at}
+use Rattle.script_rules.proofs.CheckLemmas.{some_rank-at}
 use Rattle.script_reader.proofs.reader.Reader.is_refused_by.Goals as goal
 
 pub returns-then-refuses : goal.returns-then-refuses

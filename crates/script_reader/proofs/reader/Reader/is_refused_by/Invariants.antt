@@ -1,7 +1,7 @@
 use Rattle.std.proofs.Common.{◌≡◌, ◌&&◌, false}
-use Rattle.script_reader.specs.Checks.{refuses, some_below}
+use Rattle.script_rules.specs.Checks.{refuses, some_below}
 use Rattle.script_reader.specs.Progress.{past}
-use Rattle.script_reader.specs.Script.{has_rank}
+use Rattle.script_rules.specs.Script.{has_rank}
 use Rattle.script_reader.proofs.reader.Reader.is_refused_by.Given as goal
 
 -- no rank so far is refused

@@ -1,7 +1,7 @@
 use Rattle.std.proofs.Common.{◌≤◌, ap, arith, length, length-append}
 use Rattle.std.proofs.lemmas.Bool.{ltb-false}
-use Rattle.script_reader.specs.declared.script.Item.{Item}
-use Rattle.script_reader.specs.Limits.{most_names}
+use Rattle.script_rules.specs.declared.script.Item.{Item}
+use Rattle.script_rules.specs.Limits.{most_names}
 use Rattle.script_reader.specs.Progress.{ReadingSoFar}
 use Rattle.script_reader.proofs.FaultLemmas.{no-fault}
 use Rattle.script_reader.proofs.reader.Reader.place.Goals as goal

@@ -1,10 +1,10 @@
 use Rattle.std.proofs.Common.{◌≡◌, ℕ, ◌<◌, ◌∙◌, ap, get_or, refl, reverse, subst}
 use Rattle.scc_base.specs.Setups.{SetupView}
-use Rattle.script_reader.specs.declared.tally.Tally.{Tally}
-use Rattle.script_reader.specs.Checks.{open_of, refuses, run_of, turns_in}
+use Rattle.script_rules.specs.declared.tally.Tally.{Tally}
+use Rattle.script_rules.specs.Checks.{open_of, refuses, run_of, turns_in}
 use Rattle.script_reader.specs.Progress.{ReadingSoFar, past}
-use Rattle.script_reader.specs.Tally.{refuses_by}
-use Rattle.script_reader.proofs.TallyLemmas.{refuses-same}
+use Rattle.script_rules.specs.Tally.{refuses_by}
+use Rattle.script_rules.proofs.TallyLemmas.{refuses-same}
 use Rattle.script_reader.proofs.reader.Reader.refuses.Goals as goal
 
 pub returns : goal.returns

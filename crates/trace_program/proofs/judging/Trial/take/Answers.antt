@@ -1,4 +1,4 @@
-use Rattle.std.proofs.Common.{◌<◌, Option, refl, subst, sym, rules, ◌∙◌, arith}
+use Rattle.std.proofs.Common.{◌<◌, Option, refl, subst, sym, ◌∙◌, arith}
 use Rattle.record_machine.specs.Following.{Adds}
 use Rattle.scc_base.specs.Setups.{SetupView}
 use Rattle.scc_base.specs.declared.calls.Call.{Call}
@@ -28,7 +28,7 @@ returns-in_ok-keep-in-Ok-Some-clause-tried c = λ asked r next.
     let t = c.args.self.now in
     let new = c.take.new.self in
     let e : RankEvent = rank_event c.args.made.now in
-    let low : e.rank < 48 = search rules in
+    let low : e.rank < 48 = c.known.ensures.below in
     let adds = subst (λ (o : Option Call). Adds o (bytes_at new e.rank) ((chip_of t.judge).records e.rank).calls ((chip_of new).records e.rank).calls) c.in-Ok-Some.field-0-is c.in-Ok-Some.ensures.finishes in
     record {
       tried = tried_on t r e next.has.tried _ refl refl c.take.ensures.setup c.in-Ok-Some.ensures.takes c.in-Ok-Some.ensures.refused;

@@ -1,0 +1,11 @@
+pub mod Acceptance
+pub mod Checks
+pub mod Closed
+pub mod Effects
+pub mod Ends
+pub mod Kinds
+pub mod Limits
+pub mod Run
+pub mod Script
+pub mod Settled
+pub mod Tally
