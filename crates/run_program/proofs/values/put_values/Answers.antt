@@ -1,4 +1,4 @@
-use Rattle.std.proofs.Common.{◌≡◌, ℤ, ℕ, ◌-◌, ◌++◌, ◌≤◌, List, codes, drop, length, ap, sym, ◌∙◌, arith}
+use Rattle.std.proofs.Common.{◌≡◌, ℤ, ℕ, ◌-◌, ◌++◌, List, codes, drop, length, ap, sym, ◌∙◌, arith}
 use Rattle.std.specs.Fmt.{signed_decimal}
 use Rattle.std.specs.Int.{w64}
 use Rattle.std.proofs.lemmas.Int.{to_z-of_z}
@@ -13,8 +13,7 @@ loop-i-init c = record {
   high = omega arith;
   room = omega arith;
   within = omega arith;
-  written = let end : length c.args.text.now ≤ c.len-at.result = omega arith in
-      values-none c.args.ty c.args.bytes.now c.args.to c.len-at.result c.args.text.now end;
+  written = values-none c.args.ty c.args.bytes.now c.args.to (length c.args.text.now) c.args.text.now (omega arith);
 }
 
 pub loop-i-preserved : goal.loop-i-preserved
