@@ -23,7 +23,7 @@ use Rattle.rcce_audit.specs.declared.verdicts.Verdict.{Verdict}
 use Rattle.rcce_audit.specs.declared.verdicts.Verdict.TheVariants as verdict
 use Rattle.rcce_audit.specs.Grammar.{log_of}
 use Rattle.rcce_audit.specs.Held.{bytes_in}
-use Rattle.rcce_audit.specs.Logs.{IsLog, IsLogCall, calls_in_log}
+use Rattle.rcce_audit.specs.Logs.{IsLog, IsLogCall, calls_at_rank}
 use Rattle.rcce_audit.specs.Sizes.{AreFew, bytes_moved}
 use Rattle.rcce_audit.specs.Texts.{log_text}
 use Rattle.rcce_audit.specs.Verdicts.{IsLegalLog, IsVerdict}
@@ -82,13 +82,13 @@ few_own script rank calls is =
 
 module _ (script : Script) (chip : ChipView) (read : settled.IsWholeScript script.nue script.items) (run : HasRunLogged script (log_setup_by script) chip) where
   -- of the ranks that a log has
-  calls_at : (k : ℕ) → k < 48 → calls_in_log (script_log script) k ≡ plain_calls script k
+  calls_at : (k : ℕ) → k < 48 → calls_at_rank (script_log script).lists k ≡ plain_calls script k
   calls_at k low = get_or-map-range_with_len (plain_calls script) 0 48 k k [] low (omega arith)
 
-  calls_past : (k : ℕ) → 48 ≤ k → calls_in_log (script_log script) k ≡ []
+  calls_past : (k : ℕ) → 48 ≤ k → calls_at_rank (script_log script).lists k ≡ []
   calls_past k past = get_or_past (map (plain_calls script) (range_with_len 0 48)) k [] (omega (arith, past, length-map-range_with_len (plain_calls script) 0 48))
 
-  none_at : (k : ℕ) → script.nue ≤ k → calls_in_log (script_log script) k ≡ []
+  none_at : (k : ℕ) → script.nue ≤ k → calls_at_rank (script_log script).lists k ≡ []
   none_at k past =
       ⊎_elim
       (λ (low : k < 48). calls_at k low ∙ past_none script k past)
@@ -104,7 +104,7 @@ module _ (script : Script) (chip : ChipView) (read : settled.IsWholeScript scrip
       own_calls script k (plain_calls script k) (run.own k low).own
       (subst (λ (done : List DataCall). All HasBytes done) (run.finished k) (calls_have_bytes (about_in chip) k (events_in chip k)))
 
-  valid : (k : ℕ) → All (IsLogCall script.nue (rules_of script.items) k) (calls_in_log (script_log script) k)
+  valid : (k : ℕ) → All (IsLogCall script.nue (rules_of script.items) k) (calls_at_rank (script_log script).lists k)
   valid k =
       let P : List DataCall → Type 0 = All (IsLogCall script.nue (rules_of script.items) k) in
       ⊎_elim
@@ -112,7 +112,7 @@ module _ (script : Script) (chip : ChipView) (read : settled.IsWholeScript scrip
       (λ (past : script.nue ≤ k). subst P (sym (none_at k past)) (All-nil (IsLogCall script.nue (rules_of script.items) k)))
       (cases_lt k script.nue)
 
-  few : (k : ℕ) → AreFew (calls_in_log (script_log script) k)
+  few : (k : ℕ) → AreFew (calls_at_rank (script_log script).lists k)
   few k =
       ⊎_elim
       (λ (low : k < script.nue). subst AreFew (sym (calls_at k (within k low))) (few_own script k (plain_calls script k) (run.own k low)))
@@ -135,7 +135,7 @@ module _ (script : Script) (chip : ChipView) (read : settled.IsWholeScript scrip
   read_back = text_told (script_log script) (few_fit (script_log script) is_log few)
 
   -- it is legal
-  same_calls : (k : ℕ) → (records_in chip k).calls ≡ calls_in_log (script_log script) k
+  same_calls : (k : ℕ) → (records_in chip k).calls ≡ calls_at_rank (script_log script).lists k
   same_calls k =
       run.finished k
       ∙ ⊎_elim

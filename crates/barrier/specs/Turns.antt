@@ -1,8 +1,7 @@
 -- What one turn of a barrier does and comes to (this project's profile of RCCE's barrier).
-use Rattle.std.specs.Prelude.{◌≡◌, ℕ, suc, ◌+◌, false, List, ◌++◌, Option, Some, None}
+use Rattle.std.specs.Prelude.{◌≡◌, ℕ, suc, ◌+◌, false, List, ◌++◌}
 use Rattle.std.specs.List.{list_any}
 use Rattle.scc_base.specs.declared.events.Event.{Event}
-use Rattle.scc_base.specs.declared.events.Spot.{Spot}
 use Rattle.scc_base.specs.declared.events.Turn.{Turn}
 use Rattle.scc_base.specs.declared.events.Turn.TheVariants as turn
 use Rattle.scc_proto.specs.Tables.{table_with}

@@ -1,9 +1,8 @@
 -- What the lines of a lab's file say, one after another (this project's profile).
-use Rattle.std.specs.Prelude.{ℕ, ◌+◌, ◌==◌, ◌&&◌, nat_lt, Bool, true, false, if◌then◌else◌, List, [], ◌∷◌, ◌++◌, codes, length, Option, Some, None, Result, Ok, Err}
+use Rattle.std.specs.Prelude.{ℕ, ◌+◌, ◌&&◌, nat_lt, Bool, true, false, if◌then◌else◌, List, [], ◌∷◌, ◌++◌, codes, length, Option, Some, None, Result, Ok, Err}
 use Rattle.std.specs.Str.{bytes_eq}
 use Rattle.texts.specs.Cuts.{is_text, lines_of, words_of}
 use Rattle.texts.specs.Numbers.{is_number, number_of}
-use Rattle.lab_reader.specs.declared.faults.LabKind.{LabKind}
 use Rattle.lab_reader.specs.declared.faults.LabKind.TheVariants as kind
 use Rattle.lab_reader.specs.declared.faults.LabFault.{LabFault}
 use Rattle.lab_reader.specs.declared.steps.Action.{Action}

@@ -13,7 +13,6 @@ use Rattle.rcce_audit.specs.declared.verdicts.Verdict.{Verdict}
 use Rattle.rcce_audit.specs.declared.verdicts.Verdict.TheVariants as verdict
 use Rattle.rcce_audit.specs.Logs.{LogView, calls_at_rank}
 use Rattle.rcce_audit.specs.Standings.{count_left}
-use Rattle.rcce_audit.specs.Texts.{IsFileLog}
 use Rattle.rcce_audit.specs.Verdicts.{IsJudge, VerdictTells, IsVerdict}
 use Rattle.rcce_audit.proofs.StandingLemmas.{no_step, one_end_told, own_fewer}
 

@@ -4,7 +4,7 @@ use Rattle.std.specs.Option.{ok_or}
 use Rattle.std.specs.Str.{bytes_eq}
 use Rattle.scc_proto.specs.Words.{is_present_rule}
 use Rattle.scc_base.specs.declared.communicators.CommRule.{CommRule}
-use Rattle.scc_base.specs.declared.communicators.CommRule.TheVariants.{Absent, World, Mod, Div}
+use Rattle.scc_base.specs.declared.communicators.CommRule.TheVariants.{Mod, Div}
 use Rattle.scc_base.specs.declared.kinds.Kind.{Kind}
 use Rattle.scc_base.specs.Heads.{MessageHead, kind_number, most_message, most_post}
 use Rattle.scc_base.specs.Calls.{DataCall, Send, Recv, Post, Bar}

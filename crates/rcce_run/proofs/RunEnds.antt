@@ -5,7 +5,7 @@ use Rattle.scc_base.specs.Setups.{SetupView}
 use Rattle.scc_base.specs.declared.events.Event.{Event}
 use Rattle.scc_proto.specs.Agreement.{Agrees}
 use Rattle.scc_proto.specs.Stages.{OnItsWay, Record}
-use Rattle.scc_proto.specs.Views.{View, view_of}
+use Rattle.scc_proto.specs.Views.{view_of}
 use Rattle.scc_proto.specs.Words.{Memory}
 use Rattle.scc_mesh.specs.Scenes.{ChipView, about_in, events_in, records_in}
 use Rattle.script_rules.specs.Script.{Script, rules_of}
@@ -21,10 +21,10 @@ use Rattle.rcce_ue.specs.Standing.{Tied}
 use Rattle.rcce_ue.specs.Ues.{UeView}
 use Rattle.chip_run.specs.declared.ends.RunEnd.{RunEnd}
 use Rattle.chip_run.specs.declared.ends.RunEnd.TheVariants as run_end
-use Rattle.chip_run.specs.Conducts.{Conduct, Later, WorkerView}
+use Rattle.chip_run.specs.Conducts.{Conduct, WorkerView}
 use Rattle.chip_run.specs.Crews.{AllRest, RunEndedAs, CrewGoesOn, IsCrew}
 use Rattle.chip_run.specs.Turns.{HasFinished, WantsNothing, RestsAt}
-use Rattle.chip_run.specs.Waiting.{SlotWaits, Waits}
+use Rattle.chip_run.specs.Waiting.{SlotWaits}
 use Rattle.chip_run.proofs.LaterLaws.{later_keeps}
 use Rattle.chip_run.proofs.WaitsLike.{slot_like, waits_like}
 use Rattle.rcce_run.specs.Crews.{AllRun, EndsAs, IsAtEnd, crew_locals}

@@ -1,31 +1,27 @@
 -- Where every look is vain: a raised chunk is not taken, a posted message stands in its slot, no barrier is complete, and
 -- nothing open is passed.
-use Rattle.std.proofs.Common.{◌≡◌, ◌≢◌, ◌⊎◌, inl, inr, ⊎_elim, ℕ, suc, ◌+◌, ◌-◌, ◌%◌, ◌<◌, ◌≤◌, ◌==◌, Bool, true, false, nat_lt, nat_le, if◌then◌else◌, List, [], ◌∷◌, ◌++◌, length, Option, Some, None, refl, sym, ap, ◌∙◌, subst, arith, length-append, append-nil}
+use Rattle.std.proofs.Common.{◌≡◌, ◌≢◌, inl, inr, ℕ, suc, ◌+◌, ◌-◌, ◌%◌, ◌<◌, ◌≤◌, ◌==◌, Bool, true, false, nat_lt, nat_le, if◌then◌else◌, List, [], ◌∷◌, ◌++◌, length, Option, refl, sym, ap, ◌∙◌, subst, arith, append-nil}
 use Rattle.std.proofs.lemmas.Bool.Decides.{nat_tests}
-use Rattle.std.proofs.lemmas.Option.{same_Some}
 use Rattle.scc_base.specs.Calls.{DataCall}
 use Rattle.scc_base.specs.Setups.{SetupView, setup_key, place_of, root_of}
 use Rattle.scc_base.proofs.GroupFacts.{root_is, root_place, root_with, root_within, size_same}
 use Rattle.scc_proto.specs.Agreement.{Agrees}
 use Rattle.scc_proto.specs.Groups.{holds_back, releases, InStep}
-use Rattle.scc_proto.specs.Legality.{Outgoing}
-use Rattle.scc_proto.specs.Messages.{Notes, Message, Progress, fresh_message, is_last, with_chunk, sent_messages, received_messages, barriers_of}
-use Rattle.scc_proto.specs.Pairs.{Offering, Receiving, sending_side, taking_side, message_so_far, pending, settling, HasArrived, Pair, pair_of, Phase, InRest, InRaised, InTaken, InReady}
-use Rattle.scc_proto.specs.Passed.{is_gathering, gathered_barriers, is_gathered, is_received_ahead, passed_open, passed_calls, slot_by, slot_of}
+use Rattle.scc_proto.specs.Messages.{with_chunk, sent_messages, received_messages, barriers_of}
+use Rattle.scc_proto.specs.Pairs.{Pair, pair_of}
+use Rattle.scc_proto.specs.Passed.{is_gathering, gathered_barriers, is_gathered, is_received_ahead, passed_open, passed_calls}
 use Rattle.scc_proto.specs.Records.{chunk_of, last_of}
-use Rattle.scc_proto.specs.Singles.{is_free, IsPosted, IsOnItsWay, open_barriers}
-use Rattle.scc_proto.specs.Stages.{Raised, Stage, Idle, Drafting, Sending, Between, Taking, Barrier, OnItsWay, Record}
+use Rattle.scc_proto.specs.Singles.{open_barriers}
+use Rattle.scc_proto.specs.Stages.{Stage, Idle, Drafting, Sending, Between, Taking, Barrier, Record}
 use Rattle.scc_proto.specs.Views.{View, view_of}
 use Rattle.scc_proto.specs.Words.{Memory, is_present}
-use Rattle.scc_proto.proofs.Pairs.OfferFacts.{posted_last}
-use Rattle.scc_proto.proofs.Pairs.PhaseFacts.{sending_here, post_here}
 use Rattle.scc_proto.proofs.Legality.StepLaws.{itself}
-use Rattle.scc_proto.proofs.Tests.{eqb_same, eqb_other}
+use Rattle.scc_proto.proofs.Tests.{eqb_other}
 use Rattle.script_machine.specs.declared.posts.Posted.{Posted}
 use Rattle.script_machine.specs.Next.{Next}
 use Rattle.script_machine.specs.Next.Next.{Ends, Goes, Posts, Sends, Recvs, Bars}
 use Rattle.script_machine.proofs.Choices.{and_of, both_true}
-use Rattle.chip_run.specs.Waiting.{SlotWaits, RaiseWaits, TakeWaits, IsLooking, BarWaits, AtRoot, AtMember}
+use Rattle.chip_run.specs.Waiting.{IsLooking, BarWaits, AtRoot, AtMember}
 use Rattle.chip_run.proofs.Offers.{as_many, raise_out}
 use Rattle.rcce_run.specs.Sweep.{Vain, Swept}
 use Rattle.rcce_run.proofs.Holding.{lt_true}

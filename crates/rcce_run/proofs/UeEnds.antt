@@ -45,7 +45,7 @@ use Rattle.rcce_run.specs.Ues.{state_of}
 use Rattle.rcce_run.proofs.Holding.{at_below, at_past}
 use Rattle.rcce_run.proofs.OpenCalls.{open_is_next}
 use Rattle.rcce_run.proofs.PlainEnds.{call_waits, end_same, plain_ended_at}
-use Rattle.rcce_run.proofs.RunEnds.{RunsUes, is_swept, none_on_its_way, over_ends, rests_as}
+use Rattle.rcce_run.proofs.RunEnds.{RunsUes, is_swept, none_on_its_way, over_ends}
 use Rattle.rcce_run.proofs.ScriptSweep.{script_empty, script_ends, script_waits}
 use Rattle.rcce_run.proofs.ShownStates.{any_slots}
 use Rattle.rcce_run.proofs.UeFits.{some_sight, tied_stood}

@@ -3,7 +3,6 @@ use Rattle.std.specs.Prelude.{◌≡◌, ℕ, ◌<◌, ◌≤◌, false, List, [
 use Rattle.std.specs.List.{enumerate_from}
 use Rattle.scc_base.specs.Calls.{DataCall, call_of}
 use Rattle.scc_base.specs.Setups.{SetupView, setup_key}
-use Rattle.scc_base.specs.declared.events.Event.{Event}
 use Rattle.scc_proto.specs.Legality.{IsLegal}
 use Rattle.scc_proto.specs.Messages.{barriers_of}
 use Rattle.scc_proto.specs.PairMessages.{PairMessages}

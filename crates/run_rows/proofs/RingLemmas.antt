@@ -1,5 +1,5 @@
 -- What each turn of a rank of the ring means to a run.
-use Rattle.std.proofs.Common.{◌≡◌, ℕ, zero, suc, nat_lt, ◌==◌, ◌&&◌, ◌+◌, ◌<◌, Bool, true, false, not, List, [], ◌∷◌, length, slice_index_or, Option, Some, None, refl, sym, ap, ◌∙◌, subst, arith}
+use Rattle.std.proofs.Common.{◌≡◌, ℕ, zero, suc, nat_lt, ◌==◌, ◌&&◌, ◌+◌, ◌<◌, Bool, true, false, not, List, [], ◌∷◌, length, slice_index_or, Option, None, refl, sym, ap, ◌∙◌, subst, arith}
 use base.Stored.{Gv, gnil}
 use Rattle.scc_base.specs.Heads.{MessageHead, IsHead, plain_head}
 use Rattle.scc_base.specs.Setups.{SetupView}

@@ -1,5 +1,5 @@
 -- A UE fits its events, whatever port shows them.
-use Rattle.std.proofs.Common.{ℕ, List}
+use Rattle.std.proofs.Common.{List}
 use base.Stored.{gnil}
 use Rattle.scc_base.specs.declared.events.Event.{Event}
 use Rattle.scc_base.specs.declared.events.Turn.{Turn}

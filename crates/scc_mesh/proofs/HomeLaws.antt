@@ -12,7 +12,7 @@ use Rattle.scc_mesh.specs.SeatViews.{SeatView, events_of_rank, list_or_none, lis
 use Rattle.scc_mesh.specs.Keeping.{records_by, Together}
 use Rattle.scc_mesh.specs.Scenes.{ChipView, Scene, about_in, events_in, IsWhole, IsNew, KnowsHome, AgreesAtHome, is_port_of, sight_in}
 use Rattle.scc_mesh.specs.Scenes as scenes
-use Rattle.scc_mesh.proofs.ViewLemmas.{is_known, list_past, newcomer_here, newcomer_list}
+use Rattle.scc_mesh.proofs.ViewLemmas.{list_past, newcomer_here, newcomer_list}
 
 module _ (scene : Scene) (whole : IsWhole (Some scene)) (knows : KnowsHome (Some scene)) where
   same_list : (r : ℕ) → knows.0.lists r ≡ list_at scene.home r

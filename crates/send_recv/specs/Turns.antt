@@ -9,8 +9,6 @@ use Rattle.scc_base.specs.declared.events.Access.{Access}
 use Rattle.scc_base.specs.declared.events.Access.TheVariants.{Store}
 use Rattle.scc_base.specs.declared.events.Event.{Event}
 use Rattle.scc_base.specs.declared.events.Spot.{Spot}
-use Rattle.scc_base.specs.declared.events.Turn.{Turn}
-use Rattle.scc_base.specs.declared.events.Turn.TheVariants.{Waiting}
 use Rattle.scc_base.specs.Setups.{SetupView}
 use Rattle.scc_proto.specs.Stages.{OnItsWay, FlagWords, Record}
 use Rattle.scc_proto.specs.Drafts.{is_draft}

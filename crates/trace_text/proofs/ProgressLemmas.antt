@@ -1,5 +1,5 @@
 -- A walk over a text, with one byte more, and at its end.
-use Rattle.std.proofs.Common.{◌≡◌, ◌≢◌, ◌⊎◌, inl, inr, ℕ, zero, suc, ◌+◌, ◌<◌, ◌≤◌, Bool, true, false, not, ◌==◌, List, [], ◌∷◌, ◌++◌, length, length-append, map, take, Option, Some, None, is_some, Result, Ok, Err, refl, sym, ◌∙◌, ap, subst, arith}
+use Rattle.std.proofs.Common.{◌≡◌, ◌≢◌, inl, ℕ, zero, suc, ◌+◌, ◌<◌, ◌≤◌, Bool, true, false, ◌==◌, List, [], ◌∷◌, ◌++◌, length, length-append, take, Option, Some, None, Result, Ok, Err, refl, sym, ◌∙◌, ap, subst, arith}
 use Rattle.std.specs.Prelude.{nat_lt}
 use Rattle.std.proofs.lemmas.Bool.{cond-false, cond-true, le-ltb, lt-ltb}
 use Rattle.std.specs.Bool.{MatchBool}
@@ -11,7 +11,7 @@ use Rattle.scc_proto.specs.Words.{RankEvent}
 use Rattle.trace_text.specs.Grammar.{TraceReading, last_taken, line_fault, line_taken, split_added, split_taken, trace_of, ◌>->◌}
 use Rattle.trace_text.specs.Progress.{HasWalked, TakesTraceLine, progress_of, said_by, said_with, walk_said}
 use Rattle.trace_text.specs.Traces.{most_line_bytes, most_trace_bytes, most_trace_lines}
-use Rattle.trace_text.specs.Walks.{EndsText, GainsEvent, HasComeTo, last_line, trace_lines_said, next_said, text_reading, whole_lines}
+use Rattle.trace_text.specs.Walks.{EndsText, GainsEvent, last_line, trace_lines_said, next_said, text_reading, whole_lines}
 use Rattle.trace_text.specs.declared.faults.TraceFault.{TraceFault}
 use Rattle.trace_text.specs.declared.faults.TraceKind.TheVariants as kind
 use Rattle.trace_text.specs.declared.reader.LineTaken.{LineTaken}

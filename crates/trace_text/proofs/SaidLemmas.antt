@@ -1,5 +1,5 @@
 -- What the lines of a trace say has a setup that a run may have, and events that its ranks may make.
-use Rattle.std.proofs.Common.{◌≡◌, ℕ, zero, suc, ◌+◌, ◌-◌, ◌<◌, ◌≤◌, ◌^◌, ◌⊎◌, inl, inr, Bool, true, false, cond, ◌&&◌, ◌==◌, List, [], ◌∷◌, ◌++◌, get_or, length, replicate, set, take, Option, Some, None, if◌then◌else◌, is_none, option_map, slice_index_or, Result, Ok, Err, codes, refl, sym, ◌∙◌, ap, subst, arith}
+use Rattle.std.proofs.Common.{◌≡◌, ℕ, zero, suc, ◌+◌, ◌-◌, ◌<◌, ◌≤◌, ◌^◌, inl, inr, Bool, true, false, cond, ◌&&◌, ◌==◌, List, [], ◌∷◌, length, set, take, Option, Some, None, if◌then◌else◌, is_none, option_map, slice_index_or, Result, Ok, Err, codes, refl, sym, ◌∙◌, subst, arith}
 use Rattle.std.specs.Prelude.{All, nat_le, nat_lt}
 use Rattle.std.specs.Int.{w64, from_be_bytes}
 use Rattle.std.specs.Option.{ok_or}
@@ -16,10 +16,8 @@ use Rattle.scc_base.specs.Places.{IsPlace, WordAt}
 use Rattle.scc_base.specs.Setups.{AreApart, IsSetup}
 use Rattle.scc_base.specs.declared.communicators.CommRule.TheVariants.{Absent}
 use Rattle.scc_base.specs.declared.events.Event.{Event}
-use Rattle.scc_base.specs.declared.layouts.Layout.{Layout}
 use Rattle.scc_base.specs.Worlds.{world_alone}
 use Rattle.scc_proto.specs.Words.{RankEvent, rank_below}
-use Rattle.rcce_audit.specs.declared.lines.CommSplit.{CommSplit}
 use Rattle.rcce_audit.specs.Grammar.{begins_comm, comm_said, log_rank_said}
 use Rattle.rcce_audit.specs.Words.{◌>>=◌, is_lower, only_if, exact_range_said, log_words_of}
 use Rattle.texts.specs.Cuts.{lines_of}

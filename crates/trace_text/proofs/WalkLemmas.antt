@@ -1,19 +1,18 @@
 -- What the lines of a text say, with one byte more.
-use Rattle.std.proofs.Common.{◌≡◌, ◌⊎◌, ⊎_elim, inl, inr, ℕ, zero, suc, ◌+◌, ◌-◌, ◌<◌, ◌≤◌, min, Bool, true, false, cond, ◌==◌, if◌then◌else◌, List, [], ◌∷◌, ◌++◌, length, length-append, slice_index_or, take, Option, Some, None, option_map, Result, Ok, Err, codes, refl, sym, ◌∙◌, ap, subst, arith}
+use Rattle.std.proofs.Common.{◌≡◌, ℕ, ◌+◌, ◌-◌, ◌<◌, ◌≤◌, Bool, true, false, ◌==◌, if◌then◌else◌, List, [], ◌∷◌, ◌++◌, length, length-append, slice_index_or, take, Option, Some, None, option_map, Result, Ok, Err, codes, refl, sym, ◌∙◌, ap, arith}
 use Rattle.std.specs.Prelude.{nat_lt}
 use Rattle.std.specs.List.{onto_first, slice_split}
 use Rattle.std.specs.Option.{ok_or}
 use Rattle.std.specs.Str.{bytes_eq}
-use Rattle.std.proofs.Math.Seq.{get_or-append_seam, take-append_seam, take-length}
+use Rattle.std.proofs.Math.Seq.{get_or-append_seam, take-append_seam}
 use Rattle.std.proofs.lemmas.Bool.{cond-false, cond-true, le-ltb, lt-ltb, ltb-false, ltb-true}
 use Rattle.std.proofs.lemmas.List.{length-take-le, take-append-le, take_all}
 use Rattle.std.proofs.lemmas.List.Splits.{slice_split-cons_no, slice_split-cons_yes}
 use Rattle.texts.specs.Cuts.{lines_of}
-use Rattle.rcce_audit.specs.Grammar.{begins_comm}
-use Rattle.rcce_audit.proofs.ReadingLemmas.{few_parts, some_part}
-use Rattle.trace_text.specs.Grammar.{TraceHead, TraceReading, all_taken, behind_head, first_taken, trace_head_said, last_taken, line_fault, line_taken, lines_taken, parts_taken, trace_of, ◌>->◌}
+use Rattle.rcce_audit.proofs.ReadingLemmas.{few_parts}
+use Rattle.trace_text.specs.Grammar.{TraceHead, TraceReading, all_taken, behind_head, first_taken, trace_head_said, last_taken, line_fault, line_taken, lines_taken, trace_of, ◌>->◌}
 use Rattle.trace_text.specs.Traces.{TraceView, most_line_bytes, most_trace_bytes, most_trace_lines}
-use Rattle.trace_text.specs.Walks.{EndsText, GainsEvent, HasComeTo, last_line, trace_lines_said, next_said, text_reading, whole_lines}
+use Rattle.trace_text.specs.Walks.{last_line, trace_lines_said, next_said, text_reading, whole_lines}
 use Rattle.trace_text.specs.declared.faults.TraceFault.{TraceFault}
 use Rattle.trace_text.specs.declared.faults.TraceKind.TheVariants as kind
 

@@ -17,7 +17,7 @@ use Rattle.script_machine.specs.Next.Next.{Goes, Posts, Sends, Recvs, Bars}
 use Rattle.script_plain.specs.Paths.{DidCalls}
 use Rattle.script_plain.specs.Paths.DidCalls.{Here, Own, Left, Sent, Got, Met}
 use Rattle.script_machine.specs.Program.{Act, Prim}
-use Rattle.script_machine.specs.Program.Act.{Set, Send, Post, Recv, Gather}
+use Rattle.script_machine.specs.Program.Act.{Set, Send, Post, Gather}
 use Rattle.script_machine.proofs.ProgramLengths.NextLengths.{after, length_index, lengths_next}
 use Rattle.script_machine.proofs.ProgramLengths.RoomLaws.{prim_left}
 

@@ -1,4 +1,4 @@
-use Rattle.std.proofs.Common.{◌≡◌, ◌<◌, ◌∙◌, ℕ, List, [], ◌∷◌, Bor, None, arith, length, map, refl, sym}
+use Rattle.std.proofs.Common.{◌≡◌, ◌<◌, ◌∙◌, ℕ, List, [], ◌∷◌, None, arith, length, map, refl}
 use Rattle.std.proofs.lemmas.List.{length-map}
 use Rattle.lab_reader.specs.Said.{read_after, read_behind}
 use Rattle.lab_reader.proofs.said.read_after.Goals as goal

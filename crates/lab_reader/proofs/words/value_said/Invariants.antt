@@ -1,4 +1,4 @@
-use Rattle.std.proofs.Common.{◌≡◌, ◌≤◌, drop}
+use Rattle.std.proofs.Common.{◌≡◌, drop}
 use Rattle.lab_reader.specs.Words.{digits_said}
 use Rattle.lab_reader.proofs.words.value_said.Given as goal
 

@@ -1,4 +1,4 @@
-use Rattle.std.proofs.Common.{◌≡◌, true, not, length, refl, sym, ap, ◌∙◌, subst}
+use Rattle.std.proofs.Common.{not, length, sym, ap, ◌∙◌}
 use Rattle.put_get.specs.Cores.{Private}
 use Rattle.scc_proto.specs.Words.{are_peers}
 use Rattle.run_rows.specs.Rings.{message_to_begin}

@@ -1,4 +1,4 @@
-use Rattle.std.proofs.Common.{◌≡◌, ◌++◌, [], codes, decimal, ◌∙◌, List, ℕ}
+use Rattle.std.proofs.Common.{◌≡◌, ◌++◌, [], codes, decimal, ◌∙◌}
 use Rattle.script_gen.specs.Texts.{section_text}
 use Rattle.script_gen.proofs.Sections.{alone_text, even_pieces, odd_pieces, ring_text}
 use Rattle.script_gen.proofs.generate.gen_script.Goals.{then-nue-eq1+in_ok-push_section+in_ok-push_section-2, else-nue-eq1+in_ok-push_section-3+in_ok-push_section-4}

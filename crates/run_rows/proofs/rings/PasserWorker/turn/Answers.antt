@@ -1,6 +1,5 @@
-use Rattle.std.proofs.Common.{◌≡◌, ◌+◌, ◌%◌, length, slice_set, slice_index_or, refl, sym, ap, ◌∙◌, subst}
+use Rattle.std.proofs.Common.{◌+◌, ◌%◌, slice_set, slice_index_or, refl, sym, subst}
 use Rattle.std.proofs.lemmas.List.{length-set}
-use Rattle.scc_base.specs.declared.events.Turn.TheVariants as turn
 use Rattle.run_rows.specs.Rings.{IsAtMessage}
 use Rattle.run_rows.specs.declared.rings.Message.TheVariants.{Sending, Receiving, Over}
 use Rattle.run_rows.proofs.RingLemmas.{done, met, moved, over, passes_as, passes_to, send_done, send_moved, send_waited, shown, waited}

@@ -1,4 +1,4 @@
-use Rattle.std.proofs.Common.{◌≢◌, ℕ, ◌+◌, Option, Some, option_map, Result, sym, ◌∙◌, ap, subst, arith}
+use Rattle.std.proofs.Common.{◌+◌, Option, Some, option_map, Result, sym, ◌∙◌, ap, subst, arith}
 use Rattle.trace_text.specs.Grammar.{TraceReading}
 use Rattle.trace_text.specs.Progress.{progress_of, walk_said}
 use Rattle.trace_text.specs.Views.{rank_event}

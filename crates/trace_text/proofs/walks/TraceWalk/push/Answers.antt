@@ -1,4 +1,4 @@
-use Rattle.std.proofs.Common.{◌≡◌, ◌==◌, ◌≤◌, ℕ, true, false, ◌∷◌, ◌++◌, [], List, length, None, option_map, subst, sym, arith}
+use Rattle.std.proofs.Common.{◌≡◌, ◌==◌, ◌≤◌, ℕ, true, ◌∷◌, ◌++◌, [], List, length, None, option_map, subst, sym, arith}
 use Rattle.std.proofs.lemmas.Bool.Decides.{nat_tests}
 use Rattle.scc_proto.proofs.Tests.{eqb_other}
 use Rattle.trace_text.specs.Progress.{HasWalked, walk_said}
