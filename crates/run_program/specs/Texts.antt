@@ -37,7 +37,7 @@ type_text Long = codes "long"
 abbrev pub value_text : Ty → List ℕ → ℕ → List ℕ
 value_text ty bytes i = codes " " ++ signed_decimal (typed_value_at ty bytes i)
 
--- the values of a list of bytes from one of them on, so many, each behind a blank
+-- `count` values of a list of bytes from the value `first` on, each behind a blank
 abbrev pub values_text_from : Ty → List ℕ → (first count : ℕ) → List ℕ
 values_text_from ty bytes first count = joined_texts (map (value_text ty bytes) (range_with_len first count))
 
