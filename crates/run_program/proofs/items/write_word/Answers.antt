@@ -1,4 +1,4 @@
-use Rattle.std.proofs.Common.{◌++◌, codes}
+use Rattle.std.proofs.Common.{codes}
 use Rattle.rcce_io.proofs.SendingLemmas.{cut_then, sends_after, sends_err}
 use Rattle.run_program.proofs.items.write_word.Goals as goal
 
