@@ -2,13 +2,13 @@
 
 ghost use Rattle.std.specs.Prelude.{◌≡◌};
 
-use scc_base::{Head, byte_of};
+use scc_base::{Head, Layout, byte_of};
 
 /// The longest message, in bytes.
 pub(crate) const MOST: usize = Head::MOST as usize;
 
 /// The most words of a chunk in either layout.
-pub(crate) const WORDS: usize = 828;
+pub(crate) const WORDS: usize = Layout::BIT_CHUNK as usize / 8;
 
 /// The words of a chunk buffer, each where it is noted, and whether any is.
 #[derive(Drop)]

@@ -1,7 +1,7 @@
 //! Messages between the two ranks of a chip with one seat.
 
 ghost use Rattle.std.specs.Prelude.{◌≡◌, ◌≤◌, ℕ, true, [], length, IfOk, SomeIff};
-ghost use Rattle.scc_base.specs.Heads.{plain_head};
+ghost use Rattle.scc_base.specs.Heads.{most_message, most_post, plain_head};
 ghost use Rattle.scc_base.specs.Setups.{SetupView};
 ghost use Rattle.scc_proto.specs.Words.{are_peers};
 ghost use Rattle.scc_mesh.specs.Scenes.{IsNew, about_in};
@@ -40,7 +40,7 @@ pub(crate) struct Task {
 
 /// The head of a message of these bytes.
 pub(crate) fn head_of(bytes: &[u8]) -> Option<Head>
-    ensures gives { SomeIff result (length bytes.now ≤ 65536) (plain_head (length bytes.now)) }
+    ensures gives { SomeIff result (length bytes.now ≤ most_message) (plain_head (length bytes.now)) }
 {
     if bytes.len() > Head::MOST as usize {
         return None;
@@ -50,7 +50,7 @@ pub(crate) fn head_of(bytes: &[u8]) -> Option<Head>
 
 /// The head of a posted message of these bytes.
 pub(crate) fn post_head_of(bytes: &[u8]) -> Option<PostHead>
-    ensures gives { SomeIff result (length bytes.now ≤ 3584) (plain_head (length bytes.now)) }
+    ensures gives { SomeIff result (length bytes.now ≤ most_post) (plain_head (length bytes.now)) }
 {
     if bytes.len() > PostHead::MOST as usize {
         return None;

@@ -1,6 +1,7 @@
 //! Receives, tests and posts as whole calls, by a rank of a chip with one seat.
 
 ghost use Rattle.std.specs.Prelude.{◌≡◌, ◌≤◌, length, true, IfOk};
+ghost use Rattle.scc_base.specs.Heads.{most_message, most_post};
 ghost use Rattle.scc_proto.specs.Words.{are_peers};
 ghost use Rattle.send_recv.specs.Calling.{IsBetweenMessages};
 
@@ -22,7 +23,7 @@ fn receive<P: Port, V: Evict>(
 ) -> Result<(), RecvStop>
     requires free { IsBetweenMessages (P.sight port.old) core.old slot.now }
     requires peers { are_peers (P.sight port.old).seat.setup (P.sight port.old).seat.rank 0 ≡ true }
-    requires short { length bytes.old ≤ 65536 }
+    requires short { length bytes.old ≤ most_message }
     requires some { 1 ≤ polls }
 {
     let Some(head) = Head::plain(bytes.len() as u32) else {
@@ -41,7 +42,7 @@ fn receive_if_sent<P: Port, V: Evict>(
 ) -> Result<bool, RecvStop>
     requires free { IsBetweenMessages (P.sight port.old) core.old slot.now }
     requires peers { are_peers (P.sight port.old).seat.setup (P.sight port.old).seat.rank 0 ≡ true }
-    requires short { length bytes.old ≤ 65536 }
+    requires short { length bytes.old ≤ most_message }
     requires some { 1 ≤ polls }
 {
     let Some(head) = Head::plain(bytes.len() as u32) else {
@@ -60,7 +61,7 @@ fn post<P: Port, V: Evict>(
 ) -> Result<(), SendStop>
     requires free { IsBetweenMessages (P.sight port.old) core.old slot.old }
     requires peers { are_peers (P.sight port.old).seat.setup (P.sight port.old).seat.rank 1 ≡ true }
-    requires short { length bytes.now ≤ 3584 }
+    requires short { length bytes.now ≤ most_post }
     requires some { 1 ≤ polls }
     ensures free { IfOk result (λ done. IsBetweenMessages (P.sight port.new) core.new slot.new) }
     ensures seat { IfOk result (λ done. (P.sight port.new).seat ≡ (P.sight port.old).seat) }
