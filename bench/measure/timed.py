@@ -74,14 +74,22 @@ def run(words: list[str], piped: bool = False, last: float = 120, statuses: tupl
     return Run(time.monotonic() - start, used.ru_utime + used.ru_stime, used.ru_maxrss / 1024, code != -signal.SIGKILL)
 
 
-def in_turn(commands: list[list[str]], rounds: int, most: float = float("inf")) -> list[Run]:
-    """The least of some runs of each command, which are taken in turn; fewer rounds where these take so many seconds together."""
+# A run below so many seconds swings by more than a bound allows: the least of so many such runs does not.
+SHORT, MANY = 0.5, 25
+
+
+def in_turn(commands: list[list[str]], rounds: int, most: float = float("inf"), many: int = 0) -> list[Run]:
+    """The least of some runs of each command, which are taken in turn; fewer rounds where these take `most` seconds together, and at least
+    `many` where the first run of each is a short one."""
     found: list[Run | None] = [None] * len(commands)
     start = time.monotonic()
-    for _ in range(rounds):
+    while rounds > 0:
+        first, rounds = found[0] is None, rounds - 1
         for at, command in enumerate(commands):
             now, before = run(command), found[at]
             found[at] = before.least(now) if before else now
+        if first and all(it.clock < SHORT for it in found if it):
+            rounds = max(rounds, many - 1)
         if time.monotonic() - start > most or not all(it.ended for it in found if it):
             break
     return [it for it in found if it]
