@@ -4,9 +4,13 @@ ghost use Rattle.std.specs.Prelude.{◌<◌};
 
 use std::sync::atomic::{AtomicU64, Ordering};
 use std::thread;
+use std::thread::Threads;
 
-/// From this many vain turns in a row on, another thread runs behind each.
+/// From this many vain turns in a row on, another thread runs behind each, where threads share processors.
 const PATIENCE: usize = 16;
+
+/// The same where each thread can have a processor of its own: what a rank waits for is mostly under way then.
+const LONG_PATIENCE: usize = 64;
 
 /// After this many vain turns in a row, a rank is about to give up.
 const LAST: usize = 999;
@@ -16,6 +20,7 @@ const LAST: usize = 999;
 #[derive(Drop)]
 pub(crate) struct Roll {
     asked: usize,
+    patience: usize,
     begun: AtomicU64,
     /// How many had begun where a rank was the first to give up before all had; 0 where none was.
     short: AtomicU64,
@@ -23,9 +28,10 @@ pub(crate) struct Roll {
 
 impl Roll {
     /// The roll of a round that asks for this number of threads.
-    pub(crate) fn new(asked: usize) -> Roll {
+    pub(crate) fn new<R: Threads>(rt: &R, asked: usize) -> Roll {
         Roll {
             asked,
+            patience: patience(rt, asked),
             begun: AtomicU64::new(0),
             short: AtomicU64::new(0),
         }
@@ -39,7 +45,7 @@ impl Roll {
     /// Lets another thread run behind a vain turn, once several were vain: the rank that is waited for may have no processor.
     /// Where threads are missing it need not: that rank may have to wait until this row is over.
     pub(crate) fn give_way(&self, vain: usize) {
-        if vain >= PATIENCE && self.asked > 1 && !self.is_short() {
+        if vain >= self.patience && self.asked > 1 && !self.is_short() {
             thread::yield_now();
             if vain == LAST {
                 self.give_up();
@@ -69,5 +75,13 @@ impl Roll {
     /// Whether some threads were missing where a rank gave up.
     fn is_short(&self) -> bool {
         self.short.load(Ordering::SeqCst) > 0
+    }
+}
+
+/// How many vain turns in a row a thread takes before another runs, where a round asks for this number of threads.
+fn patience<R: Threads>(rt: &R, asked: usize) -> usize {
+    match thread::available_parallelism(rt) {
+        Ok(processors) if asked <= processors.get() => LONG_PATIENCE,
+        Ok(_) | Err(_) => PATIENCE,
     }
 }

@@ -207,7 +207,7 @@ pub(crate) fn round_in_threads<W: Worker + Drop + Send, G: Gate + Sync, R: Threa
     ensures next { 0 < result }
 {
     let each = crew.len().div_ceil(threads);
-    let roll = Roll::new(crew.len().div_ceil(each));
+    let roll = Roll::new(rt, crew.len().div_ceil(each));
     hand_out(chip, crew);
     all_rows(rt, chip.words(), gate, &roll, crew, each);
     take_home(chip, crew);

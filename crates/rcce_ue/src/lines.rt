@@ -11,6 +11,7 @@ impl<'s, V: Evict> Ue<'s, V> {
     ghost use Rattle.rcce_ue.specs.Stretches.{StretchMoves, reads_line_next, writes_line_next};
 
     /// Takes the turns that write or read the lines of a chunk which are left, where one stands next; tells whether it did.
+    #[inline(always)]
     pub fn move_lines<P: Port>(&mut self, port: &mut P) -> bool
         requires tied { Tied self.old (P.sight port.old) }
         ensures tells { result ≡ writes_line_next self.old.op || reads_line_next self.old.op }

@@ -48,6 +48,7 @@ impl OpenReceive {
     }
 
     /// Goes on by one turn, into the first bytes of the inbox.
+    #[inline(always)]
     pub fn turn<V: Evict, P: Port>(
         &mut self,
         core: &mut Core<V>,

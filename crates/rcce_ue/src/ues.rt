@@ -133,6 +133,7 @@ impl<'s, V: Evict> Ue<'s, V> {
     }
 
     /// Goes on by one turn: one statement of the rank's own, or one turn of the call that stands next, or of the slot.
+    #[inline(always)]
     pub fn turn<P: Port>(&mut self, port: &mut P) -> Turn
         requires tied { Tied self.old (P.sight port.old) }
         ensures tied { Tied self.new (P.sight port.new) }
