@@ -142,7 +142,7 @@ class Work:
 
 WORKS = [
     Work("halo", "halo exchange with allreduce and barriers, 20 times, 48 UEs", halo, 20, 48, 1.3, 1.5, 5, "a round of the halo exchange", 1),
-    Work("small", "4,000 messages of 8 bytes between 2", pair(8), 4000, 2, 1.3, 1.8, 1000, "a message of 8 bytes", 1),
+    Work("small", "40,000 messages of 8 bytes between 2", pair(8), 40000, 2, 1.3, 1.8, 1000, "a message of 8 bytes", 1),
     Work("large", "100 messages of 64 KiB between 2", pair(65536), 100, 2, 1.3, 1.5, 20, "a byte of messages of 64 KiB", 65536),
     Work("ring", "a ring of 8 with 64 KiB, 50 times", ring, 50, 8, 1.3, 1.5, 5, "a byte of a ring of 8 with 64 KiB", 8 * 65536),
 ]
