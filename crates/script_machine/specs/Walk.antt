@@ -12,7 +12,7 @@ use Rattle.script_machine.specs.declared.prims.Primitive.{Primitive}
 use Rattle.script_machine.specs.declared.course.Open.{Open}
 use Rattle.script_rules.specs.declared.script.Item.{Item}
 use Rattle.script_rules.specs.Script.{Script}
-use Rattle.script_machine.specs.Program.{Act, Prim, Unrolled, copies, filling, unrolled_marks, marks_of, prims_in}
+use Rattle.script_machine.specs.Program.{Act, Prim, Unrolled, copies, filling, unrolled_marks, marks_of, nesting_at, prims_in}
 use Rattle.script_machine.specs.Program.Act.{Set, Own, Send, Post, Recv, Gather, Bar, Begin, Fold, Accept, Finish}
 use Rattle.groups.specs.Folds.{bytes_of_value}
 use Rattle.std.specs.Prelude.{pos}
@@ -155,6 +155,21 @@ pub record IsAt (s : SetupView) (rank : ℕ) (items : List Item) (place step : �
   pub within : rank < s.nue
   pub opens : AreOpenAt s rank items place repeats
   pub stands : HasMoreMarks s rank items place step
+
+-- how many marks an item has, if there is one
+abbrev pub mark_count : SetupView → ℕ → Option Item → ℕ
+mark_count s rank None = 0
+mark_count s rank (Some item) = length (marks_of s rank item)
+
+-- whether an item, if there is one, is the end of a pass
+abbrev pub is_pass_end : ℕ → Option Item → Bool
+is_pass_end rank None = false
+is_pass_end rank (Some item) = is_closing (nesting_at rank item)
+
+-- how many marks the item at a place has, and whether one is the end of a pass
+pub record IsStand (s : SetupView) (rank : ℕ) (here : Option Item) (count : ℕ) (closes : Bool) : Type 0 where
+  pub count_is : count ≡ mark_count s rank here
+  pub closes_is : closes ≡ is_pass_end rank here
 
 -- the repeats that are open behind the beginning of a repeat
 abbrev pub repeats_behind_begin : Nesting → ℕ → List Open → List Open

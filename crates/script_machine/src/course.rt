@@ -5,7 +5,8 @@ ghost use Rattle.std.specs.VecDeque.{deque_capacity};
 ghost use Rattle.script_rules.specs.Script.{IsSized};
 ghost use Rattle.script_machine.specs.Depths.{HasRoom, IsDeep, IsIdleFrom, IsIdleTo};
 ghost use Rattle.script_machine.specs.Program.{marks_of, nesting_at, prims_of};
-ghost use Rattle.script_machine.specs.Walk.{AreOpenAt, HasMoreMarks, repeats_behind_pass, closed_to, left_at, repeats_behind_begin, repeats_behind_marks, passed_to};
+ghost use Rattle.script_rules.specs.declared.effect.Nesting.{Nesting};
+ghost use Rattle.script_machine.specs.Walk.{AreOpenAt, HasMoreMarks, IsStand, is_closing, repeats_behind_pass, closed_to, left_at, repeats_behind_begin, repeats_behind_marks, passed_to};
 
 use crate::nestings::{depth_behind, end_passes, ends_pass, flat_passes, nesting_at};
 use crate::prims::Primitive;
@@ -23,9 +24,9 @@ pub struct Open {
     pub left: u32,
 }
 
-/// A course through the items of a rank: its place in the script, the step of a collective call there, and the repeats
-/// that are open, the innermost one first. There is room for the most that the script opens. The items of the rank stand
-/// from the place `first` on and before the place `end`.
+/// A course through the items of a rank: its place in the script, how many marks the item there has and whether one is the
+/// end of a pass, the step of a collective call there, and the repeats that are open, the innermost one first. There is
+/// room for the most that the script opens. The items of the rank stand from the place `first` on and before the place `end`.
 #[derive(Drop)]
 pub struct Course<'s> {
     scripts: &'s Scripts,
@@ -34,12 +35,14 @@ pub struct Course<'s> {
     first: usize,
     end: usize,
     place: usize,
+    count: u32,
+    closes: bool,
     step: u32,
     repeats: VecDeque<Open>,
 }
 
 impl<'s> Model for Course<'s> {
-    ghost use Rattle.std.specs.Prelude.{drop};
+    ghost use Rattle.std.specs.Prelude.{drop, slice_get};
     ghost use Rattle.script_machine.specs.Walk.{CourseView, left_at};
 
     ghost Value = { CourseView };
@@ -53,12 +56,21 @@ impl<'s> Model for Course<'s> {
 
     ghost use Rattle.std.specs.VecDeque.{deque_capacity};
     ghost use Rattle.script_machine.specs.Depths.{HasRoom, IsDeep, IsIdleFrom, IsIdleTo};
-    ghost use Rattle.script_machine.specs.Walk.{IsAt};
+    ghost use Rattle.script_machine.specs.Walk.{IsAt, IsStand};
 
     ghost invariant = { λ w.
         IsAt w.setup w.rank w.scripts.now.items w.place w.step w.repeats.items
         × ((IsDeep w.rank w.scripts.now.items w.place w.repeats.items × HasRoom w.rank w.scripts.now.items (deque_capacity w.repeats))
-        × (IsIdleTo w.rank w.scripts.now.items w.first × IsIdleFrom w.rank w.scripts.now.items w.end)) };
+        × ((IsIdleTo w.rank w.scripts.now.items w.first × IsIdleFrom w.rank w.scripts.now.items w.end)
+        × IsStand w.setup w.rank (slice_get w.scripts.now.items w.place) w.count w.closes)) };
+}
+
+/// A place at which a course can go on: how many marks the item there has, and whether one is the end of a pass.
+#[derive(Clone, Copy)]
+struct Stand {
+    place: usize,
+    count: u32,
+    closes: bool,
 }
 
 impl<'s> Course<'s> {
@@ -84,14 +96,16 @@ impl<'s> Course<'s> {
         let first = first_of(scripts, rank);
         let reach = reach_of(scripts, rank);
         let mut repeats = VecDeque::with_capacity(alloc, reach.depth)?;
-        let place = settled(scripts, &setup, rank, first, reach.end, &mut repeats);
+        let stand = settled(scripts, &setup, rank, first, reach.end, &mut repeats);
         Ok(Course {
             scripts,
             setup,
             rank,
             first,
             end: reach.end,
-            place,
+            place: stand.place,
+            count: stand.count,
+            closes: stand.closes,
             step: 0,
             repeats,
         })
@@ -109,10 +123,7 @@ impl<'s> Course<'s> {
     pub fn is_at_end(&self) -> bool
         ensures { result ≡ is_end (slice_get self.now.left 0) }
     {
-        if self.place >= self.scripts.len() {
-            return false;
-        }
-        ends_pass(self.rank, self.scripts.item(self.place))
+        self.closes
     }
 
     /// The primitive that comes next: none where the end of a pass does.
@@ -125,7 +136,7 @@ impl<'s> Course<'s> {
             return None;
         }
         let item = self.scripts.item(self.place);
-        if ends_pass(self.rank, item) {
+        if self.closes {
             return None;
         }
         Some(Primitive {
@@ -142,7 +153,7 @@ impl<'s> Course<'s> {
     {
         self.repeats.clear();
         self.step = 0;
-        self.place = settled(
+        let stand = settled(
             self.scripts,
             &self.setup,
             self.rank,
@@ -150,6 +161,9 @@ impl<'s> Course<'s> {
             self.end,
             &mut self.repeats,
         );
+        self.place = stand.place;
+        self.count = stand.count;
+        self.closes = stand.closes;
     }
 
     /// Goes to the end.
@@ -157,6 +171,8 @@ impl<'s> Course<'s> {
         ensures { self.new ≡ record self.old { left = [] } }
     {
         self.place = self.scripts.len();
+        self.count = 0;
+        self.closes = false;
         self.step = 0;
         self.repeats.clear();
     }
@@ -167,26 +183,26 @@ impl<'s> Course<'s> {
         ensures { self.new ≡ record self.old { left = drop 1 self.old.left } }
     {
         let scripts = self.scripts;
-        let rank = self.rank;
         let at = self.place;
         if at >= scripts.len() {
             return;
         }
-        let item = scripts.item(at);
-        let count = count_at(&self.setup, rank, item);
-        if self.step + 1 < count {
+        if self.step + 1 < self.count {
             self.step += 1;
             return;
         }
-        let next = pass_item(rank, item, at, scripts.len(), &mut self.repeats);
-        self.place = settled(
+        let next = pass_marks(self.closes, at, scripts.len(), &mut self.repeats);
+        let stand = settled(
             scripts,
             &self.setup,
-            rank,
+            self.rank,
             next,
             self.end,
             &mut self.repeats,
         );
+        self.place = stand.place;
+        self.count = stand.count;
+        self.closes = stand.closes;
         self.step = 0;
     }
 
@@ -304,27 +320,37 @@ fn settled(
     place: usize,
     end: usize,
     repeats: &mut VecDeque<Open>,
-) -> usize
+) -> Stand
     requires within { rank < setup.now.nue }
     requires idle { IsIdleFrom rank scripts.now.items end }
     requires opens { AreOpenAt setup.now rank scripts.now.items place repeats.old.items }
     requires deep { IsDeep rank scripts.now.items place repeats.old.items }
     requires room { HasRoom rank scripts.now.items (deque_capacity repeats.old) }
-    ensures same { left_at setup.now rank scripts.now.items result repeats.new.items
+    ensures same { left_at setup.now rank scripts.now.items result.place repeats.new.items
         ≡ left_at setup.now rank scripts.now.items place repeats.old.items }
-    ensures opens { AreOpenAt setup.now rank scripts.now.items result repeats.new.items }
-    ensures stands { HasMoreMarks setup.now rank scripts.now.items result 0 }
-    ensures deep { IsDeep rank scripts.now.items result repeats.new.items }
+    ensures opens { AreOpenAt setup.now rank scripts.now.items result.place repeats.new.items }
+    ensures stands { HasMoreMarks setup.now rank scripts.now.items result.place 0 }
+    ensures stand { IsStand setup.now rank (slice_get scripts.now.items result.place) result.count result.closes }
+    ensures deep { IsDeep rank scripts.now.items result.place repeats.new.items }
     ensures room { deque_capacity repeats.new ≡ deque_capacity repeats.old }
 {
     for at in place..end {
         let item = scripts.item(at);
-        if count_at(setup, rank, item) > 0 {
-            return at;
+        let count = count_at(setup, rank, item);
+        if count > 0 {
+            return Stand {
+                place: at,
+                count,
+                closes: ends_pass(rank, item),
+            };
         }
         enter(rank, item, at, repeats);
     }
-    scripts.len()
+    Stand {
+        place: scripts.len(),
+        count: 0,
+        closes: false,
+    }
 }
 
 /// The place behind the end of a pass of the innermost open repeat: the next pass, or what stands behind the end.
@@ -350,17 +376,18 @@ fn close(at: usize, end: usize, repeats: &mut VecDeque<Open>) -> usize
     }
 }
 
-/// The place behind an item that has marks.
+/// The place behind the marks of an item, of which one may be the end of a pass.
 #[inline(always)]
-fn pass_item(rank: Rank, item: &Item, at: usize, end: usize, repeats: &mut VecDeque<Open>) -> usize
+fn pass_marks(closes: bool, at: usize, end: usize, repeats: &mut VecDeque<Open>) -> usize
     requires below { at < usize.MAX }
     requires room { length repeats.old.items ≤ deque_capacity repeats.old }
-    ensures to { result ≡ passed_to (nesting_at rank item.now) at end repeats.old.items }
-    ensures left { repeats.new.items ≡ repeats_behind_marks (nesting_at rank item.now) repeats.old.items }
+    ensures to { (n : Nesting) → closes ≡ is_closing n → result ≡ passed_to n at end repeats.old.items }
+    ensures left { (n : Nesting) → closes ≡ is_closing n → repeats.new.items ≡ repeats_behind_marks n repeats.old.items }
     ensures room { deque_capacity repeats.new ≡ deque_capacity repeats.old }
 {
-    match nesting_at(rank, item) {
-        Nesting::Closes(_) => close(at, end, repeats),
-        Nesting::Opens(_) | Nesting::Stays => at + 1,
+    if closes {
+        close(at, end, repeats)
+    } else {
+        at + 1
     }
 }

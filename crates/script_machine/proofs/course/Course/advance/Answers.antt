@@ -1,9 +1,9 @@
 use Rattle.std.proofs.Common.{◌≡◌, ◌∙◌, [], ap, sym, arith, length, drop, List, Option}
 use Rattle.std.proofs.lemmas.List.{drop-drop}
-use Rattle.script_machine.specs.Program.{Prim, marks_of}
+use Rattle.script_machine.specs.Program.{Prim, marks_of, nesting_at}
 use Rattle.script_machine.specs.Walk.{CourseView, left_at}
 use Rattle.script_machine.proofs.Walks.DepthLaws.{deep_passed}
-use Rattle.script_machine.proofs.Walks.WalkLaws.{behind_open, behind_same, last_done, nothing_past, stands_there}
+use Rattle.script_machine.proofs.Walks.WalkLaws.{behind_open, behind_same, last_done, nothing_past, some_at, stand_of, stands_there}
 use Rattle.script_machine.proofs.course.Course.advance.Goals as goal
 
 pub returns-then-at-len : goal.returns-then-at-len
@@ -14,41 +14,49 @@ returns-then-at-len c =
     ap left (sym c.self.view_is) ∙ nothing_past walk.setup walk.rank walk.scripts.now.items walk.place walk.step walk.repeats.items (omega (arith, c.if-at-len.true, c.len.ensures)) in
     λ i. record { script = c.args.self.now.script; setup = c.args.self.now.setup; rank = c.args.self.now.rank; left = (none ∙ sym (ap (drop 1) none)) i }
 
-pub overflow_add-self-inside : goal.overflow_add-self-inside
-overflow_add-self-inside c =
+pub overflow_add-self : goal.overflow_add-self
+overflow_add-self c =
     let walk = c.self.inside in
-    let there = stands_there walk.setup walk.rank walk.scripts.now.items walk.place walk.step c.item-item.result.now c.item-item.ensures.found c.self.invariant.0.stands in
-    omega (arith, there, c.count_at-count.ensures, c.count_at-count.type_inv)
+    let found = some_at walk.scripts.now.items walk.place (omega (arith, c.if-at-len.false, c.len.ensures)) in
+    let stand = stand_of walk.setup walk.rank walk.scripts.now.items walk.place walk.count walk.closes found.0 found.1 c.self.invariant.1.1.1 in
+    let there = stands_there walk.setup walk.rank walk.scripts.now.items walk.place walk.step found.0 found.1 c.self.invariant.0.stands in
+    omega (arith, there, stand.count_is)
 
-pub returns-then-self-count : goal.returns-then-self-count
-returns-then-self-count c =
+pub returns-then-self : goal.returns-then-self
+returns-then-self c =
     let walk = c.self.inside in
     let left = sym (drop-drop 1 walk.step (left_at walk.setup walk.rank walk.scripts.now.items walk.place walk.repeats.items)) in
     ap (λ (l : List (Option Prim)). record { script = walk.scripts.now; setup = walk.setup; rank = walk.rank; left = l }) left
     ∙ ap (λ (w : CourseView). record w { left = drop 1 w.left }) c.self.view_is
 
-pub settled-self-inside-requires-clause-opens : goal.settled-self-inside-requires-clause-opens
-settled-self-inside-requires-clause-opens c =
+pub settled-stand-requires-clause-opens : goal.settled-stand-requires-clause-opens
+settled-stand-requires-clause-opens c =
     let walk = c.self.inside in
-    let there = stands_there walk.setup walk.rank walk.scripts.now.items walk.place walk.step c.item-item.result.now c.item-item.ensures.found c.self.invariant.0.stands in
-    behind_open walk.setup walk.rank walk.scripts.now.items walk.place c.len-2.result c.pass_item-next.result c.item-item.result.now walk.repeats.items c.pass_item-next.new.repeats.items
-    c.item-item.ensures.found (omega (arith, there)) (omega (arith, c.len-2.ensures)) c.self.invariant.0.opens c.pass_item-next.ensures.to c.pass_item-next.ensures.left
+    let found = some_at walk.scripts.now.items walk.place (omega (arith, c.if-at-len.false, c.len.ensures)) in
+    let stand = stand_of walk.setup walk.rank walk.scripts.now.items walk.place walk.count walk.closes found.0 found.1 c.self.invariant.1.1.1 in
+    let there = stands_there walk.setup walk.rank walk.scripts.now.items walk.place walk.step found.0 found.1 c.self.invariant.0.stands in
+    behind_open walk.setup walk.rank walk.scripts.now.items walk.place c.len-2.result c.pass_marks-next.result found.0 walk.repeats.items c.pass_marks-next.new.repeats.items
+    found.1 (omega (arith, there)) (omega (arith, c.len-2.ensures)) c.self.invariant.0.opens (c.pass_marks-next.ensures.to (nesting_at walk.rank found.0) stand.closes_is) (c.pass_marks-next.ensures.left (nesting_at walk.rank found.0) stand.closes_is)
 
-pub settled-self-inside-requires-clause-deep : goal.settled-self-inside-requires-clause-deep
-settled-self-inside-requires-clause-deep c =
+pub settled-stand-requires-clause-deep : goal.settled-stand-requires-clause-deep
+settled-stand-requires-clause-deep c =
     let walk = c.self.inside in
-    deep_passed walk.rank walk.scripts.now.items walk.place c.len-2.result c.pass_item-next.result c.item-item.result.now walk.repeats.items c.pass_item-next.new.repeats.items
-    c.item-item.ensures.found c.pass_item-next.ensures.to c.pass_item-next.ensures.left c.self.invariant.1.0.0
+    let found = some_at walk.scripts.now.items walk.place (omega (arith, c.if-at-len.false, c.len.ensures)) in
+    let stand = stand_of walk.setup walk.rank walk.scripts.now.items walk.place walk.count walk.closes found.0 found.1 c.self.invariant.1.1.1 in
+    deep_passed walk.rank walk.scripts.now.items walk.place c.len-2.result c.pass_marks-next.result found.0 walk.repeats.items c.pass_marks-next.new.repeats.items
+    found.1 (c.pass_marks-next.ensures.to (nesting_at walk.rank found.0) stand.closes_is) (c.pass_marks-next.ensures.left (nesting_at walk.rank found.0) stand.closes_is) c.self.invariant.1.0.0
 
 pub returns : goal.returns
 returns c =
     let walk = c.self.inside in
-    let item = c.item-item.result.now in
+    let found = some_at walk.scripts.now.items walk.place (omega (arith, c.if-at-len.false, c.len.ensures)) in
+    let stand = stand_of walk.setup walk.rank walk.scripts.now.items walk.place walk.count walk.closes found.0 found.1 c.self.invariant.1.1.1 in
+    let item = found.0 in
     let left = left_at walk.setup walk.rank walk.scripts.now.items walk.place walk.repeats.items in
-    let there = stands_there walk.setup walk.rank walk.scripts.now.items walk.place walk.step item c.item-item.ensures.found c.self.invariant.0.stands in
-    let gone = c.settled-self-inside.ensures.same
-    ∙ behind_same walk.setup walk.rank walk.scripts.now.items walk.place c.len-2.result c.pass_item-next.result item walk.repeats.items c.pass_item-next.new.repeats.items
-    c.item-item.ensures.found (omega (arith, there)) (omega (arith, c.len-2.ensures)) c.self.invariant.0.opens c.pass_item-next.ensures.to c.pass_item-next.ensures.left
-    ∙ last_done left walk.step (length (marks_of walk.setup walk.rank item)) there (omega (arith, c.if-self-count.false, c.count_at-count.ensures)) in
+    let there = stands_there walk.setup walk.rank walk.scripts.now.items walk.place walk.step item found.1 c.self.invariant.0.stands in
+    let gone = c.settled-stand.ensures.same
+    ∙ behind_same walk.setup walk.rank walk.scripts.now.items walk.place c.len-2.result c.pass_marks-next.result item walk.repeats.items c.pass_marks-next.new.repeats.items
+    found.1 (omega (arith, there)) (omega (arith, c.len-2.ensures)) c.self.invariant.0.opens (c.pass_marks-next.ensures.to (nesting_at walk.rank found.0) stand.closes_is) (c.pass_marks-next.ensures.left (nesting_at walk.rank found.0) stand.closes_is)
+    ∙ last_done left walk.step (length (marks_of walk.setup walk.rank item)) there (omega (arith, c.if-self.false, stand.count_is)) in
     ap (λ (l : List (Option Prim)). record { script = walk.scripts.now; setup = walk.setup; rank = walk.rank; left = l }) gone
     ∙ ap (λ (w : CourseView). record w { left = drop 1 w.left }) c.self.view_is

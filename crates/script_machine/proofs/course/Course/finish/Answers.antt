@@ -2,7 +2,7 @@ use Rattle.std.proofs.Common.{◌≤◌, ◌∙◌, [], ap, arith, length, List,
 use Rattle.script_machine.specs.Program.{Prim}
 use Rattle.script_machine.specs.Walk.{CourseView}
 use Rattle.script_machine.proofs.Walks.DepthLaws.{deep_start}
-use Rattle.script_machine.proofs.Walks.WalkLaws.{none_there, nothing_past, open-past}
+use Rattle.script_machine.proofs.Walks.WalkLaws.{none_there, nothing_past, open-past, stand_past}
 use Rattle.script_machine.proofs.course.Course.finish.Goals as goal
 
 pub invariant_of-self : goal.invariant_of-self
@@ -15,7 +15,7 @@ invariant_of-self c =
         opens = open-past walk.setup walk.rank items c.len-self-inside.result c.clear.new.self.items past;
         stands = none_there walk.setup walk.rank items c.len-self-inside.result 0 past;
       },
-      ((deep_start walk.rank items c.len-self-inside.result c.clear.new.self.items c.clear.ensures.items, λ place. omega (arith, c.self.invariant.1.0.1 place, c.clear.ensures.capacity)), c.self.invariant.1.1),
+      ((deep_start walk.rank items c.len-self-inside.result c.clear.new.self.items c.clear.ensures.items, λ place. omega (arith, c.self.invariant.1.0.1 place, c.clear.ensures.capacity)), (c.self.invariant.1.1.0, stand_past walk.setup walk.rank items c.len-self-inside.result past)),
     )
 
 pub returns : goal.returns
