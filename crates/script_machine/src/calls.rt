@@ -30,6 +30,7 @@ impl<'s> Machine<'s> {
     }
 
     /// The call that stands next.
+    #[inline(always)]
     pub fn call(&self) -> Option<Call>
         ensures { result ≡ call_next (local_next self.now.local) }
     {
