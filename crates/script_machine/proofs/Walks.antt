@@ -5,3 +5,4 @@ pub mod IdleLaws
 pub mod MarkLaws
 pub mod FlatLaws
 pub mod UnrolledLaws
+pub mod StandLaws

@@ -1,10 +1,10 @@
 -- Laws of a walk: its place and its open repeats tell what is left of the list.
-use Rattle.std.proofs.Common.{◌≡◌, ℕ, zero, suc, ◌+◌, ◌-◌, ◌<◌, ◌≤◌, ◌⊎◌, inl, inr, Bool, true, false, cond, List, [], ◌∷◌, ◌++◌, map, length, drop, get_or, slice_get, Option, Some, None, refl, sym, ap, subst, ◌∙◌, arith, append_assoc}
+use Rattle.std.proofs.Common.{◌≡◌, ℕ, zero, suc, ◌+◌, ◌-◌, ◌<◌, ◌≤◌, Bool, true, false, cond, List, [], ◌∷◌, ◌++◌, map, length, drop, slice_get, Option, Some, None, refl, sym, ap, subst, ◌∙◌, arith, append_assoc}
 use Rattle.std.specs.Option.{option_map}
 use Rattle.std.proofs.Math.ListN.{drop_of_length-le}
 use Rattle.std.proofs.Math.Seq.{drop-append_seam}
 use Rattle.std.proofs.lemmas.List.{at_drop_more, at_drop_all, append-nil, length-map, drop-drop}
-use Rattle.std.proofs.lemmas.Option.{slice_get_within, slice_get_past, slice_get-map, slice_get_cases, get_or_from_slice_get}
+use Rattle.std.proofs.lemmas.Option.{slice_get_within, slice_get_past, slice_get-map, get_or_from_slice_get}
 use Rattle.scc_base.specs.Setups.{SetupView}
 use Rattle.groups.specs.declared.collectives.Coll.{Coll}
 use Rattle.groups.specs.declared.collectives.Step.{Step}
@@ -22,7 +22,7 @@ use Rattle.script_rules.specs.declared.effect.Nesting.TheVariants as nesting
 use Rattle.script_machine.specs.declared.prims.Operands.{Operands}
 use Rattle.script_machine.specs.declared.course.Open.{Open}
 use Rattle.script_machine.specs.Program.{Act, Prim, Unrolled, acts_of, begins, call_steps, can_call, copies, in_front, unrolled_marks, marks_by, marks_in, marks_of, nesting_at, part_of, parts_of, prims_of, unrolled_repeat, setup_of}
-use Rattle.script_machine.specs.Walk.{AreOpen, AreOpenAt, HasMore, is_closing, is_end, HasMoreMarks, IsStand, again, closed_by, left_at, left_of, is_pass_end, next_pass, repeats_behind_begin, repeats_behind_marks, passed_to, woven}
+use Rattle.script_machine.specs.Walk.{AreOpen, AreOpenAt, HasMore, is_closing, is_end, HasMoreMarks, again, closed_by, left_at, left_of, next_pass, repeats_behind_begin, repeats_behind_marks, passed_to, woven}
 
 -- the k-th of the parts of a collective call
 pub part_at : (o : Operands) (steps : List Step) (k : ℕ) (step : Step) → slice_get steps k ≡ Some step → slice_get (parts_of o steps) k ≡ Some (part_of o (begins steps) step)
@@ -182,17 +182,6 @@ closing nesting.Stays is = absurd (cc)
 staying : (n : Nesting) → is_closing n ≡ false → (place : ℕ) → n ≡ nesting.Closes place → ⊥
 staying n not place is = let both : is_closing n ≡ true = ap is_closing is in absurd (cc)
 
--- behind the marks of an item that ends no pass the next item stands, and the same repeats are open
-pub passed_on : (n : Nesting) (at end : ℕ) (repeats : List Open) → is_closing n ≡ false → passed_to n at end repeats ≡ at + 1
-passed_on (nesting.Opens times) at end repeats other = refl
-passed_on (nesting.Closes start) at end repeats other = absurd (cc)
-passed_on nesting.Stays at end repeats other = refl
-
-pub open_on : (n : Nesting) (repeats : List Open) → is_closing n ≡ false → repeats_behind_marks n repeats ≡ repeats
-open_on (nesting.Opens times) repeats other = refl
-open_on (nesting.Closes start) repeats other = absurd (cc)
-open_on nesting.Stays repeats other = refl
-
 -- the mark that comes next
 front_mark : (s : SetupView) (rank : ℕ) (items : List Item) (at step : ℕ) (item : Item) (repeats : List Open) (mark : Option Prim) → slice_get items at ≡ Some item → step < length (marks_of s rank item) → slice_get (marks_of s rank item) step ≡ Some mark → slice_get (drop step (left_at s rank items at repeats)) 0 ≡ Some mark
 front_mark s rank items at step item repeats mark here there is =
@@ -285,31 +274,6 @@ some_there s rank items at step item here there = let P : Option Item → Type 0
 -- nothing is left past the end, whatever was done there
 pub nothing_past : (s : SetupView) (rank : ℕ) (items : List Item) (at step : ℕ) (repeats : List Open) → length items ≤ at → drop step (left_at s rank items at repeats) ≡ []
 nothing_past s rank items at step repeats past = ap (drop step) (left-past s rank items at repeats past) ∙ drop_of_length-le [] (omega arith)
-
--- what stands at a place is what the item there is
-pub stand_of : (s : SetupView) (rank : ℕ) (items : List Item) (at count : ℕ) (closes : Bool) (item : Item) → slice_get items at ≡ Some item → IsStand s rank (slice_get items at) count closes
-    → IsStand s rank (Some item) count closes
-stand_of s rank items at count closes item here stand = let P : Option Item → Type 0 = λ o. IsStand s rank o count closes in subst P here stand
-
-pub stand_at : (s : SetupView) (rank : ℕ) (items : List Item) (at count : ℕ) (closes : Bool) (item : Item) → slice_get items at ≡ Some item → IsStand s rank (Some item) count closes
-    → IsStand s rank (slice_get items at) count closes
-stand_at s rank items at count closes item here stand = let P : Option Item → Type 0 = λ o. IsStand s rank o count closes in subst P (sym here) stand
-
-pub stand_past : (s : SetupView) (rank : ℕ) (items : List Item) (at : ℕ) → length items ≤ at → IsStand s rank (slice_get items at) 0 false
-stand_past s rank items at past = let P : Option Item → Type 0 = λ o. IsStand s rank o 0 false in subst P (sym (slice_get_past items at past)) (record { count_is = refl; closes_is = refl })
-
--- whether the end of a pass comes next, by what stands there
-pub end_there : (s : SetupView) (rank : ℕ) (items : List Item) (at step : ℕ) (repeats : List Open) → HasMoreMarks s rank items at step
-    → is_pass_end rank (slice_get items at) ≡ is_end (slice_get (drop step (left_at s rank items at repeats)) 0)
-end_there s rank items at step repeats stands = by (slice_get_cases items at).1
-  where
-    by : ((x : Item) × (at < length items) × (slice_get items at ≡ Some x) × (get_or items at x ≡ x)) ⊎ ((length items ≤ at) × (slice_get items at ≡ None))
-        → is_pass_end rank (slice_get items at) ≡ is_end (slice_get (drop step (left_at s rank items at repeats)) 0)
-    by (inl found) =
-        let here = found.2 in
-        ap (is_pass_end rank) here ∙ sym (at_end s rank items at step found.0 repeats here (stands_there s rank items at step found.0 here stands))
-    by (inr past) =
-        ap (is_pass_end rank) past.1 ∙ sym (ap (λ (l : List (Option Prim)). is_end (slice_get l 0)) (nothing_past s rank items at step repeats past.0))
 
 -- behind the end of a pass
 next_by : (s : SetupView) (rank : ℕ) (items : List Item) (at end start left : ℕ) (repeats : List Open) (u : Unrolled (Option Prim)) → unrolled_marks s rank (drop (at + 1) items) ≡ u

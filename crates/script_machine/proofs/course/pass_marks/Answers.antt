@@ -1,7 +1,8 @@
 use Rattle.std.proofs.Common.{◌∙◌, ap, sym}
 use Rattle.script_rules.specs.declared.effect.Nesting.{Nesting}
 use Rattle.script_machine.specs.Walk.{passed_to, repeats_behind_marks}
-use Rattle.script_machine.proofs.Walks.WalkLaws.{closing, open_on, passed_on}
+use Rattle.script_machine.proofs.Walks.StandLaws.{open_on, passed_on}
+use Rattle.script_machine.proofs.Walks.WalkLaws.{closing}
 use Rattle.script_machine.proofs.course.pass_marks.Goals as goal
 
 pub returns-then-closes-clause-to : goal.returns-then-closes-clause-to

@@ -3,7 +3,8 @@ use Rattle.std.specs.VecDeque.{deque_capacity}
 use Rattle.script_machine.specs.Program.{marks_of}
 use Rattle.script_machine.proofs.Walks.DepthLaws.{deep_entered, room_entered}
 use Rattle.script_machine.proofs.Walks.IdleLaws.{deep-idle, left-idle, nothing_left}
-use Rattle.script_machine.proofs.Walks.WalkLaws.{none_there, open-past, over_open, over_same, some_there, stand_at, stand_past}
+use Rattle.script_machine.proofs.Walks.StandLaws.{stand_at, stand_past}
+use Rattle.script_machine.proofs.Walks.WalkLaws.{none_there, open-past, over_open, over_same, some_there}
 use Rattle.script_machine.proofs.course.settled.Goals as goal
 
 pub enter-requires-clause-room : goal.enter-requires-clause-room

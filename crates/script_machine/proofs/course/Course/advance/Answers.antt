@@ -3,7 +3,8 @@ use Rattle.std.proofs.lemmas.List.{drop-drop}
 use Rattle.script_machine.specs.Program.{Prim, marks_of, nesting_at}
 use Rattle.script_machine.specs.Walk.{CourseView, left_at}
 use Rattle.script_machine.proofs.Walks.DepthLaws.{deep_passed}
-use Rattle.script_machine.proofs.Walks.WalkLaws.{behind_open, behind_same, last_done, nothing_past, some_at, stand_of, stands_there}
+use Rattle.script_machine.proofs.Walks.StandLaws.{stand_of}
+use Rattle.script_machine.proofs.Walks.WalkLaws.{behind_open, behind_same, last_done, nothing_past, some_at, stands_there}
 use Rattle.script_machine.proofs.course.Course.advance.Goals as goal
 
 pub returns-then-at-len : goal.returns-then-at-len

@@ -2,7 +2,8 @@ use Rattle.std.proofs.Common.{◌≤◌, ◌∙◌, [], ap, arith, length, List,
 use Rattle.script_machine.specs.Program.{Prim}
 use Rattle.script_machine.specs.Walk.{CourseView}
 use Rattle.script_machine.proofs.Walks.DepthLaws.{deep_start}
-use Rattle.script_machine.proofs.Walks.WalkLaws.{none_there, nothing_past, open-past, stand_past}
+use Rattle.script_machine.proofs.Walks.StandLaws.{stand_past}
+use Rattle.script_machine.proofs.Walks.WalkLaws.{none_there, nothing_past, open-past}
 use Rattle.script_machine.proofs.course.Course.finish.Goals as goal
 
 pub invariant_of-self : goal.invariant_of-self

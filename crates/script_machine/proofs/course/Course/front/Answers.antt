@@ -1,7 +1,8 @@
 use Rattle.std.proofs.Common.{◌∙◌, ap, sym, arith, slice_get, List, Option}
 use Rattle.script_machine.specs.Program.{Prim}
 use Rattle.script_machine.specs.Walk.{CourseView, act_meant, prim_of}
-use Rattle.script_machine.proofs.Walks.WalkLaws.{act_there, front_end, front_is, nothing_past, stand_of, stands_there}
+use Rattle.script_machine.proofs.Walks.StandLaws.{stand_of}
+use Rattle.script_machine.proofs.Walks.WalkLaws.{act_there, front_end, front_is, nothing_past, stands_there}
 use Rattle.script_machine.proofs.course.Course.front.Goals as goal
 
 pub returns-then-self-len-clause-same : goal.returns-then-self-len-clause-same

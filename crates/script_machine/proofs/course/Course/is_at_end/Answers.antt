@@ -1,6 +1,6 @@
 use Rattle.std.proofs.Common.{◌∙◌, ap, slice_get}
 use Rattle.script_machine.specs.Walk.{CourseView, is_end}
-use Rattle.script_machine.proofs.Walks.WalkLaws.{end_there}
+use Rattle.script_machine.proofs.Walks.StandLaws.{end_there}
 use Rattle.script_machine.proofs.course.Course.is_at_end.Goals as goal
 
 pub returns : goal.returns
