@@ -241,14 +241,15 @@ fn count_prims(setup: &Setup, rank: Rank, item: &Item) -> u32
     }
 }
 
-/// How many marks an item is for a rank.
+/// How many marks an item is for a rank, where it is told whether one is the end of a pass.
 #[inline(always)]
-fn count_at(setup: &Setup, rank: Rank, item: &Item) -> u32
+fn count_at(setup: &Setup, rank: Rank, item: &Item, closes: bool) -> u32
     requires within { rank < setup.now.nue }
     requires sized { IsSized item.now.stmt }
+    requires closes { closes ≡ is_closing (nesting_at rank item.now) }
     ensures { result ≡ length (marks_of setup.now rank item.now) }
 {
-    if ends_pass(rank, item) {
+    if closes {
         return 1;
     }
     count_prims(setup, rank, item)
@@ -336,12 +337,13 @@ fn settled(
 {
     for at in place..end {
         let item = scripts.item(at);
-        let count = count_at(setup, rank, item);
+        let closes = ends_pass(rank, item);
+        let count = count_at(setup, rank, item, closes);
         if count > 0 {
             return Stand {
                 place: at,
                 count,
-                closes: ends_pass(rank, item),
+                closes,
             };
         }
         enter(rank, item, at, repeats);

@@ -35,8 +35,8 @@ returns-then-count-gt0-clause-stands c =
 
 pub returns-then-count-gt0-clause-stand : goal.returns-then-count-gt0-clause-stand
 returns-then-count-gt0-clause-stand c =
-    stand_at c.args.setup.now c.args.rank c.args.scripts.now.items c.loop-at.at c.count_at-count.result c.ends_pass.result c.item-item.result.now c.item-item.ensures.found
-    (record { count_is = c.count_at-count.ensures; closes_is = c.ends_pass.ensures })
+    stand_at c.args.setup.now c.args.rank c.args.scripts.now.items c.loop-at.at c.count_at-count.result c.ends_pass-closes.result c.item-item.result.now c.item-item.ensures.found
+    (record { count_is = c.count_at-count.ensures; closes_is = c.ends_pass-closes.ensures })
 
 pub returns-clause-same : goal.returns-clause-same
 returns-clause-same c =
