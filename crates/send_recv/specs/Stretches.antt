@@ -1,6 +1,8 @@
 -- A stretch of turns: the lines of a chunk that are left, one turn for each (this project's profile).
 use Rattle.std.specs.Prelude.{◌≡◌, Bool, true, false}
 use Rattle.scc_base.specs.declared.events.Turn.TheVariants as turn
+use Rattle.scc_base.specs.declared.layouts.Layout.{Layout}
+use Rattle.scc_base.specs.declared.layouts.Layout.TheVariants.{LineFlags, BitFlags}
 use Rattle.scc_proto.specs.Ports.{Sight}
 use Rattle.put_get.specs.Cores.{Private}
 use Rattle.send_recv.specs.declared.answers.RecvTurn.TheVariants as recv_turn
@@ -12,6 +14,11 @@ use Rattle.send_recv.specs.Ops.{SendAt, SlotAt}
 use Rattle.send_recv.specs.Ranks.{Receiver, Sender, sending}
 use Rattle.send_recv.specs.Receiving.{RecvStands, RecvTurned}
 use Rattle.send_recv.specs.Sending.{SendStands, SendTurned}
+
+-- a change of a flag makes no try: with line flags it is a store, and with bit flags it takes a register first
+abbrev pub changes_at_once : Layout → Bool
+changes_at_once LineFlags = true
+changes_at_once BitFlags = false
 
 -- a send writes a line of its chunk next
 abbrev pub is_writing : SendStage → Bool

@@ -2,14 +2,26 @@
 
 ghost use Rattle.std.specs.Prelude.{◌≡◌, ◌<◌, false, None, IfSome, is_none};
 ghost use Rattle.put_get.specs.Cores.{MadeSteps};
+ghost use Rattle.send_recv.specs.Stretches.{changes_at_once};
 ghost use Rattle.send_recv.specs.Sights.{IsSeatPeer, LooksFor, Lowers, Raises, MayLower, MayRaise, signal_spot, own_register, register_spot};
 
 use crate::places::{core_of, layout_of, own_core};
 use line_cache::Evict;
 use put_get::Core;
-use scc_base::{Rank, Signal, Spot};
+use scc_base::{Layout, Rank, Signal, Spot};
 use scc_proto::Port;
 use sync_flags::{change_flag, look_flag};
+
+/// Whether a change of a flag makes no try: with line flags it is a store, and with bit flags it takes a register first.
+#[inline(always)]
+pub(crate) fn changes_at_once(layout: Layout) -> bool
+    ensures { result ≡ changes_at_once layout }
+{
+    match layout {
+        Layout::LineFlags => true,
+        Layout::BitFlags => false,
+    }
+}
 
 /// Looks at the own flag of a signal that this rank raises, in one turn: None where it is set, and else the spot at
 /// which the turn waits.

@@ -2,7 +2,7 @@
 
 use crate::answers::RecvTurn;
 use crate::chunks::{is_last, lines_in, start_of};
-use crate::flags::{look_for, lower, raise};
+use crate::flags::{changes_at_once, look_for, lower, raise};
 use crate::heads::{head_from, is_same};
 use crate::places::{core_of, known, layout_of};
 use crate::slices::put_line;
@@ -33,14 +33,14 @@ impl Model for RecvOp {
 }
 
 impl RecvOp {
-    ghost use Rattle.std.specs.Prelude.{◌≡◌, ◌+◌, ◌≤◌, ◌<◌, ℕ, true, false, None, Some, length, slice_index, List};
+    ghost use Rattle.std.specs.Prelude.{◌≡◌, ◌+◌, ◌≤◌, ◌<◌, ℕ, true, false, None, Some, is_none, length, slice_index, List};
     ghost use Rattle.scc_proto.specs.Messages.{Notes};
     ghost use Rattle.scc_proto.specs.Ports.{IsSoundPort, record_in};
     ghost use Rattle.put_get.specs.Cores.{ReadsLine, MadeSteps};
     ghost use Rattle.send_recv.specs.Bytes.{byte_of_line};
     ghost use Rattle.send_recv.specs.Chunks.{chunk_lines_of};
     ghost use Rattle.send_recv.specs.Ops.{new_receive};
-    ghost use Rattle.send_recv.specs.Receiving.{RecvStands, RecvTurned, recv_waits};
+    ghost use Rattle.send_recv.specs.Receiving.{RecvStands, RecvTurned, recv_spot, recv_waits};
     ghost use Rattle.scc_base.specs.declared.signals.Signal.TheVariants.{Sent, Ready};
     ghost use Rattle.send_recv.specs.Sights.{chunk_at, IsSeatPeer, first_byte, header_line, chunk_line, LooksFor, Lowers, Raises, MayLower, MayRaise, signal_spot, own_register, register_spot};
     ghost use Rattle.send_recv.specs.Steps.{with_empty_cache, goes_on, recv_or_waits, after_look, after_lower, after_line, after_raise, raise_answer, HeadRead, before_line};
@@ -216,6 +216,18 @@ impl RecvOp {
             RecvStage::Lines(line) => self.read_line(core, port, bytes, line),
             RecvStage::Raise => self.raise_ready(core, port),
             RecvStage::Finished => RecvTurn::Done,
+        }
+    }
+
+    /// Whether the next turn makes no try, so that it does not wait.
+    #[inline]
+    pub fn is_sure<P: Port>(&self, port: &P) -> bool
+        ensures tells { result ≡ is_none (recv_spot (P.sight port.now).seat self.now) }
+    {
+        match self.stage {
+            RecvStage::Header | RecvStage::Lines(_) | RecvStage::Finished => true,
+            RecvStage::Look => false,
+            RecvStage::Lower | RecvStage::Raise => changes_at_once(layout_of(port)),
         }
     }
 

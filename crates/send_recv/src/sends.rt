@@ -4,7 +4,7 @@ ghost use Rattle.std.specs.Prelude.{◌≡◌};
 ghost use Rattle.send_recv.specs.Steps.{before_raise};
 
 use crate::chunks::{is_last, lines_in, start_of};
-use crate::flags::{look_for, lower, raise};
+use crate::flags::{changes_at_once, look_for, lower, raise};
 use crate::heads::header_line;
 use crate::places::{known, layout_of, own_core};
 use crate::slices::{known_bytes, line_from};
@@ -48,7 +48,7 @@ fn after_lines(layout: Layout) -> SendStage
 }
 
 impl SendOp {
-    ghost use Rattle.std.specs.Prelude.{◌≡◌, ◌<◌, None, Some, true, false};
+    ghost use Rattle.std.specs.Prelude.{◌≡◌, ◌<◌, None, Some, true, false, is_none};
     ghost use Rattle.sync_flags.specs.Turns.{waits_at};
     ghost use Rattle.scc_base.specs.declared.events.Spot.{Spot};
     ghost use Rattle.scc_base.specs.declared.events.Turn.TheVariants.{Moved};
@@ -58,7 +58,7 @@ impl SendOp {
     ghost use Rattle.put_get.specs.Cores.{WritesLine, Flushes, MadeSteps};
     ghost use Rattle.send_recv.specs.Chunks.{chunk_lines_of};
     ghost use Rattle.send_recv.specs.Ops.{new_send};
-    ghost use Rattle.send_recv.specs.Sending.{SendStands, SendTurned, header_words};
+    ghost use Rattle.send_recv.specs.Sending.{SendStands, SendTurned, header_words, send_spot};
     ghost use Rattle.scc_base.specs.declared.signals.Signal.TheVariants.{Sent, Ready};
     ghost use Rattle.send_recv.specs.Sights.{chunk_at, IsSeatPeer, own_header_line, own_chunk_line, words_of_line, LooksFor, Raises, Lowers, MayRaise, MayLower, signal_spot, own_register, register_spot};
     ghost use Rattle.send_recv.specs.Steps.{moves_on, moved_or_waits, after_header, after_written, after_flush, after_sent, sent_answer, slot_sent, after_seen, after_through, through_answer};
@@ -248,6 +248,19 @@ impl SendOp {
             SendStage::Look => self.look_ready(core, port),
             SendStage::Lower => self.lower_ready(core, port),
             SendStage::Finished => Turn::Done,
+        }
+    }
+
+    /// Whether the next turn makes no try, so that it does not wait.
+    #[inline]
+    pub fn is_sure<P: Port>(&self, port: &P, slot: &Slot) -> bool
+        ensures tells { result ≡ is_none (send_spot (P.sight port.now).seat self.now slot.now) }
+    {
+        match self.stage {
+            SendStage::Header => slot.is_sure(port),
+            SendStage::Lines(_) | SendStage::Flush | SendStage::Finished => true,
+            SendStage::Look => false,
+            SendStage::Raise | SendStage::Lower => changes_at_once(layout_of(port)),
         }
     }
 

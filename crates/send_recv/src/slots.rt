@@ -1,7 +1,7 @@
 //! The slot of a posted message.
 
-use crate::flags::{look_for, lower};
-use crate::places::known;
+use crate::flags::{changes_at_once, look_for, lower};
+use crate::places::{known, layout_of};
 use line_cache::Evict;
 use put_get::Core;
 use scc_base::{Rank, Signal, Turn};
@@ -25,13 +25,13 @@ impl Model for Slot {
 }
 
 impl Slot {
-    ghost use Rattle.std.specs.Prelude.{◌≡◌, None, Some, true, false};
+    ghost use Rattle.std.specs.Prelude.{◌≡◌, None, Some, true, false, is_none};
     ghost use Rattle.sync_flags.specs.Turns.{waits_at};
     ghost use Rattle.scc_base.specs.declared.events.Spot.{Spot};
     ghost use Rattle.scc_proto.specs.Ports.{record_in};
     ghost use Rattle.put_get.specs.Cores.{MadeSteps};
     ghost use Rattle.send_recv.specs.Ops.{empty_slot};
-    ghost use Rattle.send_recv.specs.Sending.{SlotStands, SlotTurned};
+    ghost use Rattle.send_recv.specs.Sending.{SlotStands, SlotTurned, slot_spot};
     ghost use Rattle.scc_base.specs.declared.signals.Signal.TheVariants.{Ready};
     ghost use Rattle.send_recv.specs.Sights.{LooksFor, Lowers, MayLower, signal_spot, own_register};
     ghost use Rattle.send_recv.specs.Steps.{moves_on, moved_or_waits, slot_seen, slot_lowered};
@@ -53,6 +53,16 @@ impl Slot {
         ensures gives { result ≡ self.now.to }
     {
         self.to
+    }
+
+    /// Whether the next turn makes no try, so that it does not wait.
+    pub(crate) fn is_sure<P: Port>(&self, port: &P) -> bool
+        ensures tells { result ≡ is_none (slot_spot (P.sight port.now).seat self.now) }
+    {
+        match self.to {
+            None => true,
+            Some(_) => self.seen && changes_at_once(layout_of(port)),
+        }
     }
 
     // Fills the slot with a message to this rank.
