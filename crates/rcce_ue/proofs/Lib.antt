@@ -13,6 +13,7 @@ pub mod StartLemmas
 pub mod Carry
 pub mod OpAnswers
 pub mod StretchTurns
+pub mod SureTurns
 pub mod OtherPort
 pub mod BarLooks
 pub mod WorkerTurns

@@ -40,7 +40,7 @@ use Rattle.rcce_ue.proofs.MeasureLemmas.{falls}
 use Rattle.rcce_ue.proofs.PathLemmas.{goes_on, stood_got, stood_refused}
 
 -- a call stands next
-calls_next : (op : RecvAt) (n : Next Local) → IsRecvOf op n → is_calling n ≡ true
+pub calls_next : (op : RecvAt) (n : Next Local) → IsRecvOf op n → is_calling n ≡ true
 calls_next op (Recvs from head take_in refuse) of = refl
 calls_next op _ of = absurd of
 

@@ -35,7 +35,7 @@ use Rattle.rcce_ue.proofs.MeasureLemmas.{falls}
 use Rattle.rcce_ue.proofs.PathLemmas.{goes_on, stood_left, stood_sent}
 
 -- a call stands next
-calls_next : (op : SendAt) (n : Next Local) → IsSendOf op n → is_calling n ≡ true
+pub calls_next : (op : SendAt) (n : Next Local) → IsSendOf op n → is_calling n ≡ true
 calls_next op (Posts message after) of = refl
 calls_next op (Sends to head bytes after) of = refl
 calls_next op _ of = absurd of

@@ -1,7 +1,10 @@
--- Turns of a UE that write or read the lines of a chunk (this project's profile).
-use Rattle.std.specs.Prelude.{Bool, false}
+-- Turns of a UE in a row, each of which moved (this project's profile).
+use Rattle.std.specs.Prelude.{Bool, false, is_none}
 use Rattle.scc_base.specs.declared.events.Turn.TheVariants as turn
-use Rattle.scc_proto.specs.Ports.{Sight}
+use Rattle.scc_proto.specs.Ports.{Seat, Sight}
+use Rattle.send_recv.specs.Ops.{SlotAt}
+use Rattle.send_recv.specs.Receiving.{recv_spot}
+use Rattle.send_recv.specs.Sending.{send_spot}
 use Rattle.send_recv.specs.Stretches as line
 use Rattle.rcce_ue.specs.Standing.{Tied}
 use Rattle.rcce_ue.specs.Turns.{UeTurned}
@@ -22,6 +25,13 @@ reads_line_next Nothing = false
 reads_line_next (Sending op) = false
 reads_line_next (Receiving op) = line.is_reading op.stage
 reads_line_next (Meeting op) = false
+
+-- the next turn is one of a message, and makes no try: so it does not wait
+abbrev pub makes_no_try : Seat → SlotAt → Open → Bool
+makes_no_try seat slot Nothing = false
+makes_no_try seat slot (Sending op) = is_none (send_spot seat op slot)
+makes_no_try seat slot (Receiving op) = is_none (recv_spot seat op)
+makes_no_try seat slot (Meeting op) = false
 
 -- turns in a row, each of which moved
 pub data UeMoves (ue : UeView) (s : Sight) : UeView → Sight → Type 0 where

@@ -29,11 +29,11 @@ impl Model for OpenReceive {
 }
 
 impl OpenReceive {
-    ghost use Rattle.std.specs.Prelude.{◌≡◌, ◌≤◌, Some, length, take, true};
+    ghost use Rattle.std.specs.Prelude.{◌≡◌, ◌≤◌, Some, is_none, length, take, true};
     ghost use Rattle.scc_base.specs.declared.events.Spot.{Spot};
     ghost use Rattle.put_get.specs.Cores.{MadeSteps};
     ghost use Rattle.send_recv.specs.Ops.{new_receive};
-    ghost use Rattle.send_recv.specs.Receiving.{RecvStands, RecvTurned, recv_waits};
+    ghost use Rattle.send_recv.specs.Receiving.{RecvStands, RecvTurned, recv_spot, recv_waits};
     ghost use Rattle.send_recv.specs.Ranks.{receiving};
     ghost use Rattle.send_recv.specs.Stretches.{ReadLines, is_reading};
 
@@ -64,6 +64,13 @@ impl OpenReceive {
     {
         let (front, _) = inbox.split_at_mut(self.len);
         self.op.turn(core, port, front)
+    }
+
+    /// Whether the next turn makes no try, so that it does not wait.
+    pub fn is_sure<P: Port>(&self, port: &P) -> bool
+        ensures { result ≡ is_none (recv_spot (P.sight port.now).seat self.now) }
+    {
+        self.op.is_sure(port)
     }
 
     /// Whether the next turn reads a line of the chunk in hand.

@@ -20,11 +20,15 @@ impl<'s, V: Evict> Worker for Ue<'s, V> {
     #[inline(always)]
     fn stretch<P: Port>(&mut self, port: P) -> (Turn, P) {
         let mut port = port;
-        if self.move_lines(&mut port) {
-            return (Turn::Moved, port);
+        if !self.move_lines(&mut port) {
+            match Ue::turn(self, &mut port) {
+                Turn::Moved => {}
+                Turn::Waiting(spot) => return (Turn::Waiting(spot), port),
+                Turn::Done => return (Turn::Done, port),
+            }
         }
-        let came = Ue::turn(self, &mut port);
-        (came, port)
+        self.go_on(&mut port);
+        (Turn::Moved, port)
     }
 
     fn is_stopped(&self) -> bool {
