@@ -53,25 +53,45 @@ midst ue s slot (Receiving op) sure stands =
 midst ue s slot (Meeting op) sure stands = absurd (cc)
 
 -- so a turn of a message that makes no try moves
-pub sure_moves : (ue : UeView) (s : Sight) (now : UeView) (t : Sight) (answer : Turn) → Tied ue s → makes_no_try s.seat ue.slot ue.op ≡ true → UeTurned ue s now t answer → answer ≡ turn.Moved
+sure_moves : (ue : UeView) (s : Sight) (now : UeView) (t : Sight) (answer : Turn) → Tied ue s → makes_no_try s.seat ue.slot ue.op ≡ true → UeTurned ue s now t answer → answer ≡ turn.Moved
 sure_moves ue s now t turn.Moved tied sure turned = refl
 sure_moves ue s now t (turn.Waiting spot) tied sure turned =
     let none : waits_at (turn.Waiting spot) ≡ None =
     no_wait (ue_aim s.seat ue now.parity) turned.events (waits_at (turn.Waiting spot)) (aim_none s.seat ue.machine.local ue.slot now.parity ue.op sure) turned.tried in
     absurd (cc)
 sure_moves ue s now t turn.Done tied sure turned =
-    let both : false ≡ true = sym (midst ue s ue.slot ue.op sure tied.stands) ∙ turned.means.2.0 in
+    let both : false ≡ true = sym (midst ue s ue.slot ue.op sure tied.stands) ∙ turned.means.2 in
     absurd (cc)
 
 -- turns in a row behind others
-pub moves_then : (ue mid now : UeView) (s m t : Sight) → UeMoves ue s mid m → Tied mid m → UeMoves mid m now t → UeMoves ue s now t
-moves_then ue mid now s m t before tied (MovedOnce _ _ turned) = MovedOn mid now m t before tied turned
-moves_then ue mid now s m t before tied (MovedOn half _ h _ first there turned) = MovedOn half now h t (moves_then ue mid half s m h before tied first) there turned
+pub moves_then : (ue mid : UeView) (s m : Sight) → UeMoves ue s mid m → Tied mid m → (now : UeView) (t : Sight) → UeMoves mid m now t → UeMoves ue s now t
+moves_then ue mid s m before tied now t (MovedOnce _ _ turned) = MovedOn mid now m t before tied turned
+moves_then ue mid s m before tied now t (MovedOn half _ h _ first there turned) = MovedOn half now h t (moves_then ue mid s m before tied half h first) there turned
 
 -- fewer turns are left behind each
-pub moves_fall : (ue now : UeView) (s t : Sight) → UeMoves ue s now t → ue_left now < ue_left ue
-moves_fall ue now s t (MovedOnce _ _ turned) = turned.means.0
-moves_fall ue now s t (MovedOn mid _ m _ before there turned) =
-    let first = moves_fall ue mid s m before in
+pub moves_fall : (ue : UeView) (s : Sight) (now : UeView) (t : Sight) → UeMoves ue s now t → ue_left now < ue_left ue
+moves_fall ue s now t (MovedOnce _ _ turned) = turned.means.0
+moves_fall ue s now t (MovedOn mid _ m _ before there turned) =
+    let first = moves_fall ue s mid m before in
     let last = turned.means.0 in
     omega (arith, first, last)
+
+-- a turn that makes no try, of a UE that stands as it stood
+sure_turned : (cur mid now : UeView) (s m t : Sight) (answer : Turn) → mid ≡ cur → m ≡ s → Tied cur s → makes_no_try s.seat cur.slot cur.op ≡ true → UeTurned mid m now t answer → UeTurned cur s now t turn.Moved
+sure_turned cur mid now s m t answer same there tied sure turned =
+    let here : UeTurned cur s now t answer = subst (λ (x : UeView). UeTurned x s now t answer) same (subst (λ (y : Sight). UeTurned mid y now t answer) there turned) in
+    subst (λ (a : Turn). UeTurned cur s now t a) (sure_moves cur s now t answer tied sure here) here
+
+pub sure_on : (first cur mid now : UeView) (start s m t : Sight) (answer : Turn) → mid ≡ cur → m ≡ s → Tied cur s → makes_no_try s.seat cur.slot cur.op ≡ true → UeTurned mid m now t answer
+    → UeMoves first start cur s → UeMoves first start now t
+sure_on first cur mid now start s m t answer same there tied sure turned before =
+    MovedOn cur now s t before tied (sure_turned cur mid now s m t answer same there tied sure turned)
+
+pub sure_falls : (cur mid now : UeView) (s m t : Sight) (answer : Turn) → mid ≡ cur → m ≡ s → Tied cur s → makes_no_try s.seat cur.slot cur.op ≡ true → UeTurned mid m now t answer → ue_left now < ue_left cur
+sure_falls cur mid now s m t answer same there tied sure turned = (sure_turned cur mid now s m t answer same there tied sure turned).means.0
+
+-- one turn that moved, of a UE that stands as it stood
+pub moved_once : (cur mid now : UeView) (s m t : Sight) (answer : Turn) → mid ≡ cur → m ≡ s → UeTurned mid m now t answer → answer ≡ turn.Moved → UeMoves cur s now t
+moved_once cur mid now s m t answer same there turned moved =
+    MovedOnce now t
+    (subst (λ (x : UeView). UeTurned x s now t turn.Moved) same (subst (λ (y : Sight). UeTurned mid y now t turn.Moved) there (subst (λ (a : Turn). UeTurned mid m now t a) moved turned)))

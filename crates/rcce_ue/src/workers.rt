@@ -20,15 +20,18 @@ impl<'s, V: Evict> Worker for Ue<'s, V> {
     #[inline(always)]
     fn stretch<P: Port>(&mut self, port: P) -> (Turn, P) {
         let mut port = port;
-        if !self.move_lines(&mut port) {
-            match Ue::turn(self, &mut port) {
-                Turn::Moved => {}
-                Turn::Waiting(spot) => return (Turn::Waiting(spot), port),
-                Turn::Done => return (Turn::Done, port),
-            }
+        if self.move_lines(&mut port) {
+            self.go_on(&mut port);
+            return (Turn::Moved, port);
         }
-        self.go_on(&mut port);
-        (Turn::Moved, port)
+        match Ue::turn(self, &mut port) {
+            Turn::Moved => {
+                self.go_on(&mut port);
+                (Turn::Moved, port)
+            }
+            Turn::Waiting(spot) => (Turn::Waiting(spot), port),
+            Turn::Done => (Turn::Done, port),
+        }
     }
 
     fn is_stopped(&self) -> bool {
