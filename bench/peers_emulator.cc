@@ -1,9 +1,8 @@
 // The work of bench/peers over an emulator of the chip that asks of each core what rccerun asks, with no proof: one table of
 // words that all threads share, sequentially consistent; at each core a cache of at most 512 lines in the order of filling, which an
 // evictor may shorten at each fill, and a write-combining buffer of one line. Ranks take the same turns as in rccerun: a statement
-// of their own, a line, a flag or a look at a time. In threads a rank's row ends with a thousand vain turns, and from the sixteenth on, or
-// the sixty-fourth where each rank can have a processor, other threads run behind each; with a seed one thread takes the turns in the
-// order of a generator. Behind each round comes one turn of each rank, and a round in which none moves ends the run.
+// of their own, a line, a flag or a look at a time. In threads a rank's row ends with a thousand vain turns; with a seed one thread
+// takes them in the order of a generator. Behind each round comes one turn of each rank, and a round in which none moves ends the run.
 //   peers_emulator halo|small|large|ring REPEATS [SEED]
 #include <atomic>
 #include <cstdint>
@@ -16,7 +15,7 @@
 #include <vector>
 
 constexpr int kCores = 48, kLines = 256, kWords = 4, kHeld = 512, kChunk = 3584, kChunkLine = 113;
-constexpr int kSent = 1, kReady = 49, kGather = 97, kRelease = 105, kVain = 1000, kPatience = 16, kLongPatience = 64;
+constexpr int kSent = 1, kReady = 49, kGather = 97, kRelease = 105, kVain = 1000, kPatience = 16;
 
 static std::atomic<uint64_t> words[kCores * kLines * kWords];
 
@@ -197,11 +196,11 @@ class Rank {
         default: return meet();
         }
     }
-    void row(int patience) {
+    void row() {
         for (int vain = 0; vain < kVain;) {
             Turn came = turn();
             vain = came == Turn::Moved ? 0 : came == Turn::Done ? kVain : vain + 1;
-            if (vain >= patience) std::this_thread::yield();
+            if (vain >= kPatience) std::this_thread::yield();
         }
     }
 };
@@ -247,10 +246,9 @@ int main(int count, char** args) {
         if (count > 3) {
             for (int i = 0; i < kVain * nue; i++) ranks[pick(state) % nue]->turn();
         } else {
-            int patience = nue <= int(std::thread::hardware_concurrency()) ? kLongPatience : kPatience;
             std::vector<std::thread> threads;
-            for (int me = 1; me < nue; me++) threads.emplace_back([&, me] { ranks[me]->row(patience); });
-            ranks[0]->row(patience);
+            for (int me = 1; me < nue; me++) threads.emplace_back([&, me] { ranks[me]->row(); });
+            ranks[0]->row();
             for (auto& thread : threads) thread.join();
         }
         moved = false;
