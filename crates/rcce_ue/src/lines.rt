@@ -58,6 +58,7 @@ impl<'s, V: Evict> Ue<'s, V> {
         ensures tied { Tied self.new (P.sight port.new) }
         ensures moves { (first : UeView) (s : Sight) → UeMoves first s self.old (P.sight port.old)
             → UeMoves first s self.new (P.sight port.new) }
+        ensures whole { makes_no_try (P.sight port.new).seat self.new.slot self.new.op ≡ false }
     {
         'turns: while self.is_sure(port) {
             if !self.move_lines(port) {
