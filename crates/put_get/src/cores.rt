@@ -164,7 +164,7 @@ impl<V: Evict> Core<V> {
     }
 
     /// Reads the four words of a line, in order.
-    #[inline]
+    #[inline(always)]
     pub fn line_read<P: Port>(&mut self, port: &mut P, line: Line) -> [u64; 4]
         requires empty { self.old.out ≡ None }
         ensures reads { ReadsLine (P.sight port.old) self.old line result (P.sight port.new) self.new }
@@ -198,7 +198,7 @@ impl<V: Evict> Core<V> {
 
     /// Stores what the buffer holds, and then a word of another line, which is noted in the cache. The buffer holds
     /// nothing afterwards.
-    #[inline]
+    #[inline(always)]
     pub fn word_write_through<P: Port>(&mut self, port: &mut P, place: Place, word: u64)
         requires other { handed_out self.old.out (line_of_word place) ≡ self.old.out }
         requires permitted { MayMakeAll (P.sight port.old).seat (record_in (P.sight port.old)) (stores_of self.old.out

@@ -69,7 +69,7 @@ impl RecvOp {
     }
 
     // Looks whether the next chunk was sent.
-    #[inline]
+    #[inline(always)]
     fn look_sent<V: Evict, P: Port>(&mut self, core: &mut Core<V>, port: &mut P) -> RecvTurn
         requires empty { core.old.out ≡ None }
         ensures looks { LooksFor Sent (P.sight port.old) core.old self.old.from (goes_on result) (P.sight port.new) core.new }
@@ -89,6 +89,7 @@ impl RecvOp {
     }
 
     // Reads the header line of the sender.
+    #[inline(always)]
     fn read_head<V: Evict, P: Port>(&mut self, core: &mut Core<V>, port: &mut P) -> RecvTurn
         requires peers { IsSeatPeer (P.sight port.old) self.old.from }
         requires empty { core.old.out ≡ None }
@@ -113,6 +114,7 @@ impl RecvOp {
     }
 
     // Lowers the `sent` flag, and so takes the chunk.
+    #[inline(always)]
     fn lower_sent<V: Evict, P: Port>(&mut self, core: &mut Core<V>, port: &mut P) -> RecvTurn
         requires may { MayLower Sent (P.sight port.old) core.old self.old.from }
         ensures changes { Lowers Sent (P.sight port.old) core.old self.old.from (goes_on result) (P.sight port.new) core.new }
@@ -133,7 +135,7 @@ impl RecvOp {
     }
 
     // Reads a line of the chunk into the buffer.
-    #[inline]
+    #[inline(always)]
     fn read_line<V: Evict, P: Port>(
         &mut self,
         core: &mut Core<V>,
@@ -172,6 +174,7 @@ impl RecvOp {
     }
 
     // Raises the `ready` flag at the sender.
+    #[inline(always)]
     fn raise_ready<V: Evict, P: Port>(&mut self, core: &mut Core<V>, port: &mut P) -> RecvTurn
         requires peers { IsSeatPeer (P.sight port.old) self.old.from }
         requires may { MayRaise Ready (P.sight port.old) core.old self.old.from }
@@ -196,6 +199,7 @@ impl RecvOp {
     }
 
     /// Goes on by one turn: it looks once, reads one line or writes one flag.
+    #[inline(always)]
     pub fn turn<V: Evict, P: Port>(
         &mut self,
         core: &mut Core<V>,

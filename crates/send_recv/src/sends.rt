@@ -92,6 +92,7 @@ impl SendOp {
     }
 
     // Writes the header line.
+    #[inline(always)]
     fn write_header<V: Evict, P: Port>(&mut self, core: &mut Core<V>, port: &mut P) -> Turn
         requires empty { core.old.out ≡ None }
         ensures writes { WritesLine (P.sight port.old) core.old (own_header_line (P.sight port.old))
@@ -111,7 +112,7 @@ impl SendOp {
     }
 
     // Writes a line of the chunk.
-    #[inline]
+    #[inline(always)]
     fn write_line<V: Evict, P: Port>(
         &mut self,
         core: &mut Core<V>,
@@ -152,6 +153,7 @@ impl SendOp {
     }
 
     // Raises the `sent` flag at the receiver. A post is done, and its message is in the slot.
+    #[inline(always)]
     fn raise_sent<V: Evict, P: Port>(
         &mut self,
         core: &mut Core<V>,
@@ -179,7 +181,7 @@ impl SendOp {
     }
 
     // Looks whether the chunk was taken.
-    #[inline]
+    #[inline(always)]
     fn look_ready<V: Evict, P: Port>(&mut self, core: &mut Core<V>, port: &mut P) -> Turn
         requires empty { core.old.out ≡ None }
         ensures looks { LooksFor Ready (P.sight port.old) core.old self.old.to (moves_on result) (P.sight port.new) core.new }
@@ -195,6 +197,7 @@ impl SendOp {
     }
 
     // Lowers the `ready` flag, after which the next chunk may be written.
+    #[inline(always)]
     fn lower_ready<V: Evict, P: Port>(&mut self, core: &mut Core<V>, port: &mut P) -> Turn
         requires may { MayLower Ready (P.sight port.old) core.old self.old.to }
         requires some_left { self.old.chunk < 255 }
@@ -219,6 +222,7 @@ impl SendOp {
 
     /// Goes on by one turn: a turn of the slot first, until that is empty; then it writes one line or one
     /// flag, or looks once.
+    #[inline(always)]
     pub fn turn<V: Evict, P: Port>(
         &mut self,
         core: &mut Core<V>,

@@ -37,12 +37,16 @@ fn eight_from(bytes: &[u8], at: usize) -> u64
 }
 
 // The word of eight bytes, the lowest first, with zeros past the end.
+#[inline(always)]
 fn word_from(bytes: &[u8], at: usize) -> u64
     requires fits { at ≤ 2 ^ 32 }
     ensures gives { result ≡ word_of_bytes bytes.now at }
 {
     if at + 8 <= bytes.len() {
         return eight_from(bytes, at);
+    }
+    if at >= bytes.len() {
+        return 0;
     }
     let low = four_from(bytes, at);
     let high = four_from(bytes, at + 4);
@@ -102,6 +106,9 @@ fn put_word(bytes: &mut [u8], at: usize, word: u64)
 {
     if at + 8 <= bytes.len() {
         bytes[at..at + 8].copy_from_slice(&word.to_le_bytes());
+        return;
+    }
+    if at >= bytes.len() {
         return;
     }
     'bytes: for k in 0..8 {

@@ -176,7 +176,7 @@ pub fn flag_write<V: Evict, P: Port>(
 /// Changes the flag that is this word, or this bit of it, in one turn. A word is written, and what waits in the
 /// write-combining buffer is stored before it. A bit is turned over under the register of the core that holds it: false
 /// where the register was taken.
-#[inline]
+#[inline(always)]
 pub fn change_flag<V: Evict, P: Port>(
     core: &mut Core<V>,
     port: &mut P,

@@ -7,9 +7,9 @@ use std::marker::Model;
 /// and is not stored.
 #[derive(Drop)]
 pub struct Out {
-    pub line: Line,
     pub words: [u64; 4],
     pub mask: [bool; 4],
+    pub line: Line,
 }
 
 impl Out {
@@ -125,6 +125,9 @@ impl Combiner {
         ensures held { self.new ≡ None }
         ensures some_word { HoldsWord result }
     {
+        if self.held.is_none() {
+            return None;
+        }
         self.held.take()
     }
 }
