@@ -40,6 +40,7 @@ impl<'s, V: Evict> Ue<'s, V> {
             Open::Meeting(_) => false,
         }
     }
+
     /// Whether the next turn is one of a message and makes no try, so that it does not wait.
     #[inline(always)]
     fn is_sure<P: Port>(&self, port: &P) -> bool

@@ -4,6 +4,10 @@ use Rattle.script_machine.specs.CallLists.{calls_of}
 use Rattle.log_run.proofs.RoomLaws.{all_room, one_full, room_step}
 use Rattle.log_run.proofs.rooms.has_room.Goals as goal
 
+-- Answered by name, so that a body which turns this is refused at once, with no search for what else might be written.
+pub loop-number-init : goal.loop-number-init
+loop-number-init c = λ rank below. absurd (omega (arith, below))
+
 pub returns-then-not-branch : goal.returns-then-not-branch
 returns-then-not-branch c =
     let script = c.args.scripts.now in

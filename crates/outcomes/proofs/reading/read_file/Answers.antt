@@ -1,4 +1,4 @@
-use Rattle.std.proofs.Common.{◌<◌, ◌≤◌, ap, arith, length}
+use Rattle.std.proofs.Common.{◌<◌, ◌≤◌, ap, arith, length, rules}
 use Rattle.rcce_io.specs.Files.{FilesView}
 use Rattle.outcomes.proofs.ReadingLemmas.{holds_short, reads_long, reads_short}
 use Rattle.outcomes.proofs.reading.read_file.Goals as goal
@@ -20,3 +20,10 @@ returns-in-Ok-clause-holds g c =
 
 pub returns-in-Ok-clause-told : goal.returns-in-Ok-clause-told
 returns-in-Ok-clause-told g c = ap (λ (v : FilesView). v.told) c.in-Ok.ensures.0
+
+-- Answered by name, so that a body which turns this is refused at once, with no search for what else might be written.
+pub returns-in-Err-Failed-clause-reads : goal.returns-in-Err-Failed-clause-reads
+returns-in-Err-Failed-clause-reads c = search rules
+
+pub returns-in-Err-Failed-clause-holds : goal.returns-in-Err-Failed-clause-holds
+returns-in-Err-Failed-clause-holds c = search rules

@@ -46,3 +46,9 @@ returns-clause-gives g c = λ script fresh.
 
 pub returns-clause-legal : goal.returns-clause-legal
 returns-clause-legal g c = record { calls = c.agrees.ensures.calls; messages = c.agrees.ensures.messages; barriers = c.agrees.ensures.barriers }
+
+pub returns-clause-no_draft : goal.returns-clause-no_draft
+returns-clause-no_draft g c = c.run-end.ensures.no_draft
+
+pub returns-clause-order : goal.returns-clause-order
+returns-clause-order g c = c.run-end.ensures.order

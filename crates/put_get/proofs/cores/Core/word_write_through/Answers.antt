@@ -1,7 +1,7 @@
-use Rattle.std.proofs.Common.{◌≡◌, ◌∙◌, [], ◌∷◌, Option, ap, subst}
+use Rattle.std.proofs.Common.{◌≡◌, ◌∙◌, [], ◌∷◌, Option, ap, rules, subst}
 use Rattle.scc_base.specs.Events.{store_of}
 use Rattle.scc_proto.specs.Ports.{Did}
-use Rattle.scc_proto.proofs.PortLaws.{may_next}
+use Rattle.scc_proto.proofs.PortLaws.{did_both, may_next}
 use Rattle.write_combine.specs.declared.combiner.Out.{Out}
 use Rattle.put_get.specs.Accesses.{stores_of}
 use Rattle.put_get.specs.Cores.{Private}
@@ -23,3 +23,15 @@ returns-clause-steps g c =
     let end = g.P.Port.sight c.store.new.self in
     steps_both g.P.Port.stepped start stored end _ (store_of c.args.place c.args.word ∷ []) c.store_out.ensures.did c.store.ensures.did c.store_out.ensures.steps
     (steps_one g.P.Port.stepped stored end (store_of c.args.place c.args.word) c.store.ensures.did c.store.ensures.step)
+
+-- Answered by name, so that a body which turns this is refused at once, with no search for what else might be written.
+pub returns-clause-writes : goal.returns-clause-writes
+returns-clause-writes g c =
+    let start = g.P.Port.sight c.args.port.now in
+    let stored = g.P.Port.sight c.store_out.new.port in
+    let held : c.flush-before.result ≡ c.args.self.now.out = c.flush-before.ensures.out ∙ ap (λ (x : Private). x.out) c.self.view_is in
+    let did = subst (λ (o : Option Out). Did start (stores_of o) stored) held c.store_out.ensures.did in
+    record {
+      did = did_both start (stores_of c.args.self.now.out) stored (store_of c.args.place c.args.word ∷ []) _ did c.store.ensures.did;
+      is = search rules;
+    }

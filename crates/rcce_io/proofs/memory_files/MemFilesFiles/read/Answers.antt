@@ -1,4 +1,5 @@
 use Rattle.std.proofs.Common.{◌≡◌, ◌<◌, ◌∙◌, Some, option_map, drop, length, length-append, length-take, ap, sym, rules, arith}
+use Rattle.std.proofs.lemmas.Grind.{common_steps}
 use Rattle.rcce_io.specs.MemoryFiles.{contents_at}
 use Rattle.rcce_io.proofs.MemoryLemmas.{contents_at-file, rest-moved}
 use Rattle.rcce_io.proofs.memory_files.MemFilesFiles.read.Goals as goal
@@ -20,3 +21,10 @@ returns-clause-reads c =
       rw (length-append c.copy_from_slice.new.self (drop c.min-len.result c.args.buf.now)) (omega arith),
       was ∙ ap (λ b. Some b) (rw contents moved),
     )
+
+-- Answered by name, so that a body which turns this is refused at once, with no search for what else might be written.
+pub returns-clause-answers : goal.returns-clause-answers
+returns-clause-answers c = grind (arith, common_steps)
+
+pub returns-clause-state : goal.returns-clause-state
+returns-clause-state c = grind (arith, common_steps)

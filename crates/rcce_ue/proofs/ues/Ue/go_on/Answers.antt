@@ -30,3 +30,7 @@ turns-preserved g c =
       moves = λ first s before.
           moves_then first c.turns.self s (g.P.Port.sight c.turns.port) (c.turns.invariant.moves first s before) c.turns.invariant.tied c.move_lines.new.self (g.P.Port.sight c.move_lines.new.port) moved.moves;
     }
+
+-- that no such turn comes next is answered by name, so that a stretch which gives up sooner is refused at once
+pub returns-clause-whole : goal.returns-clause-whole
+returns-clause-whole g c = sym c.is_sure.ensures ∙ c.turns-test.false

@@ -1,4 +1,4 @@
-use Rattle.std.proofs.Common.{◌≡◌, length, refl, sym, ap, ◌∙◌, arith}
+use Rattle.std.proofs.Common.{◌≡◌, length, refl, sym, ap, ◌∙◌, arith, rules}
 use Rattle.std.proofs.lemmas.List.{with_items_is}
 use Rattle.std.specs.Vec.{with_items}
 use Rattle.rcce_ue.specs.Ues.{UeView}
@@ -62,3 +62,10 @@ read_lines-requires-clause-stands g c =
 
 pub read_lines-requires-clause-reading : goal.read_lines-requires-clause-reading
 read_lines-requires-clause-reading g c = sym c.is_reading.ensures ∙ c.if-not-is_reading.false
+
+-- what the turn of a barrier tells is answered by name, so that a body which turns it is refused at once
+pub returns-in-Meeting-clause-tells : goal.returns-in-Meeting-clause-tells
+returns-in-Meeting-clause-tells g c = search rules
+
+pub returns-in-Meeting-clause-moves : goal.returns-in-Meeting-clause-moves
+returns-in-Meeting-clause-moves g c = λ moved. absurd (cc (moved))

@@ -1,0 +1,9 @@
+use Rattle.std.proofs.Common.{rules}
+use Rattle.send_recv.proofs.flags.look_for.Goals as goal
+
+-- Answered by name, so that a body which turns this is refused at once, with no search for what else might be written.
+pub returns-then-look_flag-clause-looks : goal.returns-then-look_flag-clause-looks
+returns-then-look_flag-clause-looks g c = search rules
+
+pub returns-else-look_flag-clause-looks : goal.returns-else-look_flag-clause-looks
+returns-else-look_flag-clause-looks g c = search rules
