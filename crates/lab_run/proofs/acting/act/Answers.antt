@@ -1,4 +1,4 @@
-use Rattle.std.proofs.Common.{◌++◌, ◌∙◌, subst, sym}
+use Rattle.std.proofs.Common.{◌++◌, ◌∙◌, subst, sym, rules}
 use Rattle.lab_reader.specs.declared.steps.Action.{Action}
 use Rattle.lab_plain.specs.Meaning.{after_action}
 use Rattle.lab_plain.specs.Scenes.{say_buffer, say_lines}
@@ -15,3 +15,7 @@ returns-in_ok-print-in-Print-clause-turned c =
     subst (λ (a : Action). CoreTurned (after_action s.rank a) core s said core s end) (sym c.in-Print.is)
     (printed_turn s.rank core s said end c.requires.ready
     (c.in_ok-print-in-Print.ensures ∙ (λ i. said ++ say_lines (c.own.ensures i) core.lines ++ say_buffer (c.own.ensures i) core.out)))
+
+-- Answered by name, so that a body which turns this is refused at once, with no search for what else might be written.
+pub returns-in-Invalidate-clause-turned : goal.returns-in-Invalidate-clause-turned
+returns-in-Invalidate-clause-turned c = search rules

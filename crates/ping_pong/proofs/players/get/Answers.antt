@@ -1,4 +1,4 @@
-use Rattle.std.proofs.Common.{◌≡◌, ◌∙◌, ℕ, ◌+◌, ◌≤◌, List, [], ◌∷◌, length, ap, arith, subst}
+use Rattle.std.proofs.Common.{◌≡◌, ◌∙◌, ℕ, ◌+◌, ◌≤◌, List, [], ◌∷◌, length, ap, arith, subst, rules}
 use Rattle.scc_base.specs.Calls.{Recv}
 use Rattle.scc_base.specs.Heads.{plain_head}
 use Rattle.send_recv.specs.Calling.{RecvStalled}
@@ -67,3 +67,7 @@ rounds-preserved g c =
       seat = c.recv_on.ensures.seat ∙ before.seat;
       same = c.recv_on.ensures.same.polls ∙ before.same;
     }
+
+-- Answered by name, so that a body which turns this is refused at once, with no search for what else might be written.
+pub returns-clause-why : goal.returns-clause-why
+returns-clause-why g c = search rules

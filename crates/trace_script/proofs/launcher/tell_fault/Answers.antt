@@ -1,4 +1,4 @@
-use Rattle.std.proofs.Common.{subst, sym}
+use Rattle.std.proofs.Common.{subst, sym, rules}
 use Rattle.trace_writer.specs.declared.desks.TraceFault.{TraceFault}
 use Rattle.trace_script.specs.declared.endings.TraceEnd.TheVariants as end_of
 use Rattle.trace_script.specs.Tracing.{TellsFault}
@@ -9,3 +9,7 @@ returns-in-Refused g c = record {
   tells = subst (λ (f : TraceFault). TellsFault f (g.E.Sink.seen c.args.err.now) (g.E.Sink.seen c.write_refused.new.err) end_of.Refused) (sym c.in-Refused.is)
       (c.write_refused.result, c.write_refused.ensures);
 }
+
+-- Answered by name, so that a body which turns this is refused at once, with no search for what else might be written.
+pub returns-in-Write : goal.returns-in-Write
+returns-in-Write g c = search rules

@@ -1,4 +1,4 @@
-use Rattle.std.proofs.Common.{◌∙◌, ap, drop}
+use Rattle.std.proofs.Common.{◌∙◌, ap, drop, rules}
 use Rattle.script_machine.specs.Program.{prims_in}
 use Rattle.script_machine.specs.Walk.{CourseView, WalkView}
 use Rattle.script_machine.proofs.Walks.MarkLaws.{more_prims}
@@ -15,3 +15,7 @@ returns c =
     let left = passed.same ∙ ap (λ (w : CourseView). prims_in w.left) gone ∙ more_prims course.left c.self.invariant.stands in
     (λ i. record { script = script i; setup = setup i; rank = rank i; left = left i })
     ∙ ap (λ (w : WalkView). record w { left = drop 1 w.left }) c.self.view_is
+
+-- Answered by name, so that a body which turns this is refused at once, with no search for what else might be written.
+pub invariant_of-self : goal.invariant_of-self
+invariant_of-self c = search rules

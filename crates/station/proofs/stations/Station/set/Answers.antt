@@ -1,4 +1,4 @@
-use Rattle.std.proofs.Common.{◌≡◌, ◌<◌, ◌≤◌, ℕ, Bool, true, Option, Some, None, is_none, ap, refl, subst, sym}
+use Rattle.std.proofs.Common.{◌≡◌, ◌<◌, ◌≤◌, ℕ, Bool, true, Option, Some, None, is_none, ap, refl, subst, sym, rules}
 use Rattle.scc_base.specs.Places.{FlagPlace}
 use Rattle.scc_proto.specs.Permission.{leaves_heap}
 use Rattle.scc_base.specs.Setups.{IsSetup, host_of}
@@ -38,3 +38,10 @@ returns-clause-calls g c =
     let free = subst (λ (a : StationAt). NoCallOpen s a) (sym c.self.view_is) c.requires.free in
     (set_call s.seat c.known.ensures.valid c.args.at c.requires.below s _ c.self.inside.core _ refl
     (ap leaves_heap free.messages.between.stage) free.registers c.args.flag c.requires.heap c.flag_write.ensures.empty c.args.value c.self.inside.polls c.args.flag.bit c.flag_write.result c.flag_write.ensures.writes).alone.calls
+
+-- Answered by name, so that a body which turns this is refused at once, with no search for what else might be written.
+pub returns-clause-writes : goal.returns-clause-writes
+returns-clause-writes g c = search rules
+
+pub returns-clause-stalls : goal.returns-clause-stalls
+returns-clause-stalls g c = search rules

@@ -1,4 +1,4 @@
-use Rattle.std.proofs.Common.{◌≡◌, ◌<◌, [], ℕ, List, None, Some, refl, slice_index_or, slice_set, subst, sym}
+use Rattle.std.proofs.Common.{◌≡◌, ◌<◌, [], ℕ, List, None, Some, refl, slice_index_or, slice_set, subst, sym, rules}
 use Rattle.std.proofs.lemmas.Bool.{false≢true}
 use Rattle.scc_proto.specs.Histories.{records_from}
 use Rattle.scc_proto.specs.Stages.{Record, blank}
@@ -74,3 +74,7 @@ returns-in-Err-clause-refused c =
     let same = own_allows j.setup (chip_memory j.words) j.machines.items run c.self.invariant c.args.rank below c.args.event.now m at why (λ (next : NextEvent). NotPermitted next) told in
     subst (λ (v : JudgeView). Some why ≡ refusal_of (chip_of v) made) c.self.view_is
     (refused_permit j.setup (chip_memory j.words) run made c.self.invariant.words c.is_step.result c.is_step.ensures.tells c.if-not-is_step.false (λ is. false≢true (may.1 is)) why same)
+
+-- Answered by name, so that a body which turns this is refused at once, with no search for what else might be written.
+pub returns-then-not-is_step-clause-refused : goal.returns-then-not-is_step-clause-refused
+returns-then-not-is_step-clause-refused c = search rules

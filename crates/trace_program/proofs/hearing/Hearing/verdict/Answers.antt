@@ -1,4 +1,4 @@
-use Rattle.std.proofs.Common.{◌∙◌, ap, subst}
+use Rattle.std.proofs.Common.{◌∙◌, ap, subst, rules}
 use Rattle.scc_base.specs.Setups.{SetupView}
 use Rattle.trace_judge.specs.Judged.{chip_of}
 use Rattle.trace_program.specs.Hearings.{HoldsStage}
@@ -22,3 +22,7 @@ returns-in-Judging c = record {
       let held = subst (λ (s : Stage). HoldsStage asked s c.args.self.finished r) c.in-Judging.is (said_holds asked c.args.self r hears come) in
       (r.trace, said, legal_shown asked c.args.self.finished _ t.number r.trace (chip_of t.judge) held.1.held (c.nue-nue.ensures.gives ∙ ap (λ (s : SetupView). s.nue) (c.setup.ensures.gives r come)) held.1.tried.ruled);
 }
+
+-- Answered by name, so that a body which turns this is refused at once, with no search for what else might be written.
+pub returns : goal.returns
+returns c = search rules

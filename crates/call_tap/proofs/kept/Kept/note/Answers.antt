@@ -1,0 +1,10 @@
+use Rattle.std.proofs.Common.{arith}
+use Rattle.std.proofs.lemmas.Grind.{common_steps}
+use Rattle.call_tap.proofs.kept.Kept.note.Goals as goal
+
+-- Answered by name, so that a body which turns this is refused at once, with no search for what else might be written.
+pub returns-else-len-lt-MOST_CALLS : goal.returns-else-len-lt-MOST_CALLS
+returns-else-len-lt-MOST_CALLS c = grind (arith, common_steps)
+
+pub returns-else-is_err : goal.returns-else-is_err
+returns-else-is_err c = grind (arith, common_steps)

@@ -1,0 +1,15 @@
+use Rattle.std.proofs.Common.{rules}
+use Rattle.station.proofs.stations.Station.post.Goals as goal
+
+-- Answered by name, so that a body which turns this is refused at once, with no search for what else might be written.
+pub returns-clause-calls : goal.returns-clause-calls
+returns-clause-calls g c = search rules
+
+pub returns-clause-posted : goal.returns-clause-posted
+returns-clause-posted g c = search rules
+
+pub returns-clause-owes : goal.returns-clause-owes
+returns-clause-owes g c = search rules
+
+pub returns-clause-stalled : goal.returns-clause-stalled
+returns-clause-stalled g c = search rules

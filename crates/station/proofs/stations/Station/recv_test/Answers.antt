@@ -1,0 +1,13 @@
+use Rattle.std.proofs.Common.{arith, rules}
+use Rattle.std.proofs.lemmas.Grind.{common_steps}
+use Rattle.station.proofs.stations.Station.recv_test.Goals as goal
+
+-- Answered by name, so that a body which turns this is refused at once, with no search for what else might be written.
+pub returns-clause-calls : goal.returns-clause-calls
+returns-clause-calls g c = search rules
+
+pub returns-clause-tells : goal.returns-clause-tells
+returns-clause-tells g c = search rules
+
+pub returns-clause-stops : goal.returns-clause-stops
+returns-clause-stops g c = grind (arith, common_steps)
