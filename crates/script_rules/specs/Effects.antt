@@ -2,6 +2,7 @@
 use Rattle.std.specs.Prelude.{ℕ, ◌≤◌, ◌==◌, ◌||◌, Bool, false, if◌then◌else◌, length, Option, Some, None}
 use Rattle.groups.specs.Folds.{bytes_in}
 use Rattle.groups.specs.declared.collectives.Coll.TheVariants as coll
+use Rattle.groups.specs.declared.operations.Ty.{Ty}
 use Rattle.scc_base.specs.declared.communicators.CommRule.{CommRule}
 use Rattle.scc_base.specs.declared.communicators.CommRule.TheVariants as rule
 use Rattle.script_rules.specs.declared.effect.At.{At}
@@ -64,6 +65,25 @@ abbrev pub own_prints : OwnStmt → Option ℕ
 own_prints (own.Apply op ty dst src) = None
 own_prints (own.Print reg form) = Some reg
 
+-- what a reduce needs and does, by whichever operation
+abbrev pub reduce_effect : ℕ → ℕ → Ty → ℕ → ℕ → Effect
+reduce_effect comm root ty dst src = record plain_effect {
+  group = group.Of comm;
+  root = Some root;
+  uses = uses.One (use_all src (fit.Whole ty));
+  sets = target_of dst at.Root (size.Same src);
+  cost = cost.Steps (coll.Reduce comm root 0);
+}
+
+-- what an allreduce needs and does, by whichever operation
+abbrev pub allreduce_effect : ℕ → Ty → ℕ → ℕ → Effect
+allreduce_effect comm ty dst src = record plain_effect {
+  group = group.Of comm;
+  uses = uses.One (use_all src (fit.Whole ty));
+  sets = target_of dst at.All (size.Same src);
+  cost = cost.Steps (coll.Allreduce comm 0);
+}
+
 -- what a statement needs and does
 abbrev pub effect_of : Stmt → Effect
 effect_of (stmt.Bytes reg bytes) = record plain_effect { sets = target_of reg at.All (size.Bytes (length bytes)) }
@@ -82,19 +102,8 @@ effect_of (stmt.Bcast comm root reg len) = record plain_effect {
   sets = target_of reg at.Others (size.Bytes len);
   cost = cost.Steps (coll.Bcast comm root len);
 }
-effect_of (stmt.Reduce comm root op ty dst src) = record plain_effect {
-  group = group.Of comm;
-  root = Some root;
-  uses = uses.One (use_all src (fit.Whole ty));
-  sets = target_of dst at.Root (size.Same src);
-  cost = cost.Steps (coll.Reduce comm root 0);
-}
-effect_of (stmt.Allreduce comm op ty dst src) = record plain_effect {
-  group = group.Of comm;
-  uses = uses.One (use_all src (fit.Whole ty));
-  sets = target_of dst at.All (size.Same src);
-  cost = cost.Steps (coll.Allreduce comm 0);
-}
+effect_of (stmt.Reduce comm root op ty dst src) = reduce_effect comm root ty dst src
+effect_of (stmt.Allreduce comm op ty dst src) = allreduce_effect comm ty dst src
 effect_of (stmt.Repeat times end) = record plain_effect { cost = cost.Free; nesting = nesting.Opens times }
 effect_of (stmt.End start) = record plain_effect { nesting = nesting.Closes start }
 

@@ -195,74 +195,157 @@ pub fn parent_of(rule: CommRule) -> u8
     }
 }
 
+impl Effect {
+    ghost use Rattle.std.specs.Prelude.{◌≡◌, Some};
+    ghost use Rattle.script_rules.specs.Effects.{allreduce_effect, effect_of, plain_effect, reduce_effect, target_of, use_all};
+    ghost use Rattle.script_rules.specs.declared.effect.At.TheVariants as at;
+    ghost use Rattle.script_rules.specs.declared.effect.Fit.TheVariants as fit;
+    ghost use Rattle.script_rules.specs.declared.effect.Size.TheVariants as size;
+    ghost use Rattle.script_rules.specs.declared.effect.Uses.TheVariants as uses;
+    ghost use Rattle.script_rules.specs.declared.script.Stmt.TheVariants as stmt;
+
+    /// The effect of a statement which sets a register of this length at each rank.
+    #[inline(always)]
+    fn of_target(reg: u8, len: u64) -> Effect
+        ensures { result ≡ record plain_effect { sets = target_of reg at.All (size.Bytes len) } }
+    {
+        let sets = Target::of(reg, At::All, Size::Bytes(len));
+        Effect { sets, ..PLAIN }
+    }
+
+    /// The effect of a statement of the rank's own.
+    #[inline(always)]
+    fn of_own(own: OwnStmt) -> Effect
+        ensures { result ≡ effect_of (stmt.Own own) }
+    {
+        let uses = own.uses();
+        let prints = own.prints();
+        Effect {
+            uses,
+            prints,
+            ..PLAIN
+        }
+    }
+
+    /// The effect of a send, and of a post, which posts the register.
+    #[inline(always)]
+    fn of_send(peer: Peer, reg: u8, posts: Option<u8>) -> Effect
+        ensures { result ≡ record plain_effect { peer = Some peer; uses = uses.One (use_all reg fit.Any); posts = posts } }
+    {
+        let peer = Some(peer);
+        let uses = Uses::One(Use::all(reg, Fit::Any));
+        Effect {
+            peer,
+            uses,
+            posts,
+            ..PLAIN
+        }
+    }
+
+    /// The effect of a receive.
+    #[inline(always)]
+    fn of_receive(peer: Peer, reg: u8, len: u32) -> Effect
+        ensures { result ≡ effect_of (stmt.Recv peer reg len) }
+    {
+        let peer = Some(peer);
+        let sets = Target::of(reg, At::All, Size::Bytes(len as u64));
+        Effect {
+            peer,
+            sets,
+            ..PLAIN
+        }
+    }
+
+    /// The effect of a broadcast.
+    #[inline(always)]
+    fn of_broadcast(comm: u8, root: u8, reg: u8, len: u32) -> Effect
+        ensures { result ≡ effect_of (stmt.Bcast comm root reg len) }
+    {
+        let at = At::Root;
+        let fit = Fit::Long(len);
+        Effect {
+            group: Group::Of(comm),
+            root: Some(root),
+            uses: Uses::One(Use { reg, at, fit }),
+            sets: Target::of(reg, At::Others, Size::Bytes(len as u64)),
+            cost: Cost::Steps(Coll::Bcast { comm, root, len }),
+            ..PLAIN
+        }
+    }
+
+    /// The effect of a reduce.
+    #[inline(always)]
+    fn of_reduce(comm: u8, root: u8, ty: Ty, dst: u8, src: u8) -> Effect
+        ensures { result ≡ reduce_effect comm root ty dst src }
+    {
+        let len = 0;
+        Effect {
+            group: Group::Of(comm),
+            root: Some(root),
+            uses: Uses::One(Use::all(src, Fit::Whole(ty))),
+            sets: Target::of(dst, At::Root, Size::Same(src)),
+            cost: Cost::Steps(Coll::Reduce { comm, root, len }),
+            ..PLAIN
+        }
+    }
+
+    /// The effect of an allreduce.
+    #[inline(always)]
+    fn of_allreduce(comm: u8, ty: Ty, dst: u8, src: u8) -> Effect
+        ensures { result ≡ allreduce_effect comm ty dst src }
+    {
+        let len = 0;
+        Effect {
+            group: Group::Of(comm),
+            uses: Uses::One(Use::all(src, Fit::Whole(ty))),
+            sets: Target::of(dst, At::All, Size::Same(src)),
+            cost: Cost::Steps(Coll::Allreduce { comm, len }),
+            ..PLAIN
+        }
+    }
+
+    /// The effect of a statement which needs these groups and nothing else.
+    #[inline(always)]
+    fn of_group(group: Group) -> Effect
+        ensures { result ≡ record plain_effect { group = group } }
+    {
+        Effect { group, ..PLAIN }
+    }
+
+    /// The effect of a statement which opens or closes a repeat.
+    #[inline(always)]
+    fn of_nesting(cost: Cost, nesting: Nesting) -> Effect
+        ensures { result ≡ record plain_effect { cost = cost; nesting = nesting } }
+    {
+        Effect {
+            cost,
+            nesting,
+            ..PLAIN
+        }
+    }
+}
+
 /// What a statement needs and does.
 #[inline(always)]
 pub fn effect_of(stmt: &Stmt) -> Effect
     ensures { result ≡ effect_of stmt.now }
 {
     match stmt {
-        Stmt::Bytes { reg, bytes } => Effect {
-            sets: Target::of(*reg, At::All, Size::Bytes(bytes.as_slice().len() as u64)),
-            ..PLAIN
-        },
-        Stmt::Fill { reg, len, .. } => Effect {
-            sets: Target::of(*reg, At::All, Size::Bytes(*len as u64)),
-            ..PLAIN
-        },
-        Stmt::RankOf { reg, ty } => Effect {
-            sets: Target::of(*reg, At::All, Size::Bytes(ty.width() as u64)),
-            ..PLAIN
-        },
-        Stmt::Own(own) => Effect {
-            uses: own.uses(),
-            prints: own.prints(),
-            ..PLAIN
-        },
-        Stmt::Send { peer, reg } => Effect {
-            peer: Some(*peer),
-            uses: Uses::One(Use::all(*reg, Fit::Any)),
-            ..PLAIN
-        },
-        Stmt::Post { peer, reg } => Effect {
-            peer: Some(*peer),
-            uses: Uses::One(Use::all(*reg, Fit::Any)),
-            posts: Some(*reg),
-            ..PLAIN
-        },
-        Stmt::Recv { peer, reg, len } => Effect {
-            peer: Some(*peer),
-            sets: Target::of(*reg, At::All, Size::Bytes(*len as u64)),
-            ..PLAIN
-        },
-        Stmt::Barrier { comm } => Effect {
-            group: Group::Of(*comm),
-            ..PLAIN
-        },
-        Stmt::Split { comm, rule } => Effect {
-            group: Group::Split(*comm, *rule),
-            ..PLAIN
-        },
+        Stmt::Bytes { reg, bytes } => Effect::of_target(*reg, bytes.as_slice().len() as u64),
+        Stmt::Fill { reg, len, .. } => Effect::of_target(*reg, *len as u64),
+        Stmt::RankOf { reg, ty } => Effect::of_target(*reg, ty.width() as u64),
+        Stmt::Own(own) => Effect::of_own(*own),
+        Stmt::Send { peer, reg } => Effect::of_send(*peer, *reg, None),
+        Stmt::Post { peer, reg } => Effect::of_send(*peer, *reg, Some(*reg)),
+        Stmt::Recv { peer, reg, len } => Effect::of_receive(*peer, *reg, *len),
+        Stmt::Barrier { comm } => Effect::of_group(Group::Of(*comm)),
+        Stmt::Split { comm, rule } => Effect::of_group(Group::Split(*comm, *rule)),
         Stmt::Bcast {
             comm,
             root,
             reg,
             len,
-        } => Effect {
-            group: Group::Of(*comm),
-            root: Some(*root),
-            uses: Uses::One(Use {
-                reg: *reg,
-                at: At::Root,
-                fit: Fit::Long(*len),
-            }),
-            sets: Target::of(*reg, At::Others, Size::Bytes(*len as u64)),
-            cost: Cost::Steps(Coll::Bcast {
-                comm: *comm,
-                root: *root,
-                len: *len,
-            }),
-            ..PLAIN
-        },
+        } => Effect::of_broadcast(*comm, *root, *reg, *len),
         Stmt::Reduce {
             comm,
             root,
@@ -270,43 +353,16 @@ pub fn effect_of(stmt: &Stmt) -> Effect
             dst,
             src,
             ..
-        } => Effect {
-            group: Group::Of(*comm),
-            root: Some(*root),
-            uses: Uses::One(Use::all(*src, Fit::Whole(*ty))),
-            sets: Target::of(*dst, At::Root, Size::Same(*src)),
-            cost: Cost::Steps(Coll::Reduce {
-                comm: *comm,
-                root: *root,
-                len: 0,
-            }),
-            ..PLAIN
-        },
+        } => Effect::of_reduce(*comm, *root, *ty, *dst, *src),
         Stmt::Allreduce {
             comm,
             ty,
             dst,
             src,
             ..
-        } => Effect {
-            group: Group::Of(*comm),
-            uses: Uses::One(Use::all(*src, Fit::Whole(*ty))),
-            sets: Target::of(*dst, At::All, Size::Same(*src)),
-            cost: Cost::Steps(Coll::Allreduce {
-                comm: *comm,
-                len: 0,
-            }),
-            ..PLAIN
-        },
-        Stmt::Repeat { times, .. } => Effect {
-            cost: Cost::Free,
-            nesting: Nesting::Opens(*times),
-            ..PLAIN
-        },
-        Stmt::End { start } => Effect {
-            nesting: Nesting::Closes(*start),
-            ..PLAIN
-        },
+        } => Effect::of_allreduce(*comm, *ty, *dst, *src),
+        Stmt::Repeat { times, .. } => Effect::of_nesting(Cost::Free, Nesting::Opens(*times)),
+        Stmt::End { start } => Effect::of_nesting(Cost::One, Nesting::Closes(*start)),
     }
 }
 
