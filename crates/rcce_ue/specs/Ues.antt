@@ -10,9 +10,9 @@ use Rattle.barrier.specs.Stages.{new_barrier}
 use Rattle.script_rules.specs.Script.{rules_of}
 use Rattle.script_rules.specs.Settled.{IsWholeScript}
 use Rattle.script_machine.specs.Local.{local_next}
-use Rattle.script_machine.specs.Machine.{MachineView, on_its_way}
+use Rattle.script_machine.specs.Machine.{MachineView}
+use Rattle.script_machine.specs.Moves.{line_out}
 use Rattle.script_machine.specs.Next.{Next, call_next}
-use Rattle.script_machine.specs.Next.Next.{Ends, Goes, Posts, Sends, Recvs, Bars}
 use Rattle.script_machine.specs.declared.posts.OnItsWay.{OnItsWay}
 use Rattle.rcce_ue.specs.declared.calls.Open.{Open}
 use Rattle.rcce_ue.specs.declared.calls.Open.TheVariants.{Nothing, Sending, Receiving, Meeting}
@@ -65,14 +65,17 @@ is_send_call (Post to head bytes) = true
 is_send_call (Recv from head bytes) = false
 is_send_call (Bar comm) = false
 
+-- the message that a call leaves behind, where it is a post of this line, and the earlier one where it is none
+abbrev pub post_left : Option Call → ℕ → Option OnItsWay → Option OnItsWay
+post_left (Some (call.Post to head)) line earlier = Some (record { line = line; to = to; head = head })
+post_left (Some (call.Send to head)) line earlier = earlier
+post_left (Some (call.Recv from head)) line earlier = earlier
+post_left (Some (call.Bar comm)) line earlier = earlier
+post_left None line earlier = earlier
+
 -- the message that a post leaves behind, where a post stands next
 abbrev pub posted_by : {U : Type 0} → Next U → Option OnItsWay → Option OnItsWay
-posted_by (Posts message after) earlier = Some (on_its_way message)
-posted_by Ends earlier = earlier
-posted_by (Goes after) earlier = earlier
-posted_by (Sends to head bytes after) earlier = earlier
-posted_by (Recvs from head take refuse) earlier = earlier
-posted_by (Bars comm after) earlier = earlier
+posted_by next earlier = post_left (call_next next) (line_out next) earlier
 
 -- the message in the slot, where it is full
 abbrev pub in_slot : {X : Type 0} → SlotAt → Option X → Option X

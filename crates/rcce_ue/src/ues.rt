@@ -2,7 +2,7 @@
 
 ghost use Rattle.std.specs.Prelude.{◌≡◌};
 ghost use Rattle.script_machine.specs.Local.{local_next};
-ghost use Rattle.rcce_ue.specs.Ues.{posted_by};
+ghost use Rattle.rcce_ue.specs.Ues.{post_left};
 
 use crate::calls::{Open, begin};
 use crate::receiving::front_of;
@@ -50,13 +50,13 @@ impl<'s, V: Evict> Model for Ue<'s, V> {
     } };
 }
 
-/// The message that was posted last, where a post may have ended.
-fn posted_after(machine: &Machine<'_>, earlier: Option<OnItsWay>) -> Option<OnItsWay>
-    ensures { result ≡ posted_by (local_next machine.now.local) earlier }
+// The message that the call leaves behind, where it is a post of this line, and the earlier one where it is none.
+fn post_left(call: &Option<Call>, line: u32, earlier: Option<OnItsWay>) -> Option<OnItsWay>
+    ensures { result ≡ post_left call.now line earlier }
 {
-    match &machine.call() {
+    match call {
         Some(Call::Post { to, head }) => Some(OnItsWay {
-            line: machine.line(),
+            line,
             to: *to,
             head: *head,
         }),
@@ -77,7 +77,7 @@ impl<'s, V: Evict> Ue<'s, V> {
     ghost use Rattle.rcce_ue.specs.Left.{ue_left};
     ghost use Rattle.rcce_ue.specs.Standing.{Tied};
     ghost use Rattle.rcce_ue.specs.Turns.{UeTurned};
-    ghost use Rattle.rcce_ue.specs.Ues.{IsBegun, capped_count, at_next_call};
+    ghost use Rattle.rcce_ue.specs.Ues.{IsBegun, capped_count, at_next_call, posted_by};
 
     // Comes to what stands next: the op of the next call is made.
     fn enter(&mut self)
@@ -96,7 +96,7 @@ impl<'s, V: Evict> Ue<'s, V> {
           sent_bytes = capped_count (self.old.sent_bytes + length (bytes_out (local_next self.old.machine.local)));
         }) }
     {
-        self.posted = posted_after(&self.machine, self.posted);
+        self.posted = post_left(&self.machine.call(), self.machine.line(), self.posted);
         self.sent = self.sent.saturating_add(1);
         self.sent_bytes = self
             .sent_bytes
@@ -216,8 +216,8 @@ impl<'s, V: Evict + Drop> Ue<'s, V> {
         ensures evictor { IfOk result (λ u. u.core.answers ≡ V.answers evict) }
     {
         scripts.acceptance_law();
-        let machine = Machine::new(alloc, scripts, setup, rank)?;
         let inbox = vec![in alloc; 0u8; Head::MOST as usize]?;
+        let machine = Machine::new(alloc, scripts, setup, rank)?;
         let op = begin(&machine.call());
         Ok(Ue {
             machine,
