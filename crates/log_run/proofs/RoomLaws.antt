@@ -119,11 +119,9 @@ room_step script n each last rank below = by (eq-or-lt_of_le (omega arith))
     by (inl same) = ap (room_at script) same ∙ last
     by (inr earlier) = each rank earlier
 
--- at the start nothing is counted
-pub start_counted : (script : Script) (rank : ℕ) (l : Lengths) (left : List Prim) → l ≡ nothing_held (length script.names) → left ≡ program_of script rank → AreCounted (calls_of script rank) 0 0 (calls_from l left)
-start_counted script rank l left sizes all =
-    let same : calls_of script rank ≡ calls_from l left = λ i. calls_from ((start_held script rank ∙ sym sizes) i) (sym all i) in
-    record { count = omega (arith, ap length same); sum = omega (arith, ap bytes_planned same) }
+-- at the start all calls are left
+pub start_same : (script : Script) (rank : ℕ) (l : Lengths) (left : List Prim) → l ≡ nothing_held (length script.names) → left ≡ program_of script rank → calls_from l left ≡ calls_of script rank
+start_same script rank l left sizes all = sym (λ i. calls_from ((start_held script rank ∙ sym sizes) i) (sym all i))
 
 -- nothing is left where nothing is found
 pub nothing_found : {X Y : Type 0} (meant : X → Y) (found : Option X) (left : Option Y) → option_map meant found ≡ left → ((p : X) → found ≡ Some p → ⊥) → left ≡ None

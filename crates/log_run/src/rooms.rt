@@ -2,7 +2,7 @@
 
 ghost use Rattle.std.specs.Prelude.{◌≡◌, ◌<◌, IfOk};
 ghost use Rattle.call_tap.specs.Planned.{has_room_for};
-ghost use Rattle.script_machine.specs.CallLists.{calls_of};
+ghost use Rattle.script_machine.specs.CallLists.{calls_from, calls_of};
 ghost use Rattle.script_rules.specs.Script.{rules_of};
 ghost use Rattle.log_run.specs.Sizes.{has_room_for_all};
 
@@ -45,6 +45,22 @@ impl Tally {
     }
 }
 
+// Whether a tap has room for the calls that are left of a rank's walk, from registers of these lengths.
+fn rest_has_room(walk: &mut Walk<'_>, lengths: &mut Lengths) -> Result<bool, AllocError>
+    ensures { IfOk result (λ room. room ≡ has_room_for (calls_from lengths.old walk.old.left)) }
+{
+    let mut tally = Tally { calls: 0, bytes: 0 };
+    while let Some(prim) = walk.front() {
+        let moved = lengths.moved(&prim.action);
+        if !tally.add(moved) {
+            return Ok(false);
+        }
+        lengths.go(&prim.action)?;
+        walk.advance();
+    }
+    Ok(true)
+}
+
 /// Whether a tap has room for all calls of a rank.
 fn rank_has_room(
     alloc: Global,
@@ -59,16 +75,7 @@ fn rank_has_room(
 {
     let mut walk = Walk::new(alloc, scripts, setup, rank)?;
     let mut lengths = Lengths::none(alloc, scripts.registers())?;
-    let mut tally = Tally { calls: 0, bytes: 0 };
-    while let Some(prim) = walk.front() {
-        let moved = lengths.moved(&prim.action);
-        if !tally.add(moved) {
-            return Ok(false);
-        }
-        lengths.go(&prim.action)?;
-        walk.advance();
-    }
-    Ok(true)
+    rest_has_room(&mut walk, &mut lengths)
 }
 
 /// Whether taps have room for the calls of each rank of a script: at most 10,000 calls with 262,144 bytes together.

@@ -1,5 +1,5 @@
 -- The turns of a UE, as its functions spell the UEs before and after.
-use Rattle.std.proofs.Common.{◌≡◌, ℕ, ◌+◌, ◌≤◌, Bool, true, false, List, length, take, refl, sym, ap, ◌∙◌, subst, arith}
+use Rattle.std.proofs.Common.{◌≡◌, ℕ, ◌≤◌, Bool, true, false, List, Some, length, take, refl, sym, ap, ◌∙◌, subst, arith}
 use Rattle.std.specs.Prelude.{IsTrue}
 use Rattle.scc_base.specs.Heads.{MessageHead}
 use Rattle.scc_base.specs.declared.events.Spot.{Spot}
@@ -8,20 +8,22 @@ use Rattle.scc_base.specs.declared.events.Turn.TheVariants as turn
 use Rattle.scc_proto.specs.Ports.{Sight, record_in}
 use Rattle.put_get.specs.Cores.{Private}
 use Rattle.send_recv.specs.Ops.{RecvAt, SendAt, SlotAt}
-use Rattle.send_recv.specs.Receiving.{RecvStands, RecvTurned}
+use Rattle.send_recv.specs.Receiving.{RecvStands, RecvTurned, recv_waits}
 use Rattle.send_recv.specs.Sending.{SendStands, SendTurned, SlotStands, SlotTurned}
 use Rattle.send_recv.specs.declared.answers.RecvTurn.{RecvTurn}
 use Rattle.send_recv.specs.declared.answers.RecvTurn.TheVariants as receive
 use Rattle.send_recv.specs.Ranks.{receiving, sending, holding_slot}
+use Rattle.sync_flags.specs.Turns.{waits_at}
 use Rattle.barrier.specs.Stages.{BarAt, BarStands, meeting}
 use Rattle.barrier.specs.Turns.{BarTurned}
 use Rattle.script_machine.specs.Local.{Local, local_next}
-use Rattle.script_machine.specs.Moves.{bytes_out, is_receiving, is_stopped, length_asked, after_pass, after_refusal, after_take, went}
+use Rattle.script_machine.specs.Moves.{bytes_out, is_passable, is_receiving, is_stopped, length_asked, went}
 use Rattle.script_machine.specs.Next.{Next, is_going}
 use Rattle.script_machine.specs.Next.Next.{Ends, Goes, Posts, Sends, Recvs, Bars}
-use Rattle.rcce_ue.specs.Standing.{IsRecvOf, Tied}
+use Rattle.rcce_ue.specs.Passing.{ue_after_call, ue_after_receive, ue_past_barrier, ue_past_message, ue_past_mismatch, ue_past_receive, told_by_call, told_by_receive}
+use Rattle.rcce_ue.specs.Standing.{IsBarOf, IsRecvOf, IsSendOf, Tied}
 use Rattle.rcce_ue.specs.Turns.{Turns}
-use Rattle.rcce_ue.specs.Ues.{UeView, capped_count, at_next_call, posted_by}
+use Rattle.rcce_ue.specs.Ues.{UeView, at_next_call}
 use Rattle.rcce_ue.specs.declared.calls.Open.TheVariants.{Nothing, Sending, Receiving, Meeting}
 use Rattle.rcce_ue.proofs.AloneTurns.{alone_goes, slot_turns, stopped_done}
 use Rattle.rcce_ue.proofs.BarTurns.{bar_done, bar_moved, bar_waited}
@@ -46,21 +48,41 @@ module _ (ue old now : UeView) (s t : Sight) where
     sending_waited spot is r = carry old (record ue { op = Sending op }) now (record ue { core = d; slot = after; op = Sending next }) s t (turn.Waiting spot) before is tied
         (λ there. send_waited ue s t op there d next after send_stands spot (send_turned (turn.Waiting spot) r))
 
-    abbrev sent_ue : UeView
-    sent_ue =
-        at_next_call
-        (record ue {
-          machine = record ue.machine { local = after_pass (local_next ue.machine.local) ue.machine.local };
-          core = d;
-          slot = after;
-          posted = posted_by (local_next ue.machine.local) ue.posted;
-          sent = capped_count (ue.sent + 1);
-          sent_bytes = capped_count (ue.sent_bytes + length (bytes_out (local_next ue.machine.local)));
-        })
-
-    pub sending_done : now ≡ sent_ue → SendTurned (sending s ue.core op ue.slot bytes) (sending t d next after bytes) turn.Done → Turns old s now t turn.Moved
-    sending_done is r = carry old (record ue { op = Sending op }) now sent_ue s t turn.Moved before is tied
+    pub sending_done : now ≡ ue_past_message (record ue { core = d; slot = after; op = Sending next }) → SendTurned (sending s ue.core op ue.slot bytes) (sending t d next after bytes) turn.Done → Turns old s now t turn.Moved
+    sending_done is r = carry old (record ue { op = Sending op }) now (ue_past_message (record ue { core = d; slot = after; op = Sending next })) s t turn.Moved before is tied
         (λ there. send_done ue s t op there d next after send_stands (send_turned turn.Done r))
+
+    sending_by : (answer : Turn) → now ≡ ue_after_call ue_past_message answer (record ue { core = d; slot = after; op = Sending next }) → SendTurned (sending s ue.core op ue.slot bytes) (sending t d next after bytes) answer → Turns old s now t (told_by_call answer)
+    sending_by turn.Moved is r = sending_moved is r
+    sending_by (turn.Waiting spot) is r = sending_waited spot is r
+    sending_by turn.Done is r = sending_done is r
+
+    pub sending_turns : (answer told : Turn) → told ≡ told_by_call answer → now ≡ ue_after_call ue_past_message answer (record ue { core = d; slot = after; op = Sending next })
+        → SendTurned (sending s ue.core op ue.slot bytes) (sending t d next after bytes) answer → Turns old s now t told
+    sending_turns answer told tells is r = subst (λ (x : Turn). Turns old s now t x) (sym tells) (sending_by answer is r)
+
+  passes_by : (op : SendAt) (n : Next Local) → IsSendOf op n → IsTrue (is_passable n)
+  passes_by op Ends of = absurd of
+  passes_by op (Goes after) of = absurd of
+  passes_by op (Posts message after) of = refl
+  passes_by op (Sends to head bytes after) of = refl
+  passes_by op (Recvs from head take_in refuse) of = absurd of
+  passes_by op (Bars comm after) of = absurd of
+
+  -- the call that stands next can be passed
+  pub send_passes : (op : SendAt) → old ≡ record ue { op = Sending op } → Tied old s → IsTrue (is_passable (local_next ue.machine.local))
+  send_passes op before tied = let there : Tied (record ue { op = Sending op }) s = subst (λ (x : UeView). Tied x s) before tied in passes_by op (local_next ue.machine.local) there.stands.1
+
+  bar_passes_by : (op : BarAt) (n : Next Local) → IsBarOf op n → IsTrue (is_passable n)
+  bar_passes_by op Ends of = absurd of
+  bar_passes_by op (Goes after) of = absurd of
+  bar_passes_by op (Posts message after) of = absurd of
+  bar_passes_by op (Sends to head bytes after) of = absurd of
+  bar_passes_by op (Recvs from head take_in refuse) of = absurd of
+  bar_passes_by op (Bars comm after) of = refl
+
+  pub bar_passes : (op : BarAt) → old ≡ record ue { op = Meeting op } → Tied old s → IsTrue (is_passable (local_next ue.machine.local))
+  bar_passes op before tied = let there : Tied (record ue { op = Meeting op }) s = subst (λ (x : UeView). Tied x s) before tied in bar_passes_by op (local_next ue.machine.local) there.stands.1
 
   -- the front of the inbox holds the message
   module _ (op : RecvAt) (before : old ≡ record ue { op = Receiving op }) (tied : Tied old s) where
@@ -124,25 +146,22 @@ module _ (ue old now : UeView) (s t : Sight) where
       receiving_waited spot is r = carry old (record ue { op = Receiving op }) now (record ue { core = d; op = Receiving next; inbox = inbox }) s t (turn.Waiting spot) before is tied
           (λ there. recv_waited ue s t op there d next inbox large recv_stands spot (recv_turned (receive.Waiting spot) r))
 
-      abbrev got_ue : UeView
-      got_ue =
-          at_next_call
-          (record ue {
-            machine = record ue.machine { local = after_take (local_next ue.machine.local) (take (length_asked (local_next ue.machine.local)) inbox) ue.machine.local };
-            core = d;
-            inbox = inbox;
-          })
-
-      pub receiving_done : now ≡ got_ue → TurnedIn receive.Done → Turns old s now t turn.Moved
-      receiving_done is r = carry old (record ue { op = Receiving op }) now got_ue s t turn.Moved before is tied
+      pub receiving_done : now ≡ ue_past_receive (record ue { core = d; op = Receiving next; inbox = inbox }) → TurnedIn receive.Done → Turns old s now t turn.Moved
+      receiving_done is r = carry old (record ue { op = Receiving op }) now (ue_past_receive (record ue { core = d; op = Receiving next; inbox = inbox })) s t turn.Moved before is tied
           (λ there. recv_done ue s t op there d next inbox large recv_stands (recv_turned receive.Done r))
 
-      abbrev stopped_ue : MessageHead → UeView
-      stopped_ue sent = at_next_call (record ue { machine = record ue.machine { local = after_refusal (local_next ue.machine.local) sent ue.machine.local }; core = d; inbox = inbox })
-
-      pub receiving_refused : (sent : MessageHead) → now ≡ stopped_ue sent → TurnedIn (receive.Mismatch sent) → Turns old s now t turn.Moved
-      receiving_refused sent is r = carry old (record ue { op = Receiving op }) now (stopped_ue sent) s t turn.Moved before is tied
+      pub receiving_refused : (sent : MessageHead) → now ≡ ue_past_mismatch sent (record ue { core = d; op = Receiving next; inbox = inbox }) → TurnedIn (receive.Mismatch sent) → Turns old s now t turn.Moved
+      receiving_refused sent is r = carry old (record ue { op = Receiving op }) now (ue_past_mismatch sent (record ue { core = d; op = Receiving next; inbox = inbox })) s t turn.Moved before is tied
           (λ there. recv_refused ue s t op there d next inbox large recv_stands sent (recv_turned (receive.Mismatch sent) r))
+
+      receiving_by : (answer : RecvTurn) → now ≡ ue_after_receive answer (record ue { core = d; op = Receiving next; inbox = inbox }) → TurnedIn answer → Turns old s now t (told_by_receive answer)
+      receiving_by receive.Moved is r = receiving_moved is r
+      receiving_by (receive.Waiting spot) is r = receiving_waited spot is r
+      receiving_by receive.Done is r = receiving_done is r
+      receiving_by (receive.Mismatch sent) is r = receiving_refused sent is r
+
+      pub receiving_turns : (answer : RecvTurn) (told : Turn) → told ≡ told_by_receive answer → now ≡ ue_after_receive answer (record ue { core = d; op = Receiving next; inbox = inbox }) → TurnedIn answer → Turns old s now t told
+      receiving_turns answer told tells is r = subst (λ (x : Turn). Turns old s now t x) (sym tells) (receiving_by answer is r)
 
   module _ (op next : BarAt) (d : Private) (values : List Bool) (before : old ≡ record ue { op = Meeting op }) (tied : Tied old s) (stands : BarStands t d next values) where
     pub meeting_moved : now ≡ record ue { core = d; parity = values; op = Meeting next } → BarTurned (meeting s ue.core op ue.parity) (meeting t d next values) turn.Moved → Turns old s now t turn.Moved
@@ -153,12 +172,18 @@ module _ (ue old now : UeView) (s t : Sight) where
     meeting_waited spot is r = carry old (record ue { op = Meeting op }) now (record ue { core = d; parity = values; op = Meeting next }) s t (turn.Waiting spot) before is tied
         (λ there. bar_waited ue s t op there d next values stands spot r)
 
-    abbrev met_ue : UeView
-    met_ue = at_next_call (record ue { machine = record ue.machine { local = after_pass (local_next ue.machine.local) ue.machine.local }; core = d; parity = values })
-
-    pub meeting_done : now ≡ met_ue → BarTurned (meeting s ue.core op ue.parity) (meeting t d next values) turn.Done → Turns old s now t turn.Moved
-    meeting_done is r = carry old (record ue { op = Meeting op }) now met_ue s t turn.Moved before is tied
+    pub meeting_done : now ≡ ue_past_barrier (record ue { core = d; parity = values; op = Meeting next }) → BarTurned (meeting s ue.core op ue.parity) (meeting t d next values) turn.Done → Turns old s now t turn.Moved
+    meeting_done is r = carry old (record ue { op = Meeting op }) now (ue_past_barrier (record ue { core = d; parity = values; op = Meeting next })) s t turn.Moved before is tied
         (λ there. bar_done ue s t op there d next values stands r)
+
+    meeting_by : (answer : Turn) → now ≡ ue_after_call ue_past_barrier answer (record ue { core = d; parity = values; op = Meeting next }) → BarTurned (meeting s ue.core op ue.parity) (meeting t d next values) answer → Turns old s now t (told_by_call answer)
+    meeting_by turn.Moved is r = meeting_moved is r
+    meeting_by (turn.Waiting spot) is r = meeting_waited spot is r
+    meeting_by turn.Done is r = meeting_done is r
+
+    pub meeting_turns : (answer told : Turn) → told ≡ told_by_call answer → now ≡ ue_after_call ue_past_barrier answer (record ue { core = d; parity = values; op = Meeting next })
+        → BarTurned (meeting s ue.core op ue.parity) (meeting t d next values) answer → Turns old s now t told
+    meeting_turns answer told tells is r = subst (λ (x : Turn). Turns old s now t x) (sym tells) (meeting_by answer is r)
 
 -- no call is open
 module _ (ue old now : UeView) (s : Sight) (before : old ≡ record ue { op = Nothing }) (tied : Tied old s) where
@@ -175,3 +200,21 @@ module _ (ue old now : UeView) (s : Sight) (before : old ≡ record ue { op = No
       → SlotStands t.seat (record_in t) slot → SlotTurned (holding_slot s ue.core ue.slot) (holding_slot t d slot) answer → Turns old s now t answer
   alone_slot t d slot answer is idle on stands r = carry old (record ue { op = Nothing }) now (record ue { core = d; slot = slot; op = Nothing }) s t answer before is tied
       (λ there. slot_turns ue s there idle on t d slot stands answer r)
+
+-- where the UE waits, its call waits there
+waits_by : (answer : Turn) (spot : Spot) → waits_at (told_by_call answer) ≡ Some spot → waits_at answer ≡ Some spot
+waits_by turn.Moved spot is = is
+waits_by (turn.Waiting at) spot is = is
+waits_by turn.Done spot is = absurd (cc (is))
+
+pub call_waits : (answer told : Turn) (spot : Spot) → told ≡ told_by_call answer → waits_at told ≡ Some spot → waits_at answer ≡ Some spot
+call_waits answer told spot tells is = waits_by answer spot (ap waits_at (sym tells) ∙ is)
+
+receive_waits_by : (answer : RecvTurn) (spot : Spot) → waits_at (told_by_receive answer) ≡ Some spot → recv_waits answer ≡ Some spot
+receive_waits_by receive.Moved spot is = absurd (cc (is))
+receive_waits_by (receive.Waiting at) spot is = is
+receive_waits_by receive.Done spot is = absurd (cc (is))
+receive_waits_by (receive.Mismatch sent) spot is = absurd (cc (is))
+
+pub receive_waits : (answer : RecvTurn) (told : Turn) (spot : Spot) → told ≡ told_by_receive answer → waits_at told ≡ Some spot → recv_waits answer ≡ Some spot
+receive_waits answer told spot tells is = receive_waits_by answer spot (ap waits_at (sym tells) ∙ is)

@@ -1,4 +1,5 @@
 pub mod Ues
+pub mod Passing
 pub mod Standing
 pub mod Left
 pub mod Turns

@@ -65,19 +65,16 @@ fn post_left(call: &Option<Call>, line: u32, earlier: Option<OnItsWay>) -> Optio
 }
 
 impl<'s, V: Evict> Ue<'s, V> {
-    ghost use Rattle.std.specs.Prelude.{◌≡◌, ◌≤◌, ◌+◌, ◌<◌, ℕ, [], true, false, length, take, IfOk, IsTrue, Some};
+    ghost use Rattle.std.specs.Prelude.{◌≡◌, ◌≤◌, length, IsTrue, Some};
     ghost use Rattle.scc_base.specs.declared.events.Spot.{Spot};
-    ghost use Rattle.scc_proto.specs.Ports.{Sight};
     ghost use Rattle.put_get.specs.Cores.{MadeSteps};
     ghost use Rattle.sync_flags.specs.Turns.{waits_at};
-    ghost use Rattle.script_plain.specs.Collectives.{start_of_rank};
-    ghost use Rattle.script_machine.specs.Moves.{bytes_out, is_passable, is_receiving, is_stopped, length_asked, after_pass, after_refusal, after_take, went};
-    ghost use Rattle.script_machine.specs.Next.{is_going};
-    ghost use Rattle.rcce_ue.specs.Bounds.{bounds_of, visits};
-    ghost use Rattle.rcce_ue.specs.Left.{ue_left};
+    ghost use Rattle.script_machine.specs.Moves.{is_passable, is_receiving, length_asked};
+    ghost use Rattle.rcce_ue.specs.Passing.{ue_after_call, ue_after_receive, ue_past_barrier, ue_past_message, ue_past_mismatch, ue_past_receive, told_by_call, told_by_receive};
     ghost use Rattle.rcce_ue.specs.Standing.{Tied};
     ghost use Rattle.rcce_ue.specs.Turns.{UeTurned};
-    ghost use Rattle.rcce_ue.specs.Ues.{IsBegun, capped_count, at_next_call, posted_by};
+    ghost use Rattle.rcce_ue.specs.Ues.{at_next_call};
+    ghost use Rattle.rcce_ue.specs.declared.calls.Open.TheVariants.{Nothing};
 
     // Comes to what stands next: the op of the next call is made.
     fn enter(&mut self)
@@ -89,12 +86,7 @@ impl<'s, V: Evict> Ue<'s, V> {
     // Goes past the send or the post that has ended, and counts it.
     fn pass_message(&mut self)
         requires { IsTrue (is_passable (local_next self.old.machine.local)) }
-        ensures { self.new ≡ at_next_call (record self.old {
-          machine = record self.old.machine { local = after_pass (local_next self.old.machine.local) self.old.machine.local };
-          posted = posted_by (local_next self.old.machine.local) self.old.posted;
-          sent = capped_count (self.old.sent + 1);
-          sent_bytes = capped_count (self.old.sent_bytes + length (bytes_out (local_next self.old.machine.local)));
-        }) }
+        ensures { self.new ≡ ue_past_message self.old }
     {
         self.posted = post_left(&self.machine.call(), self.machine.line(), self.posted);
         self.sent = self.sent.saturating_add(1);
@@ -108,9 +100,7 @@ impl<'s, V: Evict> Ue<'s, V> {
     // Goes past the barrier that has ended.
     fn pass_barrier(&mut self)
         requires { IsTrue (is_passable (local_next self.old.machine.local)) }
-        ensures { self.new ≡ at_next_call (record self.old {
-          machine = record self.old.machine { local = after_pass (local_next self.old.machine.local) self.old.machine.local };
-        }) }
+        ensures { self.new ≡ ue_past_barrier self.old }
     {
         self.machine.pass();
         self.enter();
@@ -120,16 +110,96 @@ impl<'s, V: Evict> Ue<'s, V> {
     fn receive(&mut self)
         requires at_receive { IsTrue (is_receiving (local_next self.old.machine.local)) }
         requires room { length_asked (local_next self.old.machine.local) ≤ length self.old.inbox }
-        ensures { self.new ≡ at_next_call (record self.old {
-          machine = record self.old.machine {
-            local = after_take (local_next self.old.machine.local) (take (length_asked (local_next self.old.machine.local)) self.old.inbox)
-                self.old.machine.local;
-          };
-        }) }
+        ensures { self.new ≡ ue_past_receive self.old }
     {
         let len = self.machine.asked();
         self.machine.receive(front_of(self.inbox.as_slice(), len));
         self.enter();
+    }
+
+    // Stops at the receive: a message with another head has come.
+    fn refuse(&mut self, sent: Head)
+        requires { IsTrue (is_receiving (local_next self.old.machine.local)) }
+        ensures { self.new ≡ ue_past_mismatch sent self.old }
+    {
+        self.machine.refuse(sent);
+        self.enter();
+    }
+
+    // What a turn of a send or a post comes to: where that has ended, the UE goes past it.
+    #[inline(always)]
+    fn settle_send(&mut self, answer: Turn) -> Turn
+        requires { IsTrue (is_passable (local_next self.old.machine.local)) }
+        ensures leaves { self.new ≡ ue_after_call ue_past_message answer self.old }
+        ensures tells { result ≡ told_by_call answer }
+    {
+        match answer {
+            Turn::Moved => Turn::Moved,
+            Turn::Waiting(spot) => Turn::Waiting(spot),
+            Turn::Done => {
+                self.pass_message();
+                Turn::Moved
+            }
+        }
+    }
+
+    // What a turn of a receive comes to: where that has ended, the UE goes past it.
+    #[inline(always)]
+    fn settle_receive(&mut self, answer: RecvTurn) -> Turn
+        requires at_receive { IsTrue (is_receiving (local_next self.old.machine.local)) }
+        requires room { length_asked (local_next self.old.machine.local) ≤ length self.old.inbox }
+        ensures leaves { self.new ≡ ue_after_receive answer self.old }
+        ensures tells { result ≡ told_by_receive answer }
+    {
+        match answer {
+            RecvTurn::Moved => Turn::Moved,
+            RecvTurn::Waiting(spot) => Turn::Waiting(spot),
+            RecvTurn::Done => {
+                self.receive();
+                Turn::Moved
+            }
+            RecvTurn::Mismatch(sent) => {
+                self.refuse(sent);
+                Turn::Moved
+            }
+        }
+    }
+
+    // What a turn of a barrier comes to: where that has ended, the UE goes past it.
+    #[inline(always)]
+    fn settle_barrier(&mut self, answer: Turn) -> Turn
+        requires { IsTrue (is_passable (local_next self.old.machine.local)) }
+        ensures leaves { self.new ≡ ue_after_call ue_past_barrier answer self.old }
+        ensures tells { result ≡ told_by_call answer }
+    {
+        match answer {
+            Turn::Moved => Turn::Moved,
+            Turn::Waiting(spot) => Turn::Waiting(spot),
+            Turn::Done => {
+                self.pass_barrier();
+                Turn::Moved
+            }
+        }
+    }
+
+    // Goes on by one turn where no call stands next: one statement of the rank's own, or one turn of the slot.
+    #[inline(always)]
+    fn turn_alone<P: Port>(&mut self, port: &mut P) -> Turn
+        requires tied { Tied self.old (P.sight port.old) }
+        requires alone { self.old.op ≡ Nothing }
+        ensures tied { Tied self.new (P.sight port.new) }
+        ensures turned { UeTurned self.old (P.sight port.old) self.new (P.sight port.new) result }
+        ensures steps { (spot : Spot) → waits_at result ≡ Some spot → MadeSteps P.stepped (P.sight port.old) (P.sight port.new) }
+    {
+        if self.machine.is_going() {
+            self.machine.go();
+            self.enter();
+            return Turn::Moved;
+        }
+        if self.machine.is_stopped() {
+            return Turn::Done;
+        }
+        self.slot.turn(&mut self.core, port)
     }
 
     /// Goes on by one turn: one statement of the rank's own, or one turn of the call that stands next, or of the slot.
@@ -141,50 +211,19 @@ impl<'s, V: Evict> Ue<'s, V> {
         ensures steps { (spot : Spot) → waits_at result ≡ Some spot → MadeSteps P.stepped (P.sight port.old) (P.sight port.new) }
     {
         match &mut self.op {
-            Open::Nothing => {
-                if self.machine.is_going() {
-                    self.machine.go();
-                    self.enter();
-                    return Turn::Moved;
-                }
-                if self.machine.is_stopped() {
-                    return Turn::Done;
-                }
-                self.slot.turn(&mut self.core, port)
-            }
+            Open::Nothing => self.turn_alone(port),
             Open::Sending(op) => {
-                match op.turn(&mut self.core, port, &mut self.slot, self.machine.bytes()) {
-                    Turn::Moved => Turn::Moved,
-                    Turn::Waiting(spot) => Turn::Waiting(spot),
-                    Turn::Done => {
-                        self.pass_message();
-                        Turn::Moved
-                    }
-                }
+                let answer = op.turn(&mut self.core, port, &mut self.slot, self.machine.bytes());
+                self.settle_send(answer)
             }
             Open::Receiving(op) => {
-                match op.turn(&mut self.core, port, self.inbox.as_mut_slice()) {
-                    RecvTurn::Moved => Turn::Moved,
-                    RecvTurn::Waiting(spot) => Turn::Waiting(spot),
-                    RecvTurn::Done => {
-                        self.receive();
-                        Turn::Moved
-                    }
-                    RecvTurn::Mismatch(sent) => {
-                        self.machine.refuse(sent);
-                        self.enter();
-                        Turn::Moved
-                    }
-                }
+                let answer = op.turn(&mut self.core, port, self.inbox.as_mut_slice());
+                self.settle_receive(answer)
             }
-            Open::Meeting(op) => match op.turn(&mut self.core, port, &mut self.parity) {
-                Turn::Moved => Turn::Moved,
-                Turn::Waiting(spot) => Turn::Waiting(spot),
-                Turn::Done => {
-                    self.pass_barrier();
-                    Turn::Moved
-                }
-            },
+            Open::Meeting(op) => {
+                let answer = op.turn(&mut self.core, port, &mut self.parity);
+                self.settle_barrier(answer)
+            }
         }
     }
 }

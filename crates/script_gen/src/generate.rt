@@ -1,6 +1,6 @@
 //! The text of a generated script.
 
-ghost use Rattle.std.specs.Prelude.{◌≡◌, ◌≤◌, IfOk, OnOk, map};
+ghost use Rattle.std.specs.Prelude.{◌≡◌, ◌≢◌, ◌≤◌, ℕ, IfOk, OnOk, map};
 ghost use Rattle.rcce_io.specs.Pieces.{piece_text};
 ghost use Rattle.rcce_io.specs.Sending.{joined_texts, with_text};
 ghost use Rattle.script_gen.specs.Texts.{gen_text, section_text};
@@ -18,16 +18,32 @@ pub fn gen_script(alloc: Global, nue: u8, s: u32) -> Result<Bytes, AllocError>
     requires short { s ≤ 65535 }
     ensures { IfOk result (λ text. text ≡ gen_text nue s) }
 {
-    let mut text = GrowingText::new(alloc);
     if nue == 1 {
-        push_section(&mut text, "even", s, &[], "")?;
-        push_section(&mut text, "odd", s, &[], "")?;
+        write_lone(alloc, s)
     } else {
-        let even = [Text("send +1 h\nrecv -1 g "), Number(s as u64), Text("\n")];
-        let odd = [Text("recv -1 g "), Number(s as u64), Text("\nsend +1 h\n")];
-        push_section(&mut text, "even", s, &even, "print g\n")?;
-        push_section(&mut text, "odd", s, &odd, "print g\n")?;
+        write_ring(alloc, s)
     }
+}
+
+// The script of one rank alone.
+fn write_lone(alloc: Global, s: u32) -> Result<Bytes, AllocError>
+    ensures { IfOk result (λ text. text ≡ gen_text 1 s) }
+{
+    let mut text = GrowingText::new(alloc);
+    push_section(&mut text, "even", s, &[], "")?;
+    push_section(&mut text, "odd", s, &[], "")?;
+    Ok(text.into_bytes())
+}
+
+// The script of more ranks, which are a ring.
+fn write_ring(alloc: Global, s: u32) -> Result<Bytes, AllocError>
+    ensures { (nue : ℕ) → nue ≢ 1 → IfOk result (λ text. text ≡ gen_text nue s) }
+{
+    let even = [Text("send +1 h\nrecv -1 g "), Number(s as u64), Text("\n")];
+    let odd = [Text("recv -1 g "), Number(s as u64), Text("\nsend +1 h\n")];
+    let mut text = GrowingText::new(alloc);
+    push_section(&mut text, "even", s, &even, "print g\n")?;
+    push_section(&mut text, "odd", s, &odd, "print g\n")?;
     Ok(text.into_bytes())
 }
 
