@@ -20,7 +20,7 @@ use Rattle.script_machine.specs.Local.{Local, local_next}
 use Rattle.script_machine.specs.Moves.{bytes_out, is_passable, is_receiving, is_stopped, length_asked, went}
 use Rattle.script_machine.specs.Next.{Next, is_going}
 use Rattle.script_machine.specs.Next.Next.{Ends, Goes, Posts, Sends, Recvs, Bars}
-use Rattle.rcce_ue.specs.Passing.{ue_after_call, ue_after_receive, ue_past_barrier, ue_past_message, ue_past_mismatch, ue_past_receive, told_by_call, told_by_receive}
+use Rattle.rcce_ue.specs.Passing.{ue_after_call, ue_after_receive, ue_past_call, ue_past_mismatch, ue_past_receive, told_by_call, told_by_receive}
 use Rattle.rcce_ue.specs.Standing.{IsBarOf, IsRecvOf, IsSendOf, Tied}
 use Rattle.rcce_ue.specs.Turns.{Turns}
 use Rattle.rcce_ue.specs.Ues.{UeView, at_next_call}
@@ -48,16 +48,16 @@ module _ (ue old now : UeView) (s t : Sight) where
     sending_waited spot is r = carry old (record ue { op = Sending op }) now (record ue { core = d; slot = after; op = Sending next }) s t (turn.Waiting spot) before is tied
         (λ there. send_waited ue s t op there d next after send_stands spot (send_turned (turn.Waiting spot) r))
 
-    pub sending_done : now ≡ ue_past_message (record ue { core = d; slot = after; op = Sending next }) → SendTurned (sending s ue.core op ue.slot bytes) (sending t d next after bytes) turn.Done → Turns old s now t turn.Moved
-    sending_done is r = carry old (record ue { op = Sending op }) now (ue_past_message (record ue { core = d; slot = after; op = Sending next })) s t turn.Moved before is tied
+    pub sending_done : now ≡ ue_past_call (record ue { core = d; slot = after; op = Sending next }) → SendTurned (sending s ue.core op ue.slot bytes) (sending t d next after bytes) turn.Done → Turns old s now t turn.Moved
+    sending_done is r = carry old (record ue { op = Sending op }) now (ue_past_call (record ue { core = d; slot = after; op = Sending next })) s t turn.Moved before is tied
         (λ there. send_done ue s t op there d next after send_stands (send_turned turn.Done r))
 
-    sending_by : (answer : Turn) → now ≡ ue_after_call ue_past_message answer (record ue { core = d; slot = after; op = Sending next }) → SendTurned (sending s ue.core op ue.slot bytes) (sending t d next after bytes) answer → Turns old s now t (told_by_call answer)
+    sending_by : (answer : Turn) → now ≡ ue_after_call answer (record ue { core = d; slot = after; op = Sending next }) → SendTurned (sending s ue.core op ue.slot bytes) (sending t d next after bytes) answer → Turns old s now t (told_by_call answer)
     sending_by turn.Moved is r = sending_moved is r
     sending_by (turn.Waiting spot) is r = sending_waited spot is r
     sending_by turn.Done is r = sending_done is r
 
-    pub sending_turns : (answer told : Turn) → told ≡ told_by_call answer → now ≡ ue_after_call ue_past_message answer (record ue { core = d; slot = after; op = Sending next })
+    pub sending_turns : (answer told : Turn) → told ≡ told_by_call answer → now ≡ ue_after_call answer (record ue { core = d; slot = after; op = Sending next })
         → SendTurned (sending s ue.core op ue.slot bytes) (sending t d next after bytes) answer → Turns old s now t told
     sending_turns answer told tells is r = subst (λ (x : Turn). Turns old s now t x) (sym tells) (sending_by answer is r)
 
@@ -172,16 +172,16 @@ module _ (ue old now : UeView) (s t : Sight) where
     meeting_waited spot is r = carry old (record ue { op = Meeting op }) now (record ue { core = d; parity = values; op = Meeting next }) s t (turn.Waiting spot) before is tied
         (λ there. bar_waited ue s t op there d next values stands spot r)
 
-    pub meeting_done : now ≡ ue_past_barrier (record ue { core = d; parity = values; op = Meeting next }) → BarTurned (meeting s ue.core op ue.parity) (meeting t d next values) turn.Done → Turns old s now t turn.Moved
-    meeting_done is r = carry old (record ue { op = Meeting op }) now (ue_past_barrier (record ue { core = d; parity = values; op = Meeting next })) s t turn.Moved before is tied
+    pub meeting_done : now ≡ ue_past_call (record ue { core = d; parity = values; op = Meeting next }) → BarTurned (meeting s ue.core op ue.parity) (meeting t d next values) turn.Done → Turns old s now t turn.Moved
+    meeting_done is r = carry old (record ue { op = Meeting op }) now (ue_past_call (record ue { core = d; parity = values; op = Meeting next })) s t turn.Moved before is tied
         (λ there. bar_done ue s t op there d next values stands r)
 
-    meeting_by : (answer : Turn) → now ≡ ue_after_call ue_past_barrier answer (record ue { core = d; parity = values; op = Meeting next }) → BarTurned (meeting s ue.core op ue.parity) (meeting t d next values) answer → Turns old s now t (told_by_call answer)
+    meeting_by : (answer : Turn) → now ≡ ue_after_call answer (record ue { core = d; parity = values; op = Meeting next }) → BarTurned (meeting s ue.core op ue.parity) (meeting t d next values) answer → Turns old s now t (told_by_call answer)
     meeting_by turn.Moved is r = meeting_moved is r
     meeting_by (turn.Waiting spot) is r = meeting_waited spot is r
     meeting_by turn.Done is r = meeting_done is r
 
-    pub meeting_turns : (answer told : Turn) → told ≡ told_by_call answer → now ≡ ue_after_call ue_past_barrier answer (record ue { core = d; parity = values; op = Meeting next })
+    pub meeting_turns : (answer told : Turn) → told ≡ told_by_call answer → now ≡ ue_after_call answer (record ue { core = d; parity = values; op = Meeting next })
         → BarTurned (meeting s ue.core op ue.parity) (meeting t d next values) answer → Turns old s now t told
     meeting_turns answer told tells is r = subst (λ (x : Turn). Turns old s now t x) (sym tells) (meeting_by answer is r)
 

@@ -8,19 +8,23 @@ use Rattle.send_recv.specs.declared.answers.RecvTurn.TheVariants as receive
 use Rattle.script_machine.specs.Local.{local_next}
 use Rattle.script_machine.specs.Moves.{after_pass, after_refusal, after_take, bytes_out, length_asked}
 use Rattle.rcce_ue.specs.Ues.{UeView, at_next_call, capped_count, posted_by}
+use Rattle.rcce_ue.specs.declared.calls.Open.{Open}
+use Rattle.rcce_ue.specs.declared.calls.Open.TheVariants.{Nothing, Sending, Receiving, Meeting}
 
--- behind the send or the post that stands next, which is counted
-abbrev pub ue_past_message : UeView → UeView
-ue_past_message ue = at_next_call (record ue {
-  machine = record ue.machine { local = after_pass (local_next ue.machine.local) ue.machine.local };
+-- with the message of the call that stands next, where a send or a post is open: it is counted, and a post is kept
+abbrev pub with_message_sent : Open → UeView → UeView
+with_message_sent Nothing ue = ue
+with_message_sent (Sending op) ue = record ue {
   posted = posted_by (local_next ue.machine.local) ue.posted;
   sent = capped_count (ue.sent + 1);
   sent_bytes = capped_count (ue.sent_bytes + length (bytes_out (local_next ue.machine.local)));
-})
+}
+with_message_sent (Receiving op) ue = ue
+with_message_sent (Meeting op) ue = ue
 
--- behind the barrier that stands next
-abbrev pub ue_past_barrier : UeView → UeView
-ue_past_barrier ue = at_next_call (record ue {
+-- behind the send, the post or the barrier that stands next
+abbrev pub ue_past_call : UeView → UeView
+ue_past_call ue = at_next_call (record (with_message_sent ue.op ue) {
   machine = record ue.machine { local = after_pass (local_next ue.machine.local) ue.machine.local };
 })
 
@@ -38,11 +42,11 @@ ue_past_mismatch sent ue = at_next_call (record ue {
   machine = record ue.machine { local = after_refusal (local_next ue.machine.local) sent ue.machine.local };
 })
 
--- what is left by a turn of a call that has one end
-abbrev pub ue_after_call : (past : UeView → UeView) → Turn → UeView → UeView
-ue_after_call past turn.Moved ue = ue
-ue_after_call past (turn.Waiting spot) ue = ue
-ue_after_call past turn.Done ue = past ue
+-- what is left by a turn of a send, a post or a barrier
+abbrev pub ue_after_call : Turn → UeView → UeView
+ue_after_call turn.Moved ue = ue
+ue_after_call (turn.Waiting spot) ue = ue
+ue_after_call turn.Done ue = ue_past_call ue
 
 -- what is left by a turn of a receive
 abbrev pub ue_after_receive : RecvTurn → UeView → UeView

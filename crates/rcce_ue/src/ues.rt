@@ -70,7 +70,7 @@ impl<'s, V: Evict> Ue<'s, V> {
     ghost use Rattle.put_get.specs.Cores.{MadeSteps};
     ghost use Rattle.sync_flags.specs.Turns.{waits_at};
     ghost use Rattle.script_machine.specs.Moves.{is_passable, is_receiving, length_asked};
-    ghost use Rattle.rcce_ue.specs.Passing.{ue_after_call, ue_after_receive, ue_past_barrier, ue_past_message, ue_past_mismatch, ue_past_receive, told_by_call, told_by_receive};
+    ghost use Rattle.rcce_ue.specs.Passing.{ue_after_call, ue_after_receive, ue_past_call, ue_past_mismatch, ue_past_receive, told_by_call, told_by_receive, with_message_sent};
     ghost use Rattle.rcce_ue.specs.Standing.{Tied};
     ghost use Rattle.rcce_ue.specs.Turns.{UeTurned};
     ghost use Rattle.rcce_ue.specs.Ues.{at_next_call};
@@ -83,25 +83,29 @@ impl<'s, V: Evict> Ue<'s, V> {
         self.op = begin(&self.machine.call());
     }
 
-    // Goes past the send or the post that has ended, and counts it.
-    fn pass_message(&mut self)
-        requires { IsTrue (is_passable (local_next self.old.machine.local)) }
-        ensures { self.new ≡ ue_past_message self.old }
+    // Counts the message that has been sent, where a send or a post is open, and keeps a post.
+    fn count_message(&mut self)
+        ensures { self.new ≡ with_message_sent self.old.op self.old }
     {
-        self.posted = post_left(&self.machine.call(), self.machine.line(), self.posted);
-        self.sent = self.sent.saturating_add(1);
-        self.sent_bytes = self
-            .sent_bytes
-            .saturating_add(self.machine.bytes().len() as u64);
-        self.machine.pass();
-        self.enter();
+        match self.op {
+            Open::Sending(_) => {
+                self.posted = post_left(&self.machine.call(), self.machine.line(), self.posted);
+                self.sent = self.sent.saturating_add(1);
+                self.sent_bytes = self
+                    .sent_bytes
+                    .saturating_add(self.machine.bytes().len() as u64);
+            }
+            Open::Nothing | Open::Receiving(_) | Open::Meeting(_) => {}
+        }
     }
 
-    // Goes past the barrier that has ended.
-    fn pass_barrier(&mut self)
+    // Goes past the send, the post or the barrier that has ended.
+    #[inline(always)]
+    fn pass_call(&mut self)
         requires { IsTrue (is_passable (local_next self.old.machine.local)) }
-        ensures { self.new ≡ ue_past_barrier self.old }
+        ensures { self.new ≡ ue_past_call self.old }
     {
+        self.count_message();
         self.machine.pass();
         self.enter();
     }
@@ -126,18 +130,18 @@ impl<'s, V: Evict> Ue<'s, V> {
         self.enter();
     }
 
-    // What a turn of a send or a post comes to: where that has ended, the UE goes past it.
+    // What a turn of a send, a post or a barrier comes to: where that has ended, the UE goes past it.
     #[inline(always)]
-    fn settle_send(&mut self, answer: Turn) -> Turn
+    fn settle_call(&mut self, answer: Turn) -> Turn
         requires { IsTrue (is_passable (local_next self.old.machine.local)) }
-        ensures leaves { self.new ≡ ue_after_call ue_past_message answer self.old }
+        ensures leaves { self.new ≡ ue_after_call answer self.old }
         ensures tells { result ≡ told_by_call answer }
     {
         match answer {
             Turn::Moved => Turn::Moved,
             Turn::Waiting(spot) => Turn::Waiting(spot),
             Turn::Done => {
-                self.pass_message();
+                self.pass_call();
                 Turn::Moved
             }
         }
@@ -160,23 +164,6 @@ impl<'s, V: Evict> Ue<'s, V> {
             }
             RecvTurn::Mismatch(sent) => {
                 self.refuse(sent);
-                Turn::Moved
-            }
-        }
-    }
-
-    // What a turn of a barrier comes to: where that has ended, the UE goes past it.
-    #[inline(always)]
-    fn settle_barrier(&mut self, answer: Turn) -> Turn
-        requires { IsTrue (is_passable (local_next self.old.machine.local)) }
-        ensures leaves { self.new ≡ ue_after_call ue_past_barrier answer self.old }
-        ensures tells { result ≡ told_by_call answer }
-    {
-        match answer {
-            Turn::Moved => Turn::Moved,
-            Turn::Waiting(spot) => Turn::Waiting(spot),
-            Turn::Done => {
-                self.pass_barrier();
                 Turn::Moved
             }
         }
@@ -214,7 +201,7 @@ impl<'s, V: Evict> Ue<'s, V> {
             Open::Nothing => self.turn_alone(port),
             Open::Sending(op) => {
                 let answer = op.turn(&mut self.core, port, &mut self.slot, self.machine.bytes());
-                self.settle_send(answer)
+                self.settle_call(answer)
             }
             Open::Receiving(op) => {
                 let answer = op.turn(&mut self.core, port, self.inbox.as_mut_slice());
@@ -222,7 +209,7 @@ impl<'s, V: Evict> Ue<'s, V> {
             }
             Open::Meeting(op) => {
                 let answer = op.turn(&mut self.core, port, &mut self.parity);
-                self.settle_barrier(answer)
+                self.settle_call(answer)
             }
         }
     }

@@ -13,11 +13,11 @@ pub returns-in-Sending : goal.returns-in-Sending
 returns-in-Sending g c =
     let b : UeView = record { machine = c.self.inside.machine; core = c.self.inside.core; slot = c.self.inside.slot; parity = c.self.inside.parity; op = c.self.inside.op; inbox = c.self.inside.inbox.items; posted = c.self.inside.posted; sent = c.self.inside.sent; sent_bytes = c.self.inside.sent_bytes } in
     let done = sending_turns b c.args.self.now _ (g.P.Port.sight c.args.port.now) (g.P.Port.sight c.turn-answer.new.port) c.in-Sending.op c.turn-answer.new.self c.turn-answer.new.core c.turn-answer.new.slot c.bytes.result.now
-    (sym c.self.view_is ∙ (λ i. record b { op = c.in-Sending.is i })) c.bytes.ensures c.requires.tied c.turn-answer.ensures.stands c.turn-answer.result c.settle_send.result c.settle_send.ensures.tells c.settle_send.ensures.leaves c.turn-answer.ensures.turned in
-    record { tied = done.tied; turned = done.turned; steps = λ spot is. c.turn-answer.ensures.steps spot (call_waits c.turn-answer.result c.settle_send.result spot c.settle_send.ensures.tells is) }
+    (sym c.self.view_is ∙ (λ i. record b { op = c.in-Sending.is i })) c.bytes.ensures c.requires.tied c.turn-answer.ensures.stands c.turn-answer.result c.settle_call.result c.settle_call.ensures.tells c.settle_call.ensures.leaves c.turn-answer.ensures.turned in
+    record { tied = done.tied; turned = done.turned; steps = λ spot is. c.turn-answer.ensures.steps spot (call_waits c.turn-answer.result c.settle_call.result spot c.settle_call.ensures.tells is) }
 
-pub settle_send-requires : goal.settle_send-requires
-settle_send-requires g c =
+pub settle_call-requires : goal.settle_call-requires
+settle_call-requires g c =
     let b : UeView = record { machine = c.self.inside.machine; core = c.self.inside.core; slot = c.self.inside.slot; parity = c.self.inside.parity; op = c.self.inside.op; inbox = c.self.inside.inbox.items; posted = c.self.inside.posted; sent = c.self.inside.sent; sent_bytes = c.self.inside.sent_bytes } in
     send_passes b c.args.self.now c.args.self.now (g.P.Port.sight c.args.port.now) (g.P.Port.sight c.args.port.now) c.in-Sending.op (sym c.self.view_is ∙ (λ i. record b { op = c.in-Sending.is i })) c.requires.tied
 
@@ -62,10 +62,10 @@ pub returns-in-Meeting : goal.returns-in-Meeting
 returns-in-Meeting g c =
     let b : UeView = record { machine = c.self.inside.machine; core = c.self.inside.core; slot = c.self.inside.slot; parity = c.self.inside.parity; op = c.self.inside.op; inbox = c.self.inside.inbox.items; posted = c.self.inside.posted; sent = c.self.inside.sent; sent_bytes = c.self.inside.sent_bytes } in
     let done = meeting_turns b c.args.self.now _ (g.P.Port.sight c.args.port.now) (g.P.Port.sight c.turn-answer-in-Meeting.new.port) c.in-Meeting.op c.turn-answer-in-Meeting.new.self c.turn-answer-in-Meeting.new.core c.turn-answer-in-Meeting.new.parity
-    (sym c.self.view_is ∙ (λ i. record b { op = c.in-Meeting.is i })) c.requires.tied c.turn-answer-in-Meeting.ensures.stands c.turn-answer-in-Meeting.result c.settle_barrier.result c.settle_barrier.ensures.tells c.settle_barrier.ensures.leaves c.turn-answer-in-Meeting.ensures.turned in
-    record { tied = done.tied; turned = done.turned; steps = λ spot is. c.turn-answer-in-Meeting.ensures.steps spot (call_waits c.turn-answer-in-Meeting.result c.settle_barrier.result spot c.settle_barrier.ensures.tells is) }
+    (sym c.self.view_is ∙ (λ i. record b { op = c.in-Meeting.is i })) c.requires.tied c.turn-answer-in-Meeting.ensures.stands c.turn-answer-in-Meeting.result c.settle_call-in-Meeting.result c.settle_call-in-Meeting.ensures.tells c.settle_call-in-Meeting.ensures.leaves c.turn-answer-in-Meeting.ensures.turned in
+    record { tied = done.tied; turned = done.turned; steps = λ spot is. c.turn-answer-in-Meeting.ensures.steps spot (call_waits c.turn-answer-in-Meeting.result c.settle_call-in-Meeting.result spot c.settle_call-in-Meeting.ensures.tells is) }
 
-pub settle_barrier-requires : goal.settle_barrier-requires
-settle_barrier-requires g c =
+pub settle_call-requires-in-Meeting : goal.settle_call-requires-in-Meeting
+settle_call-requires-in-Meeting g c =
     let b : UeView = record { machine = c.self.inside.machine; core = c.self.inside.core; slot = c.self.inside.slot; parity = c.self.inside.parity; op = c.self.inside.op; inbox = c.self.inside.inbox.items; posted = c.self.inside.posted; sent = c.self.inside.sent; sent_bytes = c.self.inside.sent_bytes } in
     bar_passes b c.args.self.now c.args.self.now (g.P.Port.sight c.args.port.now) (g.P.Port.sight c.args.port.now) c.in-Meeting.op (sym c.self.view_is ∙ (λ i. record b { op = c.in-Meeting.is i })) c.requires.tied
