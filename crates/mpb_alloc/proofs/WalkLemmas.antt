@@ -1,6 +1,7 @@
 -- A walk along a list of runs, place by place.
 use Rattle.std.proofs.Common.{◌≡◌, ℕ, suc, ◌+◌, ◌-◌, ◌<◌, ◌≤◌, true, false, ◌==◌, nat_le, nat_lt, List, ◌∷◌, ◌++◌, Some, length, get_or, take, drop, refl, ap, sym, subst, ◌∙◌, arith, drop-cons, insert, remove, length-append}
 use Rattle.std.proofs.Math.Seq.{take-append_seam, drop-append_seam}
+use Rattle.std.proofs.lemmas.Grind.{common_steps}
 use Rattle.std.proofs.lemmas.List.{length-take, length-drop}
 use Rattle.std.proofs.lemmas.Bool.{le-leb, le-ltb, eq-eqb, ne_eqb, and_from}
 use Rattle.mpb_alloc.specs.declared.heap.Run.{Run}
@@ -15,6 +16,15 @@ pub record Passed (n at : ℕ) (free : List Run) : Type 0 where
   pub fit : lowest_fit n free ≡ lowest_fit n (drop at free)
   pub taken : taken_from n free ≡ take at free ++ taken_from n (drop at free)
   pub within : StandWithin (drop at free)
+
+-- a run that does not fit is passed
+pub passed_one : (n at : ℕ) (free : List Run) (r : Run) → at < length free → r ≡ get_or free at r → Passed n at free
+    → r.lines < n → Passed n (at + 1) free
+passed_one n at free r h e p few = record {
+  fit = grind (arith, common_steps);
+  taken = grind (arith, common_steps);
+  within = grind (arith, common_steps);
+}
 
 -- the run at the place is the lowest that fits
 pub record Fits (n at : ℕ) (free : List Run) (r : Run) : Type 0 where
