@@ -1,16 +1,16 @@
 -- Where a line stands, and what becomes of a cache whose lines stand first among its entries.
-use Rattle.std.proofs.Common.{◌≡◌, ◌≢◌, ℕ, zero, suc, ◌+◌, ◌-◌, ◌<◌, ◌≤◌, Bool, true, false, ◌==◌, List, [], ◌∷◌, ◌++◌, None, Some, length, get_or, take, drop, set, refl, ap, sym, subst, ◌∙◌, arith, slice_get, slice_set, remove, IfSome}
+use Rattle.std.proofs.Common.{◌≡◌, ◌≢◌, ℕ, zero, suc, ◌+◌, ◌-◌, ◌<◌, ◌≤◌, Bool, true, false, ◌==◌, if◌then◌else◌, List, [], ◌∷◌, ◌++◌, None, Some, length, get_or, take, drop, set, refl, ap, sym, subst, ◌∙◌, arith, slice_get, slice_set, remove, IfSome}
 use Rattle.std.specs.List.{copy_within}
 use Rattle.std.proofs.Math.Seq.{take-set-lt}
 use Rattle.std.proofs.lemmas.List.{get_or-take, length-take-le, length-drop, length-set, take_more_set, drop-take}
-use Rattle.std.proofs.lemmas.List.Edits.{take-paste}
+use Rattle.std.proofs.lemmas.List.Edits.{length-remove, take-paste}
 use Rattle.std.proofs.lemmas.Grind.{get_or-set_at}
 use Rattle.std.proofs.lemmas.List.{get_or-set_other}
-use Rattle.std.proofs.lemmas.Bool.{eq-eqb, eqb-true, and_parts, and_from}
+use Rattle.std.proofs.lemmas.Bool.{eq-eqb, ne_eqb, eqb-true, and_parts, and_from}
 use Rattle.scc_base.specs.Places.{LineAt, WordAt, line_of_word, same_line}
 use Rattle.line_cache.specs.declared.cache.Entry.{Entry}
 use Rattle.line_cache.specs.declared.cache.Mark.{Mark}
-use Rattle.line_cache.specs.Lines.{cached_words, lines_with_word, AreDistinct, IsCache, IsMarked, IsPlaceOf, most_lines}
+use Rattle.line_cache.specs.Lines.{cached_words, with_filled_line, lines_with_word, AreDistinct, IsCache, IsMarked, IsPlaceOf, most_lines}
 use Rattle.line_cache.proofs.LineLemmas.{same_line-is, held_at, noted_none, held-push, held-noted, held-remove, cache-noted, cache-remove, cache-push}
 
 same_line-refl : (line : LineAt) → same_line line line ≡ true
@@ -141,3 +141,31 @@ marked_filled es len marks pass k e m room low few at same s h = record {
         elsewhere : (t : Bool) → same_line e.line line ≡ t → same_line e.line line ≡ false
         elsewhere true t = let parts = and_parts (e.line.core == line.core) (e.line.line == line.line) t in absurd (cc (parts.1, q, at))
         elsewhere false f = f
+
+-- the lines after one was brought in behind them: the cache was full and its first line was dropped, or it was not full
+module _ (es was : List Entry) (len : ℕ) (e : Entry) (low : len < length es) where
+  filled : (b : Bool) → take len es ≡ (if b then drop 1 was else was) → (length was == most_lines) ≡ b
+      → take (len + 1) (set es len e) ≡ with_filled_line was e.line e.words
+  filled b now full =
+      take_more_set es len e low ∙ ap (λ (xs : List Entry). xs ++ e ∷ []) (now ∙ ap (λ (a : Bool). if a then drop 1 was else was) (sym full))
+
+  pub filled_full : take len es ≡ remove was 0 → length was ≡ most_lines → take (len + 1) (set es len e) ≡ with_filled_line was e.line e.words
+  filled_full now full = filled true now (eq-eqb (length was) most_lines full)
+
+  pub filled_more : take len es ≡ was → length was ≢ most_lines → take (len + 1) (set es len e) ≡ with_filled_line was e.line e.words
+  filled_more now more = filled false now (ne_eqb (length was) most_lines more)
+
+-- and there was room for it
+module _ (es was : List Entry) (len : ℕ) (few : len ≤ length es) where
+  pub room_full : take len es ≡ remove was 0 → length was ≡ most_lines → len < most_lines
+  room_full now full =
+      let first = len_first es len few in
+      let less = length-remove was 0 (omega (arith, full)) in
+      let same = ap length now in
+      omega (arith, first, less, same, full)
+
+  pub room_more : take len es ≡ was → length was ≤ most_lines → length was ≢ most_lines → len < most_lines
+  room_more now most more =
+      let first = len_first es len few in
+      let same = ap length now in
+      omega (arith, first, same, most, more)
