@@ -5,6 +5,7 @@ use Rattle.std.proofs.Math.Seq.{take-suc}
 use Rattle.scc_base.specs.Places.{LineAt}
 use Rattle.scc_proto.specs.Ports.{Sight, Did, MayMakeAll, record_in}
 use Rattle.scc_proto.proofs.PortLaws.{did_nothing, did_both, may_next}
+use Rattle.put_get.proofs.AccessLemmas.{may_part}
 use Rattle.line_cache.specs.declared.cache.Entry.{Entry}
 use Rattle.write_combine.specs.declared.combiner.Out.{Out}
 use Rattle.write_combine.specs.Combining.{handed_out}
@@ -69,6 +70,27 @@ rest_here : (core line : ℕ) (src : List (List ℕ)) (i : ℕ) (ws : List ℕ) 
     → MayMakeAll t.seat (record_in t) (stores_of_line (whole_line (line_at core (line + i)) ws) ++ put_stores core (line + i + 1) (drop (suc i) src))
 rest_here core line src i ws t h e may =
     subst (λ xs. MayMakeAll t.seat (record_in t) (put_stores core (line + i) xs)) (lines_here src i ws h e) may
+
+-- the stores of the next line may be made once it is written
+pub putting_may : (s : Sight) (c : Private) (core line : ℕ) (src : List (List ℕ)) (i : ℕ) (ws : List ℕ) (t : Sight) (d : Private) (u : Sight) (e : Private)
+    → i < length src → ws ≡ get_or src i [] → Putting s c core line src i t d → WritesLine t d (line_at core (line + i)) ws u e
+    → MayMakeAll u.seat (record_in u) (stores_of e.out)
+putting_may s c core line src i ws t d u e h is p w =
+    let at = line_at core (line + i) in
+    let stores = stores_of_line (whole_line at ws) in
+    let behind = put_stores core (line + i + 1) (drop (suc i) src) in
+    subst (λ (x : Private). MayMakeAll u.seat (record_in u) (stores_of x.out)) (sym w.is)
+    (may_part t [] stores behind u (writes_nothing t d u e at ws p.out w) (rest_here core line src i ws t h is p.rest))
+
+-- while nothing waits
+pub none_waits : (t : Sight) (out : Option Out) → out ≡ None → MayMakeAll t.seat (record_in t) (stores_of out)
+none_waits t out none = subst (λ (o : Option Out). MayMakeAll t.seat (record_in t) (stores_of o)) (sym none) tt
+
+-- all lines were written and stored
+pub putting_all : (s : Sight) (c : Private) (core at line : ℕ) (src : List (List ℕ)) (i : ℕ) (t : Sight) (d : Private) → length src ≤ i → core ≡ at
+    → Putting s c core line src i t d → Puts s c at line src t d
+putting_all s c core at line src i t d end same p =
+    subst (λ (k : ℕ). Puts s c k line src t d) same (subst (λ (xs : List (List ℕ)). Puts s c core line xs t d) (take_all i src end) p.puts)
 
 pub putting_next : (s : Sight) (c : Private) (core line : ℕ) (src : List (List ℕ)) (i : ℕ) (ws : List ℕ) (t : Sight) (d : Private) (u : Sight) (e : Private) (v : Sight) (f : Private)
     → i < length src → ws ≡ get_or src i [] → Putting s c core line src i t d → WritesLine t d (line_at core (line + i)) ws u e → Flushes u e v f
