@@ -19,7 +19,7 @@ use Rattle.tas_lock.proofs.HoldLemmas.{next_tried}
 use Rattle.sync_flags.specs.Flags.{with_bit}
 use Rattle.sync_flags.specs.Tries.{AtRegister, vain_from, vain_tries, TriedInVain}
 use Rattle.sync_flags.specs.Looks.{LooksAt}
-use Rattle.sync_flags.specs.Writes.{vain_takes, change_events, WasLoaded, MayStoreBit, MayWrite, StoresWord, TakesWithin, ChangesBit, TriesChange, RegisterTaken, BitChanged, WritesBit, GivesUp, WritesFlag}
+use Rattle.sync_flags.specs.Writes.{vain_takes, change_events, WasLoaded, MayStoreBit, MayStoreHere, MayWrite, StoresWord, TakesWithin, ChangesBit, TriesChange, RegisterTaken, BitChanged, WritesBit, GivesUp, WritesFlag}
 use Rattle.sync_flags.proofs.HeldLemmas.{holds_load, holds_store}
 use Rattle.sync_flags.proofs.WaitLemmas.{no_stall, stall}
 
@@ -36,6 +36,9 @@ through_stores {s} {t} {c} {d} {p} {v} w empty = record {
   is = w.is ∙ (λ i. record c { lines = lines_with_word c.lines p v; out = sym empty i });
 }
 
+pub through_empties : {s t : Sight} {c d : Private} {p : WordAt} {v : ℕ} → WritesThrough s c p v t d → d.out ≡ None
+through_empties w = ap (λ (x : Private). x.out) w.is
+
 -- ---- a bit under its register
 
 -- the loads of a look were made, and the record is sound after them
@@ -50,7 +53,8 @@ was_loaded {s} {m} {c} {d} {p} r sound =
     }
 
 pub may_change : {s m : Sight} {c d : Private} {p : WordAt} {v : ℕ} → LooksAt s c p v m d → (b : ℕ) (set : Bool) (x : ℕ)
-    → MayStoreBit s.seat (record_in s) [] p b set → IsSoundPort m → x ≡ with_bit b set v → MayMake m.seat (record_in m) (store_of p x)
+    → MayStoreHere s p b set → IsSoundPort m → x ≡ with_bit b set v → MayMake m.seat (record_in m) (store_of p x)
+unfolding MayStoreHere
 may_change {s} {m} {c} {d} {p} {v} r b set x may sound is =
     let loads = loads_of (line_of_word p) r.words in
     let value : with_bit b set (slice_index r.words p.word) ≡ x = ap (λ (w : ℕ). with_bit b set w) (sym r.is) ∙ sym is in
@@ -92,7 +96,8 @@ take_made seat rec core free = record { permitted = free; honest = λ value e. a
 
 -- under the register that was taken the change is permitted
 pub may_under : (s t : Sight) (p : WordAt) (b : ℕ) (set : Bool) → t.seat ≡ s.seat → record_in t ≡ after_try p.core true (record_in s)
-    → MayWrite s.seat (record_in s) p (Some b) set → MayStoreBit t.seat (record_in t) [] p b set
+    → MayWrite s.seat (record_in s) p (Some b) set → MayStoreHere t p b set
+unfolding MayStoreHere
 may_under s t p b set seat holds may =
     let take = take_of p.core true in
     let late : record_in t ≡ record_next s.seat (record_in s) take = holds ∙ sym (next_tried s.seat (record_in s) p.core true may.0) in

@@ -42,6 +42,10 @@ MayStoreBit seat rec before place b set = (words : List ℕ) → WasLoaded seat 
     → MayMake seat (record_on seat rec (before ++ loads_of (line_of_word place) words))
     (store_of place (with_bit b set (slice_index words place.word)))
 
+-- the same at a port: the loads come next, and the store behind them
+unfoldable pub MayStoreHere : Sight → WordAt → ℕ → Bool → Type 0
+MayStoreHere s place b set = MayStoreBit s.seat (record_in s) [] place b set
+
 -- the record permits the one store that a write of the flag makes; for a bit the store comes after the take
 -- of a register that the rank does not hold yet
 abbrev pub MayWrite : Seat → Record → WordAt → Option ℕ → Bool → Type 0

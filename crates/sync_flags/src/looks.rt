@@ -15,7 +15,6 @@ use scc_base::{FlagAt, Place, Rank, Stalled};
 use scc_proto::Port;
 
 /// Looks at a word. The cached lines are dropped first, so the answer is a load's of this call.
-#[tactic(auto, using(crate::proofs::LookLemmas::word_looks))]
 #[inline(always)]
 pub fn look_word<V: Evict, P: Port>(core: &mut Core<V>, port: &mut P, place: Place) -> u64
     requires empty { core.old.out ≡ None }

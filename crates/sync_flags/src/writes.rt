@@ -1,6 +1,6 @@
 //! Writes of flags.
 
-ghost use Rattle.std.specs.Prelude.{◌≡◌, ◌<◌, ◌≤◌, ◌↔◌, ℕ, List, [], None, Some, IsErr, IfSome, is_some, false};
+ghost use Rattle.std.specs.Prelude.{◌≡◌, ◌<◌, ◌≤◌, ◌↔◌, ℕ, List, None, Some, IsErr, IfSome, is_some, false};
 ghost use Rattle.scc_base.specs.Events.{store_of};
 ghost use Rattle.scc_base.specs.declared.events.Event.{Event};
 ghost use Rattle.scc_proto.specs.Ports.{Did, MayMake, record_in};
@@ -8,7 +8,7 @@ ghost use Rattle.put_get.specs.Cores.{MadeSteps};
 ghost use Rattle.tas_lock.specs.Holds.{IsHolding, IsNotHolding, after_try};
 ghost use Rattle.sync_flags.specs.Flags.{flag_of, flag_value, with_bit};
 ghost use Rattle.sync_flags.specs.Tries.{AtRegister, TriedInVain};
-ghost use Rattle.sync_flags.specs.Writes.{MayStoreBit, MayWrite, MayChangeFlag, StoresWord, TakesWithin, ChangesBit, TriesChange, WritesFlag, ChangesFlag};
+ghost use Rattle.sync_flags.specs.Writes.{MayStoreHere, MayWrite, MayChangeFlag, StoresWord, TakesWithin, ChangesBit, TriesChange, WritesFlag, ChangesFlag};
 
 use crate::looks::look_word;
 use line_cache::Evict;
@@ -69,7 +69,7 @@ fn changed(word: u64, bit: u8, set: bool) -> u64
 fn change_bit<V: Evict, P: Port>(core: &mut Core<V>, port: &mut P, place: Place, bit: u8, set: bool)
     requires below { bit < 64 }
     requires empty { core.old.out ≡ None }
-    requires permitted { MayStoreBit (P.sight port.old).seat (record_in (P.sight port.old)) [] place bit set }
+    requires permitted { MayStoreHere (P.sight port.old) place bit set }
     ensures changes { ChangesBit (P.sight port.old) core.old place bit set (P.sight port.new) core.new }
     ensures steps { MadeSteps P.stepped (P.sight port.old) (P.sight port.new) }
     ensures holds { (k : ℕ) → IsHolding (record_in (P.sight port.old)) k → IsHolding (record_in (P.sight port.new)) k }

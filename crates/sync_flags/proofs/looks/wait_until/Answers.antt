@@ -46,6 +46,12 @@ returns-then-flag_read-want-clause-stalls g c =
     λ events did. no_stall tt (AtFlag (flag_of s0.seat.setup s0.seat.rank c.args.f) c.args.f.bit c.args.want) c.args.polls events c.requires.some
     (found_ends finds c.place-place.ensures.below events did)
 
+pub returns-clause-waits : goal.returns-clause-waits
+returns-clause-waits g c =
+    let s0 = g.P.Port.sight c.args.port.now in
+    let all : c.loop.counter ≡ c.args.polls = omega arith in
+    (subst (λ n. LooksInVain s0 c.args.core.now (flag_of s0.seat.setup s0.seat.rank c.args.f) c.args.f.bit c.args.want n (g.P.Port.sight c.loop.port) c.loop.core) all c.loop.invariant.looked, cc)
+
 pub returns-clause-stalls : goal.returns-clause-stalls
 returns-clause-stalls g c =
     let s0 = g.P.Port.sight c.args.port.now in

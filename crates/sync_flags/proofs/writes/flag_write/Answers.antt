@@ -1,10 +1,11 @@
-use Rattle.std.proofs.Common.{◌↔◌, ℕ, IsErr, sym, ◌∙◌, ap, subst}
+use Rattle.std.proofs.Common.{◌↔◌, ℕ, Option, IsErr, sym, ◌∙◌, ap, subst}
 use Rattle.scc_base.specs.Places.{flag_word, WordAt}
 use Rattle.scc_base.specs.Setups.{SetupView, host_of}
 use Rattle.scc_proto.specs.Ports.{record_in}
 use Rattle.tas_lock.specs.Holds.{IsNotHolding}
 use Rattle.sync_flags.specs.Flags.{flag_of}
 use Rattle.sync_flags.specs.Tries.{AtRegister, TriedInVain}
+use Rattle.sync_flags.specs.Writes.{WritesFlag}
 use Rattle.sync_flags.proofs.WaitLemmas.{no_stall}
 use Rattle.sync_flags.proofs.WriteLemmas.{word_no_stall, bit_stalls, no_bit, each_bit}
 use Rattle.sync_flags.proofs.writes.flag_write.Goals as goal
@@ -28,3 +29,12 @@ returns-in-Some-clause-stalls g c = λ events did.
     subst (λ (p : WordAt). IsErr c.write_bit.result ↔ TriedInVain (AtRegister p.core) c.args.polls events)
     (c.place-place.ensures.gives ∙ ap (λ (k : ℕ). flag_word k c.args.f) (c.core_of.ensures.gives ∙ ap (λ (s : SetupView). host_of s.hosts c.args.at) c.setup.ensures.gives))
     (bit_stalls _ _ _ _ c.place-place.result c.in-Some.bit c.args.set c.args.polls c.write_bit.result c.write_bit.ensures.writes c.requires.some events did)
+
+pub returns-in-Some-clause-writes : goal.returns-in-Some-clause-writes
+returns-in-Some-clause-writes g c =
+    let start = g.P.Port.sight c.args.port.now in
+    let end = g.P.Port.sight c.write_bit.new.port in
+    subst (λ (p : WordAt). WritesFlag start c.args.core.now p c.args.f.bit c.args.set c.args.polls end c.write_bit.new.core c.write_bit.result)
+    (c.place-place.ensures.gives ∙ ap (λ (k : ℕ). flag_word k c.args.f) (c.core_of.ensures.gives ∙ ap (λ (s : SetupView). host_of s.hosts c.args.at) c.setup.ensures.gives))
+    (subst (λ (o : Option ℕ). WritesFlag start c.args.core.now c.place-place.result o c.args.set c.args.polls end c.write_bit.new.core c.write_bit.result) (sym c.in-Some.is ∙ c.bit.ensures.gives)
+    c.write_bit.ensures.writes)

@@ -1,11 +1,23 @@
-use Rattle.std.proofs.Common.{ℕ, false, true, ◌∷◌, [], ◌∙◌, ap}
+use Rattle.std.proofs.Common.{ℕ, false, true, ◌∷◌, [], sym, ◌∙◌, ap, subst}
 use Rattle.scc_base.specs.Events.{take_of}
+use Rattle.scc_proto.specs.Stages.{Record}
 use Rattle.scc_proto.specs.Ports.{record_in}
 use Rattle.scc_proto.proofs.PortLaws.{did_both, seat_kept}
 use Rattle.put_get.proofs.StepLemmas.{steps_one, steps_both}
-use Rattle.tas_lock.specs.Holds.{after_try}
-use Rattle.sync_flags.proofs.WriteLemmas.{may_under, bit_missed, bit_tried, still_free, freed_at}
+use Rattle.tas_lock.specs.Holds.{IsHolding, IsNotHolding, after_try}
+use Rattle.sync_flags.proofs.WriteLemmas.{may_under, held_here, bit_missed, bit_tried, still_free, freed_at}
 use Rattle.sync_flags.proofs.writes.try_change_bit.Goals as goal
+
+pub try_acquire-requires : goal.try_acquire-requires
+try_acquire-requires g c = record {
+  not_held = subst (λ (k : ℕ). IsNotHolding (record_in (g.P.Port.sight c.args.port.now)) k) (sym c.core-at.ensures.gives) c.requires.permitted.0;
+}
+
+pub release-requires : goal.release-requires
+release-requires g c = record {
+  held = c.change_bit.ensures.holds c.in-Some.held (subst (λ (rec : Record). IsHolding rec c.in-Some.held) (sym c.in-Some.ensures.holds)
+      (held_here (record_in (g.P.Port.sight c.args.port.now)) c.core-at.result c.in-Some.held c.in-Some.ensures.names));
+}
 
 pub change_bit-requires-clause-permitted : goal.change_bit-requires-clause-permitted
 change_bit-requires-clause-permitted g c =
