@@ -1,7 +1,8 @@
--- Lines of a buffer: the reads of noted words, and the words that a sender has drafted.
+-- Lines of a buffer: the reads of noted words, the words that a sender has drafted, and the bytes that a receiver puts.
 pub mod LineReads
 pub mod NotedReads
 pub mod Sources
+pub mod Puts
 pub mod DraftNone
 pub mod DraftNotes
 pub mod DraftWhole

@@ -15,6 +15,7 @@ use Rattle.send_recv.specs.declared.answers.RecvTurn.{RecvTurn}
 use Rattle.send_recv.specs.declared.answers.RecvTurn.TheVariants as turn
 use Rattle.send_recv.specs.declared.calls.RecvStop.{RecvStop}
 use Rattle.send_recv.specs.declared.calls.RecvStop.TheVariants.{Stalled, Mismatch}
+use Rattle.send_recv.specs.declared.stages.RecvStage.TheVariants.{Look, Header}
 use Rattle.send_recv.specs.Ops.{RecvAt, new_receive}
 use Rattle.send_recv.specs.Receiving.{RecvStands, RecvTurned, IsRecvSpot, recv_spot, recv_waits, lines_left, filled_to}
 use Rattle.send_recv.specs.Calling.{sent_aim, HasNotStalled, Received, RecvStalled, RecvDiffers, RecvStops, FoundFirst, TestEnds}
@@ -174,3 +175,7 @@ pub passed_on : (s : Sight) (c : Private) (op : RecvAt) (bytes : List ℕ) (poll
 passed_on s c op bytes polls t d after stop (Ok found) failed ends = absurd (let f = failed.0 in cc)
 passed_on s c op bytes polls t d after stop (Err other) failed ends =
     subst (λ (x : RecvStop). FoundFirst (sent_aim s.seat op) s t × RecvStops (receiving s c op bytes) polls (with_bytes t d after) x) (sym failed.1) ends
+
+-- another head is found behind the first look only
+pub no_mismatch : (op : RecvAt) → op ≡ new_receive op.from op.head → op.stage ≡ Header → ⊥
+no_mismatch op start header = let look : op.stage ≡ Look = ap (λ (o : RecvAt). o.stage) start in cc (look, header)

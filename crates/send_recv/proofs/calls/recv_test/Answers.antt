@@ -1,4 +1,4 @@
-use Rattle.send_recv.proofs.Loops.TestLemmas.{tested_on, tested_stop, tested_done, passed_on}
+use Rattle.send_recv.proofs.Loops.TestLemmas.{tested_on, tested_stop, tested_done, no_mismatch, passed_on}
 use Rattle.send_recv.proofs.calls.recv_test.Goals as goal
 
 pub returns-in_err-recv-in-Moved : goal.returns-in_err-recv-in-Moved
@@ -15,3 +15,6 @@ pub returns-in_ok-recv-in-Moved : goal.returns-in_ok-recv-in-Moved
 returns-in_ok-recv-in-Moved g c = record {
   ends = tested_on (g.P.Port.sight c.recv.new.port) c.recv.new.core c.recv.new.bytes c.args.polls c.requires.start c.requires.stands c.in-Moved.ensures.stands c.in-Moved.ensures.turned c.in_ok-recv-in-Moved.ensures.ends;
 }
+
+pub returns-in-Mismatch : goal.returns-in-Mismatch
+returns-in-Mismatch g c = absurd (no_mismatch c.args.op c.requires.start c.in-Mismatch.ensures.turned.means.2)

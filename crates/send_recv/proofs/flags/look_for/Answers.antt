@@ -3,7 +3,7 @@ use Rattle.send_recv.proofs.flags.look_for.Goals as goal
 
 -- Answered by name, so that a body which turns this is refused at once, with no search for what else might be written.
 pub returns-then-look_flag-clause-looks : goal.returns-then-look_flag-clause-looks
-returns-then-look_flag-clause-looks g c = search rules
+returns-then-look_flag-clause-looks g c = search rules fits 100
 
 pub returns-else-look_flag-clause-looks : goal.returns-else-look_flag-clause-looks
-returns-else-look_flag-clause-looks g c = search rules
+returns-else-look_flag-clause-looks g c = search rules fits 100

@@ -1,12 +1,12 @@
-use Rattle.std.proofs.Common.{◌≡◌, ◌≢◌, ℕ, ◌+◌, ◌<◌, ◌≤◌, Bool, refl, sym, ◌∙◌, ap, subst, if◌then◌else◌, ne_eqb, lt-ltb, le-ltb, rules}
+use Rattle.std.proofs.Common.{◌≡◌, ◌≢◌, ℕ, ◌+◌, ◌*◌, ◌<◌, ◌≤◌, Bool, refl, sym, ◌∙◌, ap, subst, if◌then◌else◌, ne_eqb, lt-ltb, le-ltb, rules}
 use Rattle.scc_base.specs.Layouts.{chunk_size}
 use Rattle.scc_base.specs.declared.layouts.Layout.{Layout}
 use Rattle.scc_proto.specs.Ports.{Sight}
 use Rattle.put_get.specs.Cores.{Private}
 use Rattle.send_recv.specs.declared.stages.RecvStage.TheVariants.{Lines, Raise}
-use Rattle.send_recv.specs.Chunks.{chunk_lines_of}
+use Rattle.send_recv.specs.Chunks.{chunk_lines_of, chunk_start}
 use Rattle.send_recv.specs.Ops.{RecvAt}
-use Rattle.send_recv.specs.Sights.{chunk_at}
+use Rattle.send_recv.specs.Sights.{chunk_at, first_byte}
 use Rattle.send_recv.specs.Steps.{with_empty_cache, before_line, after_line}
 use Rattle.send_recv.proofs.receives.RecvOp.read_line.Goals.{then-line-eq0, else-line-eq0}
 use Rattle.send_recv.proofs.receives.RecvOp.read_line.Goals as goal
@@ -27,6 +27,13 @@ lines_are s op now len lines layout is told same seen =
     is ∙ ap (λ (l : Layout). chunk_lines_of (chunk_size l) len now.chunk) same ∙ ap (λ (x : ℕ). chunk_lines_of (chunk_at s) x now.chunk) told
     ∙ ap (λ (x : RecvAt). chunk_lines_of (chunk_at s) x.head.len x.chunk) seen
 
+-- where the line stands in the message
+start_is : (s : Sight) (op now : RecvAt) (line start : ℕ) (layout : Layout) → start ≡ chunk_start (chunk_size layout) now.chunk → layout ≡ s.seat.setup.layout → now ≡ op
+    → start + 32 * line ≡ first_byte s op.chunk line
+start_is s op now line start layout is same seen =
+    ap (λ (x : ℕ). x + 32 * line)
+    (is ∙ ap (λ (l : Layout). chunk_start (chunk_size l) now.chunk) same ∙ ap (λ (x : RecvAt). chunk_start (chunk_at s) x.chunk) seen)
+
 more_lines : (size line lines : ℕ) (op now : RecvAt) → lines ≡ chunk_lines_of size op.head.len op.chunk → line + 1 < lines → now ≡ record op { stage = Lines (line + 1) } → now ≡ after_line size line op
 more_lines size line lines op now are more is =
     is ∙ ap (λ (b : Bool). record op { stage = if b then Lines (line + 1) else Raise }) (sym (lt-ltb (line + 1) (chunk_lines_of size op.head.len op.chunk) (subst (λ (x : ℕ). line + 1 < x) are more)))
@@ -42,6 +49,16 @@ returns-then-line-lines_in-clause-reads g c =
       | else-line-eq0 w ↦ at_later c.args.line c.args.core.now _ w.if-line-eq0.false w.core-is
     ] in
     search (rules, before)
+
+pub returns-then-line-lines_in-clause-before : goal.returns-then-line-lines_in-clause-before
+returns-then-line-lines_in-clause-before g c = λ k at.
+    let start = start_is (g.P.Port.sight c.args.port.now) c.args.self.now _ c.args.line c.start_of.result c.layout_of-layout.result c.start_of.ensures.gives c.layout_of-layout.ensures.gives c.self.view_is in
+    c.put_line.ensures.before k (subst (λ (n : ℕ). k < n) (sym start) at)
+
+pub returns-then-line-lines_in-clause-behind : goal.returns-then-line-lines_in-clause-behind
+returns-then-line-lines_in-clause-behind g c = λ k at.
+    let start = start_is (g.P.Port.sight c.args.port.now) c.args.self.now _ c.args.line c.start_of.result c.layout_of-layout.result c.start_of.ensures.gives c.layout_of-layout.ensures.gives c.self.view_is in
+    c.put_line.ensures.behind k (subst (λ (n : ℕ). n + 32 ≤ k) (sym start) at)
 
 pub returns-then-line-lines_in-clause-next : goal.returns-then-line-lines_in-clause-next
 returns-then-line-lines_in-clause-next g c =
@@ -59,6 +76,16 @@ returns-clause-reads g c =
       | else-line-eq0 w ↦ at_later c.args.line c.args.core.now _ w.if-line-eq0.false w.core-is
     ] in
     search (rules, before)
+
+pub returns-clause-before : goal.returns-clause-before
+returns-clause-before g c = λ k at.
+    let start = start_is (g.P.Port.sight c.args.port.now) c.args.self.now _ c.args.line c.start_of.result c.layout_of-layout.result c.start_of.ensures.gives c.layout_of-layout.ensures.gives c.self.view_is in
+    c.put_line.ensures.before k (subst (λ (n : ℕ). k < n) (sym start) at)
+
+pub returns-clause-behind : goal.returns-clause-behind
+returns-clause-behind g c = λ k at.
+    let start = start_is (g.P.Port.sight c.args.port.now) c.args.self.now _ c.args.line c.start_of.result c.layout_of-layout.result c.start_of.ensures.gives c.layout_of-layout.ensures.gives c.self.view_is in
+    c.put_line.ensures.behind k (subst (λ (n : ℕ). n + 32 ≤ k) (sym start) at)
 
 pub returns-clause-next : goal.returns-clause-next
 returns-clause-next g c =
