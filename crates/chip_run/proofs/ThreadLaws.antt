@@ -1,10 +1,13 @@
 -- A round in threads: what each member went through, and what the crew came to.
-use Rattle.std.proofs.Common.{◌≡◌, ℕ, ◌+◌, ◌<◌, ◌≤◌, List, length, slice_index_or, sym, ◌∙◌, ap, subst, arith}
+use Rattle.std.proofs.Common.{◌≡◌, ℕ, ◌+◌, ◌<◌, ◌≤◌, List, length, slice_index_or, refl, sym, ◌∙◌, ap, subst, arith}
 use Rattle.scc_base.specs.Setups.{SetupView}
+use Rattle.scc_base.specs.declared.events.Event.{Event}
+use Rattle.scc_mesh.specs.Spaces.{ChipId}
 use Rattle.scc_mesh.specs.Scenes.{ChipView, IsWhole, about_in, events_in, table_in}
-use Rattle.chip_run.specs.Away.{TookRow}
+use Rattle.chip_run.specs.Away.{IsAway, Served, TookRow}
 use Rattle.chip_run.specs.Conducts.{Conduct}
 use Rattle.chip_run.specs.Crews.{CrewStands, IsCrew}
+use Rattle.chip_run.specs.declared.members.Member.{Member}
 use Rattle.chip_run.proofs.ServedLaws.{sum_later}
 
 module _ {A : Type 0} (c : Conduct A) where
@@ -41,3 +44,29 @@ module _ {A : Type 0} (c : Conduct A) where
           (row_left_less (about_in chip) k (slice_index_or crew k d) (slice_index_or later k d) (goes k d low)));
     };
   }
+
+-- ---- the members of a crew, one after the other
+
+-- none is served yet
+pub none_served : {A : Type 0} (R : ℕ → A → A → Type 0) (crew : List A) → Served R 0 crew crew
+none_served R crew = record { count = refl; done = λ k d low within. absurd (omega (arith, low)); left = λ k d from. refl }
+
+-- all are served
+pub all_served : {A : Type 0} (R : ℕ → A → A → Type 0) (n all : ℕ) (old now : List A) → n ≤ all → all ≤ n → Served R n old now → Served R all old now
+all_served R n all old now low high served = let same : n ≡ all = omega (arith, low, high) in subst (λ (k : ℕ). Served R k old now) same served
+
+-- a rank of a setup that is the same
+pub rank_below : (s t : SetupView) (k n : ℕ) → k < n → n ≡ s.nue → t ≡ s → k < t.nue
+rank_below s t k n low each same = subst (λ (m : ℕ). k < m) (each ∙ ap (λ (x : SetupView). x.nue) (sym same)) low
+
+-- a worker that is tied to its rank's events, or whose rank is away, where nothing changed
+module _ {A : Type 0} (tied : A → SetupView → ℕ → List Event → Type 0) (s t : SetupView) (k : ℕ) (x y : Member A) (about : t ≡ s) (same : y ≡ x) where
+  pub tied_yet : (old now : List Event) → now ≡ old → tied x.worker s k old → tied y.worker t k now
+  tied_yet old now events ties =
+      subst (λ (es : List Event). tied y.worker t k es) (sym events)
+      (subst (λ (r : SetupView). tied y.worker r k old) (sym about) (subst (λ (m : Member A). tied m.worker s k old) (sym same) ties))
+
+  pub away_yet : (old now : ChipId) → now ≡ old → IsAway (tied x.worker) s old k x.token → IsAway (tied y.worker) t now k y.token
+  away_yet old now table away =
+      subst (λ (id : ChipId). IsAway (tied y.worker) t id k y.token) (sym table)
+      (subst (λ (r : SetupView). IsAway (tied y.worker) r old k y.token) (sym about) (subst (λ (m : Member A). IsAway (tied m.worker) s old k m.token) (sym same) away))

@@ -101,6 +101,11 @@ left_on true false all now next before after one sum less same = let e = same re
 left_on false true all now next before after one sum less same = let l = less refl in omega (arith, one, sum, l)
 left_on false false all now next before after one sum less same = let e = same refl in omega (arith, one, sum, e)
 
+-- so it fell where a row went on
+pub left_less : (goes : Bool) (all now : ℕ) → (if goes then 1 else 0) + now ≤ all → goes ≡ true → now < all
+left_less true all now sum so = omega (arith, sum)
+left_less false all now sum so = absurd (cc (so))
+
 module _ {A : Type 0} where
   entry_at : (now : List A) (n k : ℕ) (x d : A) (Q : A → Type 0) → n < length now → (k ≡ n → Q x) → (k ≢ n → Q (slice_index_or now k d)) → Q (slice_index_or (slice_set now n x) k d)
   entry_at now n k x d Q inside here there =

@@ -1,10 +1,60 @@
-use Rattle.std.proofs.Common.{◌≡◌, ℕ, ◌<◌, length, slice_index_or, sym, ◌∙◌, subst}
+use Rattle.std.proofs.Common.{◌≡◌, ℕ, zero, suc, ◌*◌, ◌<◌, ◌≤◌, length, slice_index_or, refl, sym, ◌∙◌, ap, subst, arith}
+use Rattle.std.specs.Int.{div_ceil}
+use Rattle.std.proofs.lemmas.Grind.{div_ceil_times}
 use Rattle.scc_base.specs.Setups.{SetupView}
-use Rattle.scc_mesh.specs.Scenes.{about_in, events_in}
+use Rattle.scc_mesh.specs.Scenes.{about_in, events_in, table_in}
 use Rattle.chip_run.specs.Away.{IsAtHome, TookRow, conduct_of_members}
 use Rattle.chip_run.proofs.MemberLaws.{member_took}
-use Rattle.chip_run.proofs.ThreadLaws.{round_stands, row_between}
+use Rattle.chip_run.proofs.ThreadLaws.{round_stands, row_between, away_yet}
 use Rattle.chip_run.proofs.threads.round_in_threads.Goals as goal
+
+-- so many parts as hold all are some
+some_parts : (all part : ℕ) → 0 < all → 0 < part → 0 < div_ceil all part
+some_parts all part some more = by (div_ceil all part) (div_ceil_times all part more).0
+  where
+    by : (n : ℕ) → all ≤ n * part → 0 < n
+    by zero fits = absurd (omega (arith, some, fits))
+    by (suc n) fits = omega arith
+
+pub div_ceil-requires : goal.div_ceil-requires
+div_ceil-requires g c = subst (λ (n : ℕ). 0 < n) (sym c.div_ceil-each.ensures) (some_parts (length c.args.crew.now) c.args.threads c.requires.some c.requires.threads)
+
+pub words-requires : goal.words-requires
+words-requires g c = record { opened = c.hand_out.ensures.none.opened }
+
+pub all_rows-requires : goal.all_rows-requires
+all_rows-requires g c =
+    let handed = c.hand_out.ensures in
+    let each = subst (λ (n : ℕ). 0 < n) (sym c.div_ceil-each.ensures) (some_parts (length c.args.crew.now) c.args.threads c.requires.some c.requires.threads) in (
+      c.type_bounds.send-W,
+      (
+        c.type_bounds.sync-G,
+        (
+          c.type_bounds.sync-R,
+          (
+            subst (λ (n : ℕ). 0 < n) (sym handed.served.count) c.requires.some,
+            (
+              each,
+              λ i d low.
+                  let within = subst (λ (n : ℕ). i < n) handed.served.count low in
+                  away_yet g.W.Worker.conduct.tied (about_in c.args.chip.now) c.words.result.space.now.about i
+                  (slice_index_or c.hand_out.new.crew i d) (slice_index_or c.hand_out.new.crew i d) (c.words.ensures.about ∙ handed.same.0) refl
+                  (table_in c.args.chip.now) c.words.result.space.now.table (c.words.ensures.table ∙ handed.same.1) (handed.served.done i d within within).1,
+            ),
+          ),
+        ),
+      ),
+    )
+
+pub take_home-requires-clause-each : goal.take_home-requires-clause-each
+take_home-requires-clause-each g c =
+    c.all_rows.auto.crew ∙ c.hand_out.ensures.served.count ∙ c.requires.crew.each ∙ ap (λ (s : SetupView). s.nue) (sym c.hand_out.ensures.same.0)
+
+pub take_home-requires-clause-away : goal.take_home-requires-clause-away
+take_home-requires-clause-away g c = λ i d low.
+    away_yet g.W.Worker.conduct.tied c.words.result.space.now.about (about_in c.hand_out.new.chip) i
+    (slice_index_or c.all_rows.new.crew i d) (slice_index_or c.all_rows.new.crew i d) (sym c.words.ensures.about) refl
+    c.words.result.space.now.table (table_in c.hand_out.new.chip) (sym c.words.ensures.table) (c.all_rows.ensures.away i d (subst (λ (n : ℕ). i < n) c.all_rows.auto.crew low))
 
 pub returns-clause-took : goal.returns-clause-took
 returns-clause-took g c =

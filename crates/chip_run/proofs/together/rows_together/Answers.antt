@@ -3,6 +3,9 @@ use Rattle.chip_run.specs.Away.{IsAway, NoStretch, Stretches}
 use Rattle.chip_run.proofs.TogetherLaws.{stretches_both, took_row}
 use Rattle.chip_run.proofs.together.rows_together.Goals as goal
 
+pub begin_all-requires-clause-away : goal.begin_all-requires-clause-away
+begin_all-requires-clause-away g c = c.requires.away
+
 pub loop-start-init : goal.loop-start-init
 loop-start-init g c = record {
   count = c.begin_all.ensures.served.count;
@@ -14,6 +17,14 @@ loop-start-init g c = record {
       (c.requires.away k d within, NoStretch);
   left = c.begin_all.ensures.served.left;
 }
+
+pub pass-requires-clause-room : goal.pass-requires-clause-room
+pass-requires-clause-room g c = omega (arith, c.requires.room, c.loop-start.invariant.count)
+
+pub pass-requires-clause-away : goal.pass-requires-clause-away
+pass-requires-clause-away g c = λ k d low.
+    let within = subst (λ (n : ℕ). k < n) c.loop-start.invariant.count low in
+    (c.loop-start.invariant.done k d within within).0
 
 pub loop-start-preserved : goal.loop-start-preserved
 loop-start-preserved g c =
@@ -27,6 +38,14 @@ loop-start-preserved g c =
           (step.0, stretches_both g.W.Worker.conduct c.args.words.space.now.about _ _ _ _ 0 _ before.1 _ _ _ step.1);
       left = λ k d past. on.left k d (omega (arith, past, so.count)) ∙ so.left k d past;
     }
+
+pub returns-then-not-pass-clause-count : goal.returns-then-not-pass-clause-count
+returns-then-not-pass-clause-count g c = c.pass.ensures.served.count ∙ c.loop-start.invariant.count
+
+pub returns-then-not-pass-clause-away : goal.returns-then-not-pass-clause-away
+returns-then-not-pass-clause-away g c = λ k d within.
+    let inside = subst (λ (n : ℕ). k < n) (sym c.loop-start.invariant.count) within in
+    (c.pass.ensures.served.done k d inside inside).0
 
 pub returns-then-not-pass-clause-rows : goal.returns-then-not-pass-clause-rows
 returns-then-not-pass-clause-rows g c = λ k d within.
