@@ -42,3 +42,9 @@ module _ (front part rest : List ℕ) (first len : ℕ) (at : length front ≡ f
 
   pub drop_part : drop (first + len) (front ++ (part ++ rest)) ≡ rest
   drop_part = sym (drop-drop len first (front ++ (part ++ rest))) ∙ ap (drop len) (drop_at front (part ++ rest) first at) ∙ drop_at part rest len long
+
+-- a list that was cut there, and behind the part
+pub window_of_parts : (whole front behind part rest : List ℕ) (first len : ℕ) → whole ≡ front ++ behind → behind ≡ part ++ rest
+    → length front ≡ first → length part ≡ len → window first len whole ≡ part
+window_of_parts whole front behind part rest first len cut then at long =
+    ap (window first len) (cut ∙ ap (λ (x : List ℕ). front ++ x) then) ∙ window_part front part rest first len at long
