@@ -7,7 +7,7 @@ use Rattle.script_reader.specs.declared.said.Said.{Said}
 use Rattle.script_rules.specs.declared.version.Version.{Version}
 use Rattle.script_rules.specs.declared.version.Version.TheVariants as version
 use Rattle.script_reader.specs.Counts.{of_five_words, of_four_words, of_six_words, of_three_words, of_two_words}
-use Rattle.script_reader.specs.Said.{hex_print_said, print_said, split_said, typed_print_said, world_split_said}
+use Rattle.script_reader.specs.Said.{hex_print_said, parent_split_said, print_said, split_said, typed_print_said, world_split_said}
 
 pub six-is : {A B : Type 0} (words : List A) (bytes : A → List ℕ) (none : A) (says : List ℕ → List ℕ → List ℕ → List ℕ → List ℕ → List ℕ → Result B FaultKind) (r : Result B FaultKind) → r ≡ says (bytes (get_or words 0 none)) (bytes (get_or words 1 none)) (bytes (get_or words 2 none)) (bytes (get_or words 3 none)) (bytes (get_or words 4 none)) (bytes (get_or words 5 none)) → length words ≡ 6 → r ≡ of_six_words says (map bytes words)
 six-is (a ∷ b ∷ c ∷ d ∷ e ∷ f ∷ []) bytes none says r is long = is
@@ -77,6 +77,14 @@ split-three version.Two (a ∷ []) bytes none r is long = absurd (omega (arith, 
 split-three version.Two (a ∷ b ∷ []) bytes none r is long = absurd (omega (arith, long))
 split-three version.Two (a ∷ b ∷ c ∷ []) bytes none r is long = is
 split-three version.Two (a ∷ b ∷ c ∷ d ∷ words) bytes none r is long = absurd (omega (arith, long))
+
+pub split-five : {A : Type 0} (words : List A) (bytes : A → List ℕ) (none : A) (r : Result Said FaultKind) → r ≡ parent_split_said (bytes (get_or words 0 none)) (bytes (get_or words 1 none)) (bytes (get_or words 2 none)) (bytes (get_or words 3 none)) (bytes (get_or words 4 none)) → length words ≡ 5 → r ≡ split_said version.Two (map bytes words)
+split-five (a ∷ b ∷ c ∷ d ∷ e ∷ []) bytes none r is long = is
+split-five _ bytes none r is long = absurd (omega (arith, long))
+
+pub split-early : {A : Type 0} (words : List A) (bytes : A → List ℕ) → length words ≡ 5 → Err kind.WrongCount ≡ split_said version.One (map bytes words)
+split-early (a ∷ b ∷ c ∷ d ∷ e ∷ []) bytes long = refl
+split-early _ bytes long = absurd (omega (arith, long))
 
 pub split-other : {A : Type 0} (by : Version) (words : List A) (bytes : A → List ℕ) → (length words ≡ 3 → ⊥) → (length words ≡ 5 → ⊥) → Err kind.WrongCount ≡ split_said by (map bytes words)
 split-other version.One [] bytes three five = refl

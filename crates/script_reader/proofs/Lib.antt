@@ -2,6 +2,7 @@ pub mod CountLemmas
 pub mod FaultLemmas
 pub mod RankLemmas
 pub mod ReaderLemmas
+pub mod StopLemmas
 pub mod VersionLemmas
 pub mod CommLemmas
 pub mod WalkLemmas

@@ -1,11 +1,11 @@
 -- What the reader keeps after one more statement.
-use Rattle.std.proofs.Common.{◌≡◌, ℕ, ◌<◌, false, List, [], ◌∷◌, ◌++◌, Option, Some, None, length, get_or, reverse, sym, ap, ◌∙◌, subst}
+use Rattle.std.proofs.Common.{◌≡◌, ℕ, zero, suc, ◌<◌, ◌≤◌, false, List, [], ◌∷◌, ◌++◌, Option, Some, None, arith, length, get_or, refl, reverse, sym, ap, ◌∙◌, subst}
 use Rattle.std.proofs.lemmas.Bool.{ltb-false}
 use Rattle.std.proofs.lemmas.List.{length-reverse, reverse-reverse}
-use Rattle.std.proofs.lemmas.List.Elements.{All-push}
+use Rattle.std.proofs.lemmas.List.Elements.{All-nil, All-push, All-weaker}
 use Rattle.std.specs.Option.{option_map_or}
 use Rattle.std.specs.Prelude.{IfSome}
-use Rattle.scc_base.specs.Communicators.{AreRules, rule_of}
+use Rattle.scc_base.specs.Communicators.{AreRules, IsRule, rule_of}
 use Rattle.scc_base.specs.Setups.{SetupView}
 use Rattle.scc_base.specs.declared.communicators.CommRule.{CommRule}
 use Rattle.scc_base.specs.declared.communicators.CommRule.TheVariants as rule
@@ -13,17 +13,19 @@ use Rattle.scc_base.specs.declared.layouts.Layout.TheVariants as layout
 use Rattle.script_rules.specs.declared.effect.Size.{Size}
 use Rattle.script_rules.specs.declared.effect.Size.TheVariants as sizes
 use Rattle.script_rules.specs.declared.effect.Target.{Target}
+use Rattle.script_rules.specs.declared.effect.Uses.{Uses}
+use Rattle.script_rules.specs.declared.effect.Uses.TheVariants as uses
 use Rattle.script_rules.specs.declared.fault.FaultKind.{FaultKind}
 use Rattle.script_rules.specs.declared.repeats.Open.{Open}
 use Rattle.script_rules.specs.declared.script.Item.{Item}
 use Rattle.script_rules.specs.declared.tally.Tally.{Tally}
 use Rattle.script_rules.specs.Checks.{is_past_most, is_too_deep, is_too_long, is_unknown, open_of, repeats_after, refuses, run_of, some_rank, turns_in}
-use Rattle.script_rules.specs.Effects.{IsSizedBy, comm_needed, effect_of, split_rule}
+use Rattle.script_rules.specs.Effects.{EachUse, IsSizedBy, comm_needed, effect_of, split_rule}
 use Rattle.script_rules.specs.Script.{IsSized, or_rule, rules_of}
 use Rattle.script_rules.specs.declared.version.Version.{Version}
 use Rattle.script_reader.specs.Kept.{IsKept}
 use Rattle.script_rules.specs.Tally.{AreTallies, IsMade, noted_at}
-use Rattle.script_rules.proofs.RuleLemmas.{first_split-more, past-more, run-straight, split-low}
+use Rattle.script_rules.proofs.RuleLemmas.{first_split-more, past-more, run-straight, split-at, split-low}
 use Rattle.script_rules.proofs.SettledLemmas.{made-rule, none-of, settled-push}
 use Rattle.script_rules.proofs.TallyLemmas.{AreTallies-more}
 use Rattle.script_rules.specs.Settled.{AreInLine, ArePassed, HaveRules, IsInLine, IsNamed, IsSettled}
@@ -88,3 +90,60 @@ kept-more version nue items names item run after repeats later tallies noted k k
       ranked = long;
       tallied = subst (λ (past : List Item). AreTallies noted nue past) (sym (past-more items item)) (AreTallies-more tallies noted nue (reverse items) item made k.tallied counted);
     }
+
+uses-named : (few many : ℕ) (used : Uses) → few ≤ many → EachUse (λ u. u.reg < few) used → EachUse (λ u. u.reg < many) used
+uses-named few many uses.Nothing up named = tt
+uses-named few many (uses.One first) up named = omega (arith, up, named)
+uses-named few many (uses.Two first second) up named = (omega (arith, up, named.0), omega (arith, up, named.1))
+
+set-named : (few many : ℕ) (o : Option Target) → few ≤ many → IfSome o (λ target. target.reg < few) → IfSome o (λ target. target.reg < many)
+set-named few many None up named = tt
+set-named few many (Some target) up named = omega (arith, up, named)
+
+-- what is kept of the statements stays so where the names become more
+pub kept-names : (version : Version) (nue : ℕ) (items : List Item) (few many : List (List ℕ)) (run : SetupView) (repeats : List Open) (tallies : List Tally)
+    → length few ≤ length many → IsKept version nue items few run repeats tallies → IsKept version nue items many run repeats tallies
+kept-names version nue items few many run repeats tallies up k = record {
+  some = k.some;
+  most = k.most;
+  sized = k.sized;
+  run_is = k.run_is;
+  repeats_are = k.repeats_are;
+  rules = k.rules;
+  settled = k.settled;
+  have = k.have;
+  low = k.low;
+  passed = k.passed;
+  in_line = k.in_line;
+  named = All-weaker (λ (i : Item). IsNamed (length few) (effect_of i.stmt)) (λ (i : Item). IsNamed (length many) (effect_of i.stmt))
+      (λ i named. (uses-named (length few) (length many) (effect_of i.stmt).uses up named.0, set-named (length few) (length many) (effect_of i.stmt).sets up named.1)) items k.named;
+  ranked = k.ranked;
+  tallied = k.tallied;
+}
+
+-- no split has given a rule
+pub rules-none : AreRules (rules_of [])
+rules-none zero below = refl
+rules-none (suc comm) below = subst (λ (r : CommRule). IsRule (rules_of []) (suc comm) r) (sym (split-at [] (suc comm) (omega arith) below)) (λ is. cc)
+
+-- what is kept of no statements
+pub kept-none : (version : Version) (nue : ℕ) (items : List Item) (names : List (List ℕ)) (run : SetupView) (repeats : List Open) (tallies : List Tally)
+    → 1 ≤ nue → nue ≤ 48 → items ≡ [] → run ≡ run_of nue [] → repeats ≡ [] → length tallies ≡ nue → AreTallies tallies nue []
+    → IsKept version nue items names run repeats tallies
+kept-none version nue items names run repeats tallies some most none straight closed long empty =
+    subst (λ (items : List Item). IsKept version nue items names run repeats tallies) (sym none) (record {
+      some = some;
+      most = most;
+      sized = All-nil (λ (i : Item). IsSized i.stmt);
+      run_is = straight;
+      repeats_are = closed;
+      rules = rules-none;
+      settled = All-nil (IsSettled nue (rules_of []));
+      have = tt;
+      low = λ comm above. refl;
+      passed = tt;
+      in_line = tt;
+      named = All-nil (λ (i : Item). IsNamed (length names) (effect_of i.stmt));
+      ranked = long;
+      tallied = empty;
+    })

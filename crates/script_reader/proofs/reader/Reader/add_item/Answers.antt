@@ -19,6 +19,7 @@ use Rattle.script_rules.specs.Tally.{IsAimed, IsMade, is_new_split, noted_at}
 use Rattle.script_reader.specs.Kept.{IsKept}
 use Rattle.script_reader.proofs.FaultLemmas.{IsSound, no-fault, sound-at, passed-all}
 use Rattle.script_reader.proofs.ReaderLemmas.{kept-more, run-after, run-stays}
+use Rattle.script_reader.proofs.StopLemmas.{none-kept}
 use Rattle.script_rules.proofs.RuleLemmas.{rules-kept, rules-made}
 use Rattle.script_rules.proofs.SettledLemmas.{settled-new}
 use Rattle.script_rules.proofs.TallyLemmas.{written-back}
@@ -119,3 +120,23 @@ invariant_of-self-else-is_split c =
     let had = inside.items.items in
     let same = rules-kept (effect_of c.args.item.stmt).group had c.args.item inside.version inside.nue refl (sound w).unknown (sym (splits w) ∙ c.if-is_split.false) in
     kept w inside.run (run-stays inside.nue had c.args.item inside.run c.self.invariant.run_is same) (subst (λ (r : List CommRule). AreRules r) (sym same) c.self.invariant.rules)
+
+pub invariant_of-self : goal.invariant_of-self
+invariant_of-self c =
+    let inside = c.self.inside in
+    subst (λ (items : List Item). IsKept inside.version inside.nue items inside.names.items inside.run inside.repeats.items inside.tallies.items) (sym c.in_err-push.ensures.items) c.self.invariant
+
+pub returns-in_err-push : goal.returns-in_err-push
+returns-in_err-push c = none-kept c.from_residual.result _ c.from_residual.ensures.0
+
+-- what is read behind the statement
+added : (c : After-note_repeat) → record (before c) { items = c.push.new.self.items } ≡ record c.args.self.now { items = c.args.self.now.items ++ c.args.item ∷ [] }
+added c =
+    ap (λ (p : ReadingSoFar). record p { items = c.push.new.self.items }) c.self.view_is
+    ∙ ap (λ (items : List Item). record c.args.self.now { items = items }) (c.in_ok-push.ensures.items ∙ ap (λ (p : ReadingSoFar). p.items ++ c.args.item ∷ []) c.self.view_is)
+
+pub returns-then-is_split : goal.returns-then-is_split
+returns-then-is_split c = added (goal.at.returns-then-is_split c).After-note_repeat
+
+pub returns-else-is_split : goal.returns-else-is_split
+returns-else-is_split c = added (goal.at.returns-else-is_split c).After-note_repeat
