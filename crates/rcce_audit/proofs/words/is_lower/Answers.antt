@@ -1,0 +1,9 @@
+use Rattle.std.proofs.Common.{rules, tests}
+use Rattle.std.proofs.lemmas.Iterator.{YieldsList-from_slice}
+use Rattle.std.proofs.lemmas.Iterator.Search.{all_from_yields_List}
+use Rattle.rcce_audit.proofs.HexTextLemmas.{lower_byte}
+use Rattle.rcce_audit.proofs.words.is_lower.Goals as goal
+
+-- Answered by name, so that a body which turns this is refused at once, with no search for what else might be written.
+pub returns : goal.returns
+returns c = all_from_yields_List lower_byte _ _ c.all.result c.all.ensures.ran (YieldsList-from_slice c.args.word.now c.iter.ensures.rest) (λ x b q called. search (rules, tests))
