@@ -1,7 +1,7 @@
 -- Lemmas on the lines of a host file, and on lists of cores.
-use Rattle.std.proofs.Common.{◌≡◌, ◌≢◌, ◌+◌, ◌-◌, ◌<◌, ◌≤◌, ◌==◌, ◌∙◌, sym, subst, refl, arith, ℕ, Bool, true, false, ◌||◌, List, [], ◌∷◌, ◌++◌, drop, take, length, eqb, ◌⊎◌, inl, inr, slice_index}
+use Rattle.std.proofs.Common.{◌≡◌, ◌≢◌, ◌+◌, ◌-◌, ◌<◌, ◌≤◌, ◌==◌, ◌∙◌, sym, subst, refl, arith, ℕ, Bool, true, false, ◌||◌, List, [], ◌∷◌, ◌++◌, drop, take, length, eqb, Ok, ◌⊎◌, inl, inr, slice_index}
 use Rattle.std.specs.List.{IsDistinct, after_first, before_first, list_any, position_or_len, slice_split}
-use Rattle.std.proofs.lemmas.Bool.{eq-eqb, eqb-false, eqb-true, lt-ltb}
+use Rattle.std.proofs.lemmas.Bool.{eq-eqb, eqb-false, eqb-true, le-ltb, lt-ltb}
 use Rattle.std.proofs.lemmas.Bool.Decides.{nat_tests}
 use Rattle.std.proofs.lemmas.Cmp.{nat_eq_equiv}
 use Rattle.std.proofs.lemmas.List.{drop_all, get_or_default, length-append, length-drop, take_all}
@@ -13,7 +13,7 @@ use Rattle.std.proofs.lemmas.Map.Keys.{IsDistinct-push, apart_from_distinct}
 use Rattle.std.proofs.lemmas.Map.Steps.{length-le_from_distinct_below}
 use Rattle.scc_base.specs.Setups.{AreApart, host_of}
 use Rattle.rcce_words.specs.Cores.{AreCores, has_core}
-use Rattle.rcce_words.specs.HostFile.{file_lines, host_at, host_list, without_last}
+use Rattle.rcce_words.specs.HostFile.{enough, file_lines, host_at, host_list, most_host_bytes, parse_hosts, read_host_lines, without_last}
 
 abbrev pub is_feed : ℕ → Bool
 is_feed b = b == 10
@@ -98,3 +98,9 @@ hosts_filled nue cores hosts all each = fill_by_all (host_at nue cores) hosts 48
 pub filled_apart : (nue : ℕ) (cores hosts : List ℕ) → length hosts ≡ 48 → ((k : ℕ) → k < 48 → slice_index hosts k ≡ host_at nue cores k)
     → nue ≤ 48 → nue ≤ length cores → AreCores cores → AreApart nue hosts
 filled_apart nue cores hosts all each most enough h = subst (λ (xs : List ℕ). AreApart nue xs) (sym (hosts_filled nue cores hosts all each)) (hosts_apart nue cores most enough h)
+
+-- the hosts of a file with enough cores
+pub hosts_said : (nue : ℕ) (bytes cores hosts : List ℕ) → length bytes ≤ most_host_bytes → read_host_lines 0 [] (file_lines bytes) ≡ Ok cores →
+    nue ≤ length cores → hosts ≡ host_list nue cores → Ok hosts ≡ parse_hosts bytes nue
+hosts_said nue bytes cores hosts few read many is =
+    rw (le-ltb most_host_bytes (length bytes) few, read, le-ltb (length cores) nue many, is) refl

@@ -1,3 +1,4 @@
 mod Examples
 pub mod HostLemmas
+pub mod ScanLemmas
 pub mod ScriptLemmas

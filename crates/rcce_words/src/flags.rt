@@ -24,20 +24,14 @@ pub(crate) enum Flag {
 pub(crate) fn flag_of(word: &str) -> Option<Flag>
     ensures { result ≡ option_named word.now }
 {
-    if word == "-nue" {
-        Some(Flag::Nue)
-    } else if word == "-f" {
-        Some(Flag::Hosts)
-    } else if word == "-evict" {
-        Some(Flag::Evict)
-    } else if word == "-serial" {
-        Some(Flag::Serial)
-    } else if word == "-bits" {
-        Some(Flag::Bits)
-    } else if word == "-gen" {
-        Some(Flag::Gen)
-    } else {
-        None
+    match word {
+        "-nue" => Some(Flag::Nue),
+        "-f" => Some(Flag::Hosts),
+        "-evict" => Some(Flag::Evict),
+        "-serial" => Some(Flag::Serial),
+        "-bits" => Some(Flag::Bits),
+        "-gen" => Some(Flag::Gen),
+        _ => None,
     }
 }
 

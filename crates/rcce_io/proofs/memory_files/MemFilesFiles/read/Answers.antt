@@ -1,12 +1,55 @@
-use Rattle.std.proofs.Common.{◌≡◌, ◌<◌, ◌∙◌, Some, option_map, drop, length, length-append, length-take, ap, sym, rules, arith}
-use Rattle.std.proofs.lemmas.Grind.{common_steps}
+use Rattle.std.proofs.Common.{◌≡◌, ◌∙◌, Bool, Some, option_map, drop, length, length-append, length-take, ap, sym, rules, arith}
+use Rattle.rcce_io.specs.Memory.{after_call}
 use Rattle.rcce_io.specs.MemoryFiles.{contents_at}
-use Rattle.rcce_io.proofs.MemoryLemmas.{contents_at-file, rest-moved}
+use Rattle.rcce_io.proofs.EndLemmas.{at_end, at_some}
+use Rattle.rcce_io.proofs.MemoryLemmas.{contents_at-file, least_first, least_of_room, place_known, place_moved, rest-moved}
+use Rattle.rcce_io.proofs.ReadingLemmas.{front_size}
 use Rattle.rcce_io.proofs.memory_files.MemFilesFiles.read.Goals as goal
+
+pub invariant_of-self : goal.invariant_of-self
+invariant_of-self c = c.self.invariant
+
+pub slice_bounds-rest-count : goal.slice_bounds-rest-count
+slice_bounds-rest-count c =
+    place_known c.self.inside.files.items c.self.inside.place c.in-Some.place c.index.result.now c.deref.result.now c.self.invariant.0 c.in-Some.is c.index.ensures c.deref.ensures.value
+
+pub invariant_of-self-then-len-eq0 : goal.invariant_of-self-then-len-eq0
+invariant_of-self-then-len-eq0 c = c.self.invariant
+
+pub returns-then-len-eq0 : goal.returns-then-len-eq0
+returns-then-len-eq0 c =
+    let place = c.in-Some.place in
+    let within = (c.self.invariant.0 place c.in-Some.is).file in
+    let told = contents_at-file c.self.inside.files.items place.file c.index.result.now within c.index.ensures ∙ sym c.deref.ensures.value in
+    let counted = c.count.ensures ∙ ap (λ (b : Bool). after_call b c.self.inside.calls) c.if-failed.false in
+    let ends = at_end c.self.inside c.count.new.self c.args.self.now place c.deref.result.now (length c.args.buf.now) c.min-room.result c.min-len.result
+    c.self.view_is c.in-Some.is told c.if-failed.ensures counted c.min-room.ensures c.requires.room c.self.invariant.1 c.min-len.ensures c.if-len-eq0.true in
+    record { reads = ends.0; answers = ends.1; state = ends.2 }
+
+pub slice_bounds-copy_from_slice-end : goal.slice_bounds-copy_from_slice-end
+slice_bounds-copy_from_slice-end c = least_of_room c.min-len.result _ c.min-room.result _ _ c.min-len.ensures c.min-room.ensures
+
+pub slice_bounds-copy_from_slice-end-2 : goal.slice_bounds-copy_from_slice-end-2
+slice_bounds-copy_from_slice-end-2 c = front_size c.min-len.result c.args.buf.now (least_of_room c.min-len.result _ c.min-room.result _ _ c.min-len.ensures c.min-room.ensures)
+
+pub slice_bounds-copy_from_slice-end-3 : goal.slice_bounds-copy_from_slice-end-3
+slice_bounds-copy_from_slice-end-3 c = front_size c.min-len.result _ (least_first c.min-len.result _ c.min-room.result c.min-len.ensures)
+
+pub copy_from_slice-requires : goal.copy_from_slice-requires
+copy_from_slice-requires c =
+    sym (front_size c.min-len.result c.args.buf.now (least_of_room c.min-len.result _ c.min-room.result _ _ c.min-len.ensures c.min-room.ensures))
+    ∙ front_size c.min-len.result _ (least_first c.min-len.result _ c.min-room.result c.min-len.ensures)
+
+pub invariant_of-self-2 : goal.invariant_of-self-2
+invariant_of-self-2 c = (
+  place_moved c.self.inside.files.items c.self.inside.place c.in-Some.place c.index.result.now c.deref.result.now c.self.invariant.0 c.in-Some.is c.index.ensures c.deref.ensures.value
+      c.min-len.result c.min-room.result c.min-len.ensures,
+  c.self.invariant.1,
+)
 
 pub returns-clause-reads : goal.returns-clause-reads
 returns-clause-reads c =
-    let within : c.in-Some.place.file < length c.self.inside.files.items = search rules in
+    let within = (c.self.invariant.0 c.in-Some.place c.in-Some.is).file in
     let contents : contents_at c.self.inside.files.items c.in-Some.place.file ≡ c.deref.result.now =
     contents_at-file c.self.inside.files.items c.in-Some.place.file c.index.result.now within c.index.ensures ∙ sym c.deref.ensures.value in
     let was : c.args.self.now.rest ≡ Some (drop c.in-Some.place.at (contents_at c.self.inside.files.items c.in-Some.place.file)) =
@@ -22,9 +65,20 @@ returns-clause-reads c =
       was ∙ ap (λ b. Some b) (rw contents moved),
     )
 
--- Answered by name, so that a body which turns this is refused at once, with no search for what else might be written.
 pub returns-clause-answers : goal.returns-clause-answers
-returns-clause-answers c = grind (arith, common_steps)
+returns-clause-answers c =
+    let place = c.in-Some.place in
+    let within = (c.self.invariant.0 place c.in-Some.is).file in
+    let told = contents_at-file c.self.inside.files.items place.file c.index.result.now within c.index.ensures ∙ sym c.deref.ensures.value in
+    let counted = c.count.ensures ∙ ap (λ (b : Bool). after_call b c.self.inside.calls) c.if-failed.false in
+    (at_some c.self.inside c.count.new.self c.args.self.now place c.deref.result.now (length c.args.buf.now) c.min-room.result c.min-len.result
+    c.self.view_is c.in-Some.is told c.if-failed.ensures counted c.min-room.ensures c.min-len.ensures c.if-len-eq0.false).0
 
 pub returns-clause-state : goal.returns-clause-state
-returns-clause-state c = grind (arith, common_steps)
+returns-clause-state c =
+    let place = c.in-Some.place in
+    let within = (c.self.invariant.0 place c.in-Some.is).file in
+    let told = contents_at-file c.self.inside.files.items place.file c.index.result.now within c.index.ensures ∙ sym c.deref.ensures.value in
+    let counted = c.count.ensures ∙ ap (λ (b : Bool). after_call b c.self.inside.calls) c.if-failed.false in
+    (at_some c.self.inside c.count.new.self c.args.self.now place c.deref.result.now (length c.args.buf.now) c.min-room.result c.min-len.result
+    c.self.view_is c.in-Some.is told c.if-failed.ensures counted c.min-room.ensures c.min-len.ensures c.if-len-eq0.false).1
