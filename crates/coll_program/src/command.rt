@@ -19,19 +19,13 @@ pub struct Job {
 fn more_of(word: &str) -> Option<More>
     ensures gives { result ≡ more_of word.now }
 {
-    if word == "gather" {
-        return Some(More::Gather);
+    match word {
+        "gather" => Some(More::Gather),
+        "scatter" => Some(More::Scatter),
+        "allgather" => Some(More::Allgather),
+        "alltoall" => Some(More::Alltoall),
+        _ => None,
     }
-    if word == "scatter" {
-        return Some(More::Scatter);
-    }
-    if word == "allgather" {
-        return Some(More::Allgather);
-    }
-    if word == "alltoall" {
-        return Some(More::Alltoall);
-    }
-    None
 }
 
 /// What three words ask for.
