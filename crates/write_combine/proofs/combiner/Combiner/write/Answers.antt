@@ -1,4 +1,4 @@
-use Rattle.std.proofs.Common.{arith}
+use Rattle.std.proofs.Common.{arith, rules}
 use Rattle.write_combine.proofs.Masks.{list_any-written}
 use Rattle.write_combine.proofs.combiner.Combiner.write.Goals as goal
 
@@ -7,3 +7,7 @@ invariant_of-self c = list_any-written c.in-Some.out.mask c.from-word.result (le
 
 pub returns-then-is-clause-some_word : goal.returns-then-is-clause-some_word
 returns-then-is-clause-some_word c = invariant_of-self c
+
+-- Answered by name, so that a body which turns this is refused at once, with no search for what else might be written.
+pub returns-clause-out : goal.returns-clause-out
+returns-clause-out c = search rules
