@@ -49,13 +49,13 @@ impl Buffer {
     {
         let waiting = self.room.bytes.len();
         match source.write_to(&mut self.room) {
-            Ok(()) => Ok(()),
+            Ok(()) => return Ok(()),
             Err(WriteFault) => {
                 self.room.bytes.truncate(waiting);
                 self.flush(sink)?;
-                source.write_to(sink)
             }
         }
+        source.write_to(sink)
     }
 
     /// Writes the bytes that wait.
