@@ -1,6 +1,6 @@
 -- A read of the files in memory, at the end of the open one and before it.
-use Rattle.std.proofs.Common.{◌≡◌, ℕ, ◌+◌, ◌-◌, ◌<◌, ◌∙◌, false, List, [], ◌∷◌, length, drop, min, take, refl, ap, arith, subst, sym, Option, Some, IfSome, option_map}
-use Rattle.std.proofs.lemmas.List.{drop-drop, drop_all, drop_min, take_rest}
+use Rattle.std.proofs.Common.{◌≡◌, ℕ, ◌+◌, ◌-◌, ◌<◌, ◌∙◌, false, List, [], length, drop, min, take, refl, ap, arith, subst, sym, Option, Some, IfSome, option_map}
+use Rattle.std.proofs.lemmas.List.{drop-drop, drop_all, drop_min, nil_from_length, take_rest}
 use Rattle.std.proofs.lemmas.Bool.{ne_eqb}
 use Rattle.rcce_io.specs.declared.memory_files.Place.{Place}
 use Rattle.rcce_io.specs.declared.memory_files.MemFiles.TheInside.{Inside}
@@ -16,10 +16,6 @@ with_calls inside calls = record inside { calls = calls }
 abbrev moved_on : Inside → Place → ℕ → Calls → Inside
 moved_on inside place len calls = record inside { place = Some (record { file = place.file; at = place.at + len }); calls = calls }
 
-none-left : (xs : List ℕ) → length xs ≡ 0 → xs ≡ []
-none-left [] none = refl
-none-left (x ∷ xs) none = absurd (omega (arith, none))
-
 -- what such a read does, what it answers and what it leaves
 module _ (inside : Inside) (calls : Calls) (state : FilesState) (place : Place) (bytes : List ℕ) (size room len : ℕ) (seen : files_state_of inside ≡ state)
     (held : inside.place ≡ Some place) (told : contents_at inside.files.items place.file ≡ bytes) (steady : false ≡ fails_next inside.calls)
@@ -27,7 +23,7 @@ module _ (inside : Inside) (calls : Calls) (state : FilesState) (place : Place) 
     (len_is : len ≡ min (length (take (length bytes - place.at) (drop place.at bytes))) room) (none : len ≡ 0) where
   left_is : (files_state_of inside).rest ≡ Some []
   left_is =
-      let empty = none-left (take (length bytes - place.at) (drop place.at bytes)) (omega (arith, room_is, some, pieces, len_is, none)) in
+      let empty = nil_from_length (take (length bytes - place.at) (drop place.at bytes)) (omega (arith, room_is, some, pieces, len_is, none)) in
       ap (option_map (λ p. drop p.at (contents_at inside.files.items p.file))) held ∙ ap (λ (l : List ℕ). Some (drop place.at l)) told ∙ ap Some (rw take_rest at empty)
 
   end_reads : files_seen (files_state_of (with_calls inside calls)) ≡ files_seen state × IfSome state.rest (λ more. more ≡ [])
