@@ -101,6 +101,18 @@ giving_joined first initial run at free other g h e a b =
       bound = omega arith;
     }
 
+-- the run at the place ends before the one on its way back, and stays
+pub giving_passed : (first : Run) (initial : List Run) (run : Run) (at : ℕ) (free : List Run) (other : Run)
+    → Giving first initial run at free → at < length free → other ≡ get_or free at other
+    → other.first ≤ line_behind run → line_behind other < run.first → Giving first initial run (at + 1) free
+giving_passed first initial run at free other g h e a b = record {
+  is = grind (arith, common_steps);
+  within = grind (arith, common_steps);
+  whole = g.whole;
+  room = g.room;
+  bound = omega arith;
+}
+
 -- the buffer at the place is the one
 pub strikes_here : (b : Run) (at : ℕ) (out : List Run) (other : Run) → at < length out → other ≡ get_or out at other
     → b.first ≡ other.first → b.lines ≡ other.lines → without_buffer b out ≡ take at out ++ without_buffer b (drop at out)
