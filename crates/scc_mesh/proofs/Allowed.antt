@@ -91,6 +91,13 @@ module _ {S : Type 0} (s : SetupView) (slots id : ℕ) (me : Me S SeatView) wher
       let kept_now : Kept s (slice_set table.words 0 (slice_index table.words 0)) (slice_set table.views id me.0) = subst (λ (x : List ℕ). Kept s x (slice_set table.views id me.0)) (sym (set-get_or table.words 0 0)) keep in
       (me.0, keeps, tt, kept_now, (subst (λ (x : SetupView). Looked x me.0 me.0) (sym about_is) (record { view = refl; knows = look_tells s table.words table.views kept id me.0 at_id }), refl))
 
+-- what a play of these aims made, in the words of the caller
+pub made_so : {about now : SetupView} {rank r : ℕ} {picked event : ℕ → Event} {old new : SeatView} (n : ℕ) → (about ≡ now) × (rank ≡ r) × (picked ≡ event)
+    → Made about rank old (picked n) new → Made now r old (event n) new
+made_so {now = now} {rank = rank} {r = r} {picked = picked} {old = old} {new = new} n aim made =
+    subst (λ (x : Event). Made now r old x new) (λ i. aim.2 i n)
+    (subst (λ (x : ℕ). Made now x old (picked n) new) aim.1 (subst (λ (x : SetupView). Made x rank old (picked n) new) aim.0 made))
+
 -- ---- an access, by its kind
 
 module _ {S : Type 0} (s now : SetupView) (key : s ≡ now) (slots id : ℕ) (me : Me S SeatView) (about : SetupView) (rank r : ℕ) (picked : ℕ → Event) (access : Access) (place : WordAt) (value : ℕ)
