@@ -1,7 +1,7 @@
-ghost use Rattle.std.specs.Prelude.{◌≡◌, ℕ, List};
-ghost use Rattle.rcce_io.specs.Sending.{Sends};
+ghost use Rattle.std.specs.Prelude.{◌≡◌, ◌∷◌, [], ℕ, List, codes};
+ghost use Rattle.rcce_io.specs.Sending.{Sends, joined_texts};
 ghost use Rattle.outcomes.specs.Complaints.{complaint_outcome};
-ghost use Rattle.outcomes.specs.Outcomes.{words_refused};
+ghost use Rattle.outcomes.specs.Outcomes.{file_refused, words_refused};
 
 use crate::Status;
 use rcce_io::Piece::{Number, Text};
@@ -79,32 +79,48 @@ impl<'a> Complaint<'a> {
                 ],
             ),
             Complaint::Memory => write_texts(sink, &[Text(program), Text(": no memory\n")]),
-            Complaint::Absent(file) => write_texts(
-                sink,
-                &[Text(program), Text(": "), Text(file), Text(": absent\n")],
-            ),
-            Complaint::ReadFault(file) => write_texts(
-                sink,
-                &[
-                    Text(program),
-                    Text(": "),
-                    Text(file),
-                    Text(": read fault\n"),
-                ],
-            ),
-            Complaint::Refused { file, line, kind } => write_texts(
-                sink,
-                &[
-                    Text(program),
-                    Text(": "),
-                    Text(file),
-                    Text(" line "),
-                    Number(line as u64),
-                    Text(": "),
-                    Text(kind),
-                    Text("\n"),
-                ],
-            ),
+            Complaint::Absent(file) => write_file(sink, program, file, ": absent\n"),
+            Complaint::ReadFault(file) => write_file(sink, program, file, ": read fault\n"),
+            Complaint::Refused { file, line, kind } => {
+                write_refused(sink, program, file, line, kind)
+            }
         }
     }
+}
+
+/// Writes the line on a file that was not read.
+fn write_file<'a, S: Sink>(
+    sink: &mut S,
+    program: &'a str,
+    file: &'a str,
+    said: &'a str,
+) -> Result<(), WriteFault>
+    ensures { Sends (joined_texts (program.now ∷ codes ": " ∷ file.now ∷ said.now ∷ [])) (S.seen sink.old) (S.seen sink.new) result }
+{
+    write_texts(sink, &[Text(program), Text(": "), Text(file), Text(said)])
+}
+
+/// Writes the line that refuses a file.
+fn write_refused<'a, S: Sink>(
+    sink: &mut S,
+    program: &'a str,
+    file: &'a str,
+    line: u32,
+    kind: &'a str,
+) -> Result<(), WriteFault>
+    ensures { Sends (file_refused program.now file.now line kind.now).err (S.seen sink.old) (S.seen sink.new) result }
+{
+    write_texts(
+        sink,
+        &[
+            Text(program),
+            Text(": "),
+            Text(file),
+            Text(" line "),
+            Number(line as u64),
+            Text(": "),
+            Text(kind),
+            Text("\n"),
+        ],
+    )
 }

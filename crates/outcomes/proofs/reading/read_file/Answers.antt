@@ -13,6 +13,9 @@ returns-in-Ok-clause-reads g c =
     let short : length c.in-Ok.bytes ≤ c.args.limit = omega (arith, ap length c.as_slice.ensures) in
     reads_short _ _ (g.F.Files.seen c.args.files.now) _ c.in-Ok.bytes c.in-Ok.ensures short
 
+pub returns-in-Ok-clause-within : goal.returns-in-Ok-clause-within
+returns-in-Ok-clause-within g c = omega (arith, ap length c.as_slice.ensures)
+
 pub returns-in-Ok-clause-holds : goal.returns-in-Ok-clause-holds
 returns-in-Ok-clause-holds g c =
     let short : length c.in-Ok.bytes ≤ c.args.limit = omega (arith, ap length c.as_slice.ensures) in
