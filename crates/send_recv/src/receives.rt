@@ -9,7 +9,7 @@ use crate::slices::put_line;
 use crate::stages::RecvStage;
 use line_cache::Evict;
 use put_get::Core;
-use scc_base::{Head, Line, Rank, Signal};
+use scc_base::{Head, Layout, Line, Rank, Signal};
 use scc_proto::Port;
 use std::marker::Model;
 
@@ -33,12 +33,13 @@ impl Model for RecvOp {
 }
 
 impl RecvOp {
-    ghost use Rattle.std.specs.Prelude.{◌≡◌, ◌+◌, ◌≤◌, ◌<◌, ℕ, true, false, None, Some, is_none, length, slice_index, List};
+    ghost use Rattle.std.specs.Prelude.{◌≡◌, ◌+◌, ◌*◌, ◌≤◌, ◌<◌, ℕ, true, false, None, Some, is_none, length, slice_index, List};
     ghost use Rattle.scc_proto.specs.Messages.{Notes};
     ghost use Rattle.scc_proto.specs.Ports.{IsSoundPort, record_in};
     ghost use Rattle.put_get.specs.Cores.{ReadsLine, MadeSteps};
     ghost use Rattle.send_recv.specs.Bytes.{byte_of_line};
-    ghost use Rattle.send_recv.specs.Chunks.{chunk_lines_of};
+    ghost use Rattle.scc_base.specs.Layouts.{chunk_size};
+    ghost use Rattle.send_recv.specs.Chunks.{chunk_lines_of, chunk_start};
     ghost use Rattle.send_recv.specs.Ops.{new_receive};
     ghost use Rattle.send_recv.specs.Receiving.{RecvStands, RecvTurned, recv_spot, recv_waits};
     ghost use Rattle.scc_base.specs.declared.signals.Signal.TheVariants.{Sent, Ready};
@@ -163,8 +164,30 @@ impl RecvOp {
         }
         let at = Line::new(core_of(port, self.from), layout.first_chunk_line() + line);
         let words = core.line_read(port, at);
+        self.take_line(layout, bytes, line, &words)
+    }
+
+    // Puts a line of the chunk into the buffer, and goes on to the next one.
+    #[inline(always)]
+    fn take_line(
+        &mut self,
+        layout: Layout,
+        bytes: &mut [u8],
+        line: u8,
+        words: &[u64; 4],
+    ) -> RecvTurn
+        requires in_chunk { line < chunk_lines_of (chunk_size layout) self.old.head.len self.old.chunk }
+        ensures takes { (k : ℕ) → k < 32 → chunk_start (chunk_size layout) self.old.chunk + 32 * line + k < length bytes.old
+            → slice_index bytes.new (chunk_start (chunk_size layout) self.old.chunk + 32 * line + k) ≡ byte_of_line words.now k }
+        ensures before { (k : ℕ) → k < chunk_start (chunk_size layout) self.old.chunk + 32 * line
+            → slice_index bytes.new k ≡ slice_index bytes.old k }
+        ensures behind { (k : ℕ) → chunk_start (chunk_size layout) self.old.chunk + 32 * line + 32 ≤ k
+            → slice_index bytes.new k ≡ slice_index bytes.old k }
+        ensures next { self.new ≡ after_line (chunk_size layout) line self.old }
+        ensures answers { result ≡ recv_or_waits true (Register 0) }
+    {
         let start = start_of(layout, self.chunk) + 32 * line as usize;
-        put_line(bytes, start, &words);
+        put_line(bytes, start, words);
         if line + 1 < lines_in(layout, self.head.len(), self.chunk) {
             self.stage = RecvStage::Lines(line + 1);
             return RecvTurn::Moved;

@@ -1,0 +1,48 @@
+use Rattle.std.proofs.Common.{◌≡◌, ℕ, ◌+◌, ◌*◌, ◌<◌, ◌≤◌, ◌∙◌, ap, subst, sym, length, slice_index, rules}
+use Rattle.scc_base.specs.Layouts.{chunk_size}
+use Rattle.send_recv.specs.Bytes.{byte_of_line}
+use Rattle.send_recv.specs.Chunks.{chunk_start}
+use Rattle.send_recv.specs.Ops.{RecvAt}
+use Rattle.send_recv.proofs.receives.RecvOp.take_line.Goals as goal
+
+-- Answered by name, so that a body which turns this is refused at once, with no search for what else might be written.
+
+-- where the line stands in the message
+start_is : (size line start : ℕ) (now op : RecvAt) → start ≡ chunk_start size now.chunk → now ≡ op → start + 32 * line ≡ chunk_start size op.chunk + 32 * line
+start_is size line start now op is seen = ap (λ (x : ℕ). x + 32 * line) (is ∙ ap (λ (x : RecvAt). chunk_start size x.chunk) seen)
+
+pub returns-then-line-lines_in-clause-takes : goal.returns-then-line-lines_in-clause-takes
+returns-then-line-lines_in-clause-takes c =
+    subst (λ (x : ℕ). (k : ℕ) → k < 32 → x + k < length c.args.bytes.now → slice_index c.put_line.new.bytes (x + k) ≡ byte_of_line c.args.words.now k)
+    (start_is (chunk_size c.args.layout) c.args.line c.start_of.result _ c.args.self.now c.start_of.ensures.gives c.self.view_is) c.put_line.ensures.put
+
+pub returns-then-line-lines_in-clause-before : goal.returns-then-line-lines_in-clause-before
+returns-then-line-lines_in-clause-before c =
+    let start = start_is (chunk_size c.args.layout) c.args.line c.start_of.result _ c.args.self.now c.start_of.ensures.gives c.self.view_is in
+    λ k at. c.put_line.ensures.before k (subst (λ (x : ℕ). k < x) (sym start) at)
+
+pub returns-then-line-lines_in-clause-behind : goal.returns-then-line-lines_in-clause-behind
+returns-then-line-lines_in-clause-behind c =
+    let start = start_is (chunk_size c.args.layout) c.args.line c.start_of.result _ c.args.self.now c.start_of.ensures.gives c.self.view_is in
+    λ k at. c.put_line.ensures.behind k (subst (λ (x : ℕ). x + 32 ≤ k) (sym start) at)
+
+pub returns-then-line-lines_in-clause-next : goal.returns-then-line-lines_in-clause-next
+returns-then-line-lines_in-clause-next c = search rules
+
+pub returns-clause-takes : goal.returns-clause-takes
+returns-clause-takes c =
+    subst (λ (x : ℕ). (k : ℕ) → k < 32 → x + k < length c.args.bytes.now → slice_index c.put_line.new.bytes (x + k) ≡ byte_of_line c.args.words.now k)
+    (start_is (chunk_size c.args.layout) c.args.line c.start_of.result _ c.args.self.now c.start_of.ensures.gives c.self.view_is) c.put_line.ensures.put
+
+pub returns-clause-before : goal.returns-clause-before
+returns-clause-before c =
+    let start = start_is (chunk_size c.args.layout) c.args.line c.start_of.result _ c.args.self.now c.start_of.ensures.gives c.self.view_is in
+    λ k at. c.put_line.ensures.before k (subst (λ (x : ℕ). k < x) (sym start) at)
+
+pub returns-clause-behind : goal.returns-clause-behind
+returns-clause-behind c =
+    let start = start_is (chunk_size c.args.layout) c.args.line c.start_of.result _ c.args.self.now c.start_of.ensures.gives c.self.view_is in
+    λ k at. c.put_line.ensures.behind k (subst (λ (x : ℕ). x + 32 ≤ k) (sym start) at)
+
+pub returns-clause-next : goal.returns-clause-next
+returns-clause-next c = search rules
