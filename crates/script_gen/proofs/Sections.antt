@@ -1,5 +1,5 @@
 -- The text of a generated script, section by section, as it is written.
-use Rattle.std.proofs.Common.{◌≡◌, ℕ, Bool, true, false, cond, List, [], ◌∷◌, ◌++◌, codes, decimal, refl, sym, ◌∙◌, ap, append_assoc}
+use Rattle.std.proofs.Common.{◌≡◌, ℕ, Bool, true, false, cond, List, [], ◌∷◌, ◌++◌, Result, Ok, Err, OnOk, codes, decimal, refl, sym, ◌∙◌, ap, append_assoc}
 use Rattle.std.proofs.lemmas.Bool.{eq-eqb, ne_eqb}
 use Rattle.std.proofs.lemmas.List.{append-nil}
 use Rattle.rcce_io.specs.Sending.{SinkView, joined_texts, with_text}
@@ -54,24 +54,25 @@ parts : (r f d b m t l e a w p : List ℕ)
 parts r f d b m t l e a w p = simp append_assoc
 
 -- the lines of a section before those of the ring, and behind them
-abbrev pub front_text : List ℕ → ℕ → List ℕ
-front_text ranks s =
-    joined_texts (ranks ∷ codes "\nfill h " ∷ decimal s ∷ codes " " ∷ decimal s ∷ codes "\nrank me long\nrepeat " ∷ decimal (turns_of s) ∷ codes "\n" ∷ [])
+abbrev pub front_of : List ℕ → ℕ → ℕ → List ℕ
+front_of ranks s turns =
+    joined_texts (ranks ∷ codes "\nfill h " ∷ decimal s ∷ codes " " ∷ decimal s ∷ codes "\nrank me long\nrepeat " ∷ decimal turns ∷ codes "\n" ∷ [])
 
 abbrev pub back_text : List ℕ → List ℕ
 back_text shown = joined_texts (codes "allreduce 0 sum long me me\nend\n" ∷ shown ∷ codes "print long me\n" ∷ [])
 
-section_parts : (ranks : List ℕ) (s : ℕ) (exchange shown : List ℕ) → front_text ranks s ++ (exchange ++ back_text shown) ≡ section_text ranks s exchange shown
+section_parts : (ranks : List ℕ) (s : ℕ) (exchange shown : List ℕ) → front_of ranks s (turns_of s) ++ (exchange ++ back_text shown) ≡ section_text ranks s exchange shown
 unfolding section_text
 section_parts ranks s exchange shown =
     parts ranks (codes "\nfill h ") (decimal s) (codes " ") (codes "\nrank me long\nrepeat ") (decimal (turns_of s)) (codes "\n") exchange (codes "allreduce 0 sum long me me\nend\n") shown (codes "print long me\n")
 
 -- a section that was put behind a text in three parts
-pub section_put : (ranks : List ℕ) (s : ℕ) (exchange shown : List ℕ) (old first second third : SinkView)
-    → first ≡ with_text (front_text ranks s) old → second ≡ with_text exchange first → third ≡ with_text (back_text shown) second
-    → third ≡ with_text (section_text ranks s exchange shown) old
-section_put ranks s exchange shown old first second third front more back =
-    text_after old first third (front_text ranks s) (exchange ++ back_text shown) front (text_after first second third exchange (back_text shown) more back)
+pub section_put : {A E : Type 0} (ranks : List ℕ) (s : ℕ) (exchange shown : List ℕ) (old first second third : SinkView) (result : Result A E)
+    → first ≡ with_text (front_of ranks s (turns_of s)) old → second ≡ with_text exchange first → OnOk result (third ≡ with_text (back_text shown) second)
+    → OnOk result (third ≡ with_text (section_text ranks s exchange shown) old)
+section_put ranks s exchange shown old first second third (Err failed) front more back = tt
+section_put ranks s exchange shown old first second third (Ok done) front more back =
+    text_after old first third (front_of ranks s (turns_of s)) (exchange ++ back_text shown) front (text_after first second third exchange (back_text shown) more back)
     ∙ ap (λ (t : List ℕ). with_text t old) (section_parts ranks s exchange shown)
 
 -- the lines of a script, by whether there is one rank alone

@@ -1,9 +1,9 @@
 //! The text of a generated script.
 
-ghost use Rattle.std.specs.Prelude.{◌≡◌, ◌≢◌, ◌≤◌, ℕ, IfOk, OnOk, map};
+ghost use Rattle.std.specs.Prelude.{◌≡◌, ◌≢◌, ◌≤◌, ◌∷◌, [], ℕ, IfOk, OnOk, codes, decimal, map};
 ghost use Rattle.rcce_io.specs.Pieces.{piece_text};
 ghost use Rattle.rcce_io.specs.Sending.{joined_texts, with_text};
-ghost use Rattle.script_gen.specs.Texts.{gen_text, section_text};
+ghost use Rattle.script_gen.specs.Texts.{gen_text, section_text, turns_of};
 
 use rcce_io::Piece::{Number, Text};
 use rcce_io::{GrowingText, Piece};
@@ -59,7 +59,20 @@ fn push_section(
     ensures { OnOk result (text.new
         ≡ with_text (section_text ranks.now s (joined_texts (map piece_text exchange.now)) shown.now) text.old) }
 {
-    let turns = 1 + s % 10;
+    push_front(text, ranks, s)?;
+    text.push(exchange)?;
+    text.push(&[
+        Text("allreduce 0 sum long me me\nend\n"),
+        Text(shown),
+        Text("print long me\n"),
+    ])
+}
+
+/// Puts the first lines of a section behind a text, those before a turn round the ring.
+fn push_front(text: &mut GrowingText, ranks: &'static str, s: u32) -> Result<(), AllocError>
+    ensures { OnOk result (text.new ≡ with_text (joined_texts (ranks.now ∷ codes "\nfill h " ∷ decimal s ∷ codes " " ∷ decimal s
+        ∷ codes "\nrank me long\nrepeat " ∷ decimal (turns_of s) ∷ codes "\n" ∷ [])) text.old) }
+{
     text.push(&[
         Text(ranks),
         Text("\nfill h "),
@@ -67,14 +80,14 @@ fn push_section(
         Text(" "),
         Number(s as u64),
         Text("\nrank me long\nrepeat "),
-        Number(turns as u64),
+        Number(turns_of(s) as u64),
         Text("\n"),
-    ])?;
-    text.push(exchange)?;
-    text.push(&[
-        Text("allreduce 0 sum long me me\nend\n"),
-        Text(shown),
-        Text("print long me\n"),
-    ])?;
-    Ok(())
+    ])
+}
+
+/// How often a generated script goes round the ring.
+fn turns_of(s: u32) -> u32
+    ensures { result ≡ turns_of s }
+{
+    1 + s % 10
 }

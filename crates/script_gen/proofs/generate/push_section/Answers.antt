@@ -6,5 +6,5 @@ use Rattle.script_gen.proofs.generate.push_section.Goals as goal
 
 pub returns : goal.returns
 returns c =
-    section_put c.args.ranks.now c.args.s (joined_texts (map piece_text c.args.exchange.now)) c.args.shown.now c.args.text.now _ _ _
-    c.in_ok-push.ensures c.in_ok-push-2.ensures c.in_ok-push-3.ensures
+    section_put c.args.ranks.now c.args.s (joined_texts (map piece_text c.args.exchange.now)) c.args.shown.now c.args.text.now _ _ _ c.push-2.result
+    c.in_ok-push_front.ensures c.in_ok-push.ensures c.push-2.ensures
