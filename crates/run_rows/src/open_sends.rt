@@ -1,7 +1,7 @@
 //! What a run leaves in the chip's words where the rank that a message is for does not take it.
 
-ghost use Rattle.std.specs.Prelude.{◌≡◌, ◌<◌, IfOk};
-ghost use Rattle.scc_mesh.specs.Scenes.{IsWhole, about_in};
+ghost use Rattle.std.specs.Prelude.{◌≡◌, ◌<◌};
+ghost use Rattle.scc_mesh.specs.Scenes.{IsNew};
 ghost use Rattle.script_rules.specs.Script.{rules_of};
 
 use crate::runs::crew_of;
@@ -16,25 +16,6 @@ use script_reader::read_script;
 use script_rules::Scripts;
 use std::alloc::{AllocError, Global};
 use std::thread::Threads;
-
-/// The chip of a script behind its run.
-fn chip_after<R: Threads + Sync>(
-    rt: &R,
-    alloc: Global,
-    scripts: &Scripts,
-    setup: &Setup,
-    mode: Mode,
-) -> Result<Chip, AllocError>
-    requires ranks { setup.now.nue ≡ scripts.now.nue }
-    requires communicators { setup.now.comms ≡ rules_of scripts.now.items }
-    ensures whole { IfOk result (λ chip. IsWhole chip) }
-    ensures about { IfOk result (λ chip. about_in chip ≡ setup.now) }
-{
-    let mut chip = chip_with(alloc, setup)?;
-    let mut crew = crew_of(alloc, scripts, setup, &Never)?;
-    run(rt, &mut chip, crew.as_mut_slice(), mode, &Open);
-    Ok(chip)
-}
 
 /// What tells of a message of rank 0 to rank 1, and of a call that has it open: the word of the flag `sent` at the core of rank 1 and
 /// that of `ready` at the core of rank 0, the header, and the first word of the bytes.
@@ -55,22 +36,47 @@ fn words_of<P: Port>(port: &mut P) -> [u64; 7]
     ]
 }
 
-/// The values of these words of the chip after a run of a script for two ranks.
+/// The values of these words of a new chip after a run of a script for two ranks.
 fn words_after<R: Threads + Sync>(
+    rt: &R,
+    alloc: Global,
+    chip: &mut Chip,
+    scripts: &Scripts,
+    setup: &Setup,
+    mode: Mode,
+) -> Result<[u64; 7], AllocError>
+    requires new { IsNew setup.now chip.old }
+    requires two { setup.now.nue ≡ 2 }
+    requires ranks { setup.now.nue ≡ scripts.now.nue }
+    requires communicators { setup.now.comms ≡ rules_of scripts.now.items }
+{
+    let mut crew = crew_of(alloc, scripts, setup, &Never)?;
+    run(rt, chip, crew.as_mut_slice(), mode, &Open);
+    chip.known();
+    Ok(words_of(&mut chip.port(Rank::of(0))))
+}
+
+/// Whether it leaves these words in this layout and mode.
+fn leaves_in<R: Threads + Sync>(
     rt: &R,
     alloc: Global,
     scripts: &Scripts,
     layout: Layout,
     mode: Mode,
-) -> Result<Option<[u64; 7]>, AllocError>
+    words: [u64; 7],
+) -> bool
     requires two { scripts.now.nue ≡ 2 }
 {
     let Some(setup) = setup_of(scripts, layout, true) else {
-        return Ok(None);
+        return false;
     };
-    let mut chip = chip_after(rt, alloc, scripts, &setup, mode)?;
-    chip.known();
-    Ok(Some(words_of(&mut chip.port(Rank::of(0)))))
+    match chip_with(alloc, &setup) {
+        Ok(mut chip) => matches!(
+            words_after(rt, alloc, &mut chip, scripts, &setup, mode),
+            Ok(left) if left == words
+        ),
+        Err(_) => false,
+    }
 }
 
 /// Whether a script for two ranks leaves these words in both layouts and modes.
@@ -80,9 +86,8 @@ fn leaves<R: Threads + Sync>(rt: &R, alloc: Global, text: &[u8], words: [u64; 7]
     };
     for layout in &[Layout::LineFlags, Layout::BitFlags] {
         for mode in &[Mode::Serial(1), Mode::Threads] {
-            match words_after(rt, alloc, &scripts, *layout, *mode) {
-                Ok(Some(left)) if left == words => {}
-                _ => return false,
+            if !leaves_in(rt, alloc, &scripts, *layout, *mode, words) {
+                return false;
             }
         }
     }

@@ -12,6 +12,7 @@ use line_cache::{Always, Evict, Never, Seeded};
 use rcce_run::{Crew, run};
 use rcce_ue::Ue;
 use scc_base::{Layout, Rank, Setup};
+use scc_mesh::Chip;
 use script_reader::read_script;
 use script_rules::Scripts;
 use std::alloc::{AllocError, Global};
@@ -83,18 +84,23 @@ pub(crate) fn crew_of<'s, V: PerRank>(
 
 /// Whether the ranks have come to what a row says.
 fn are_as_told<V: Evict + Drop>(crew: &[Crew<'_, V>], row: &Row<'_>) -> bool {
-    for (member, (end, printed)) in crew.iter().zip(row.ranks) {
-        if !is_at(&member.worker, end) || !has_printed(&member.worker, printed) {
+    if crew.len() != row.ranks.len() {
+        return false;
+    }
+    for at in 0..crew.len() {
+        let (end, printed) = &row.ranks[at];
+        if !is_at(&crew[at].worker, end) || !has_printed(&crew[at].worker, printed) {
             return false;
         }
     }
-    crew.len() == row.ranks.len()
+    true
 }
 
-/// Whether a run of a script on a new chip with this setup comes to all that a row says.
+/// Whether a run of a script on this new chip comes to all that a row says.
 fn run_comes_to<V: PerRank + Send, G: Gate + Sync, R: Threads + Sync>(
     rt: &R,
     alloc: Global,
+    chip: &mut Chip,
     scripts: &Scripts,
     setup: &Setup,
     row: &Row<'_>,
@@ -102,16 +108,16 @@ fn run_comes_to<V: PerRank + Send, G: Gate + Sync, R: Threads + Sync>(
     mode: Mode,
     gate: &G,
 ) -> Result<bool, AllocError>
+    requires new { IsNew setup.now chip.old }
     requires ranks { setup.now.nue ≡ scripts.now.nue }
     requires communicators { setup.now.comms ≡ rules_of scripts.now.items }
 {
-    let mut chip = chip_with(alloc, setup)?;
     let mut crew = crew_of(alloc, scripts, setup, like)?;
-    let end = run(rt, &mut chip, crew.as_mut_slice(), mode, gate);
+    let end = run(rt, chip, crew.as_mut_slice(), mode, gate);
     Ok(end == row.end && are_as_told(crew.as_slice(), row))
 }
 
-/// Whether a run of a script in this layout does.
+/// Whether a run of a script on a new chip in this layout does.
 fn script_comes_to<V: PerRank + Send, G: Gate + Sync, R: Threads + Sync>(
     rt: &R,
     alloc: Global,
@@ -122,12 +128,15 @@ fn script_comes_to<V: PerRank + Send, G: Gate + Sync, R: Threads + Sync>(
     mode: Mode,
     gate: &G,
 ) -> bool {
-    match setup_of(scripts, layout, false) {
-        Some(setup) => matches!(
-            run_comes_to(rt, alloc, scripts, &setup, row, like, mode, gate),
+    let Some(setup) = setup_of(scripts, layout, false) else {
+        return false;
+    };
+    match chip_with(alloc, &setup) {
+        Ok(mut chip) => matches!(
+            run_comes_to(rt, alloc, &mut chip, scripts, &setup, row, like, mode, gate),
             Ok(true)
         ),
-        None => false,
+        Err(_) => false,
     }
 }
 

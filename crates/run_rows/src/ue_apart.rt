@@ -1,12 +1,10 @@
 //! Messages between two ranks whose turns are taken in threads of their own.
 
-ghost use Rattle.std.specs.Prelude.{◌≡◌, ◌<◌, ◌≤◌, ℕ, List, [], length, slice_index_or};
+ghost use Rattle.std.specs.Prelude.{◌≡◌, ◌<◌, ◌≤◌, ℕ, List, [], IfOk, length, slice_index_or};
 ghost use Rattle.scc_base.specs.declared.events.Event.{Event};
 ghost use Rattle.scc_proto.specs.Ports.{Did};
 ghost use Rattle.scc_mesh.specs.Scenes.{IsNew, about_in};
 ghost use Rattle.script_rules.specs.Script.{rules_of};
-ghost use Rattle.rcce_ue.specs.Standing.{Tied};
-ghost use Rattle.chip_teams.specs.Teams.{sight_alone};
 ghost use Rattle.run_rows.specs.AwayPlayers.{StandsAway};
 
 use crate::evictors::Fresh;
@@ -144,15 +142,26 @@ impl<'s, V: Evict + Drop> Finishes for Runner<'s, V> {
     }
 }
 
-// The two ranks of a new chip after `count` rounds.
-fn both_after<M: Player + Drop + Send, R: Threads + Sync>(
+// Whether two ranks have finished, the second with a message of this length.
+fn have_finished<M: Player + Finishes + Drop>(ranks: &[Apart<M>], len: u16) -> bool {
+    match ranks {
+        [sender, receiver] => {
+            sender.player.has_finished(&[]) && receiver.player.has_finished(&[len])
+        }
+        _ => false,
+    }
+}
+
+// Whether the two ranks of a new chip finish, the second with a message of this length. In each round one of the two can
+// move, also where no thread can be had and they take their turns one after the other.
+fn both_finish<M: Player + Finishes + Drop + Send, R: Threads + Sync>(
     rt: &R,
     alloc: Global,
     chip: &mut Chip,
     first: M,
     second: M,
-    count: usize,
-) -> Result<Vec<Apart<M>>, AllocError>
+    len: u16,
+) -> Result<bool, AllocError>
     requires new { IsNew (about_in chip.old) chip.old }
     requires ranks { 2 ≤ (about_in chip.old).nue }
     requires first { M.stands first (about_in chip.old) 0 [] }
@@ -170,59 +179,30 @@ fn both_after<M: Player + Drop + Send, R: Threads + Sync>(
         token: Some(receiver),
         player: second,
     })?;
+    let count = 2 * (len as usize / 32) + 60;
     rounds(rt, words, ranks.as_mut_slice(), count);
-    Ok(ranks)
+    Ok(have_finished(ranks.as_slice(), len))
 }
 
-// Whether two ranks have finished, the second with a message of this length.
-fn have_finished<M: Player + Finishes + Drop>(ranks: &[Apart<M>], len: u16) -> bool {
-    match ranks {
-        [sender, receiver] => {
-            sender.player.has_finished(&[]) && receiver.player.has_finished(&[len])
-        }
-        _ => false,
-    }
-}
-
-// Whether the two ranks of a chip with this setup finish, the second with a message of this length. In each round one of
-// the two can move, also where no thread can be had and they take their turns one after the other.
+// Whether two ranks finish so on a new chip with this setup.
 fn arrives_with<M: Player + Finishes + Drop + Send, R: Threads + Sync>(
     rt: &R,
     alloc: Global,
     setup: &Setup,
-    first: M,
-    second: M,
+    first: Result<M, AllocError>,
+    second: Result<M, AllocError>,
     len: u16,
 ) -> Result<bool, AllocError>
     requires ranks { 2 ≤ setup.now.nue }
-    requires first { M.stands first setup.now 0 [] }
-    requires second { M.stands second setup.now 1 [] }
+    requires first { IfOk first (λ m. M.stands m setup.now 0 []) }
+    requires second { IfOk second (λ m. M.stands m setup.now 1 []) }
 {
+    let (first, second) = (first?, second?);
     let mut chip = chip_with(alloc, setup)?;
-    let count = 2 * (len as usize / 32) + 60;
-    let ranks = both_after(rt, alloc, &mut chip, first, second, count)?;
-    Ok(have_finished(ranks.as_slice(), len))
+    both_finish(rt, alloc, &mut chip, first, second, len)
 }
 
-// Whether a message of this length arrives from this rank of a script for two.
-fn arrives_from<'s, V: Fresh + Send, R: Threads + Sync>(
-    rt: &R,
-    alloc: Global,
-    scripts: &'s Scripts,
-    setup: &Setup,
-    first: Runner<'s, V>,
-    len: u16,
-) -> Result<bool, AllocError>
-    requires two { setup.now.nue ≡ 2 }
-    requires ranks { setup.now.nue ≡ scripts.now.nue }
-    requires communicators { setup.now.comms ≡ rules_of scripts.now.items }
-    requires first { Tied first.ue (sight_alone setup.now 0 []) }
-{
-    let second = runner_of(alloc, scripts, setup, 1)?;
-    arrives_with(rt, alloc, setup, first, second, len)
-}
-
-// Whether it arrives by the script, on a chip with this setup.
+// Whether a message of this length arrives by a script for two, on a chip with this setup.
 fn arrives_on<V: Fresh + Send, R: Threads + Sync>(
     rt: &R,
     alloc: Global,
@@ -234,8 +214,9 @@ fn arrives_on<V: Fresh + Send, R: Threads + Sync>(
     requires ranks { setup.now.nue ≡ scripts.now.nue }
     requires communicators { setup.now.comms ≡ rules_of scripts.now.items }
 {
-    let first = runner_of::<V>(alloc, scripts, setup, 0)?;
-    arrives_from(rt, alloc, scripts, setup, first, len)
+    let first = runner_of::<V>(alloc, scripts, setup, 0);
+    let second = runner_of::<V>(alloc, scripts, setup, 1);
+    arrives_with(rt, alloc, setup, first, second, len)
 }
 
 // Whether it arrives in this layout.

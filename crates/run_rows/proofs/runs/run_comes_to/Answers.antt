@@ -7,8 +7,8 @@ use Rattle.run_rows.proofs.runs.run_comes_to.Goals as goal
 pub run-end-requires-clause-fresh : goal.run-end-requires-clause-fresh
 run-end-requires-clause-fresh g c =
     let script = c.args.scripts.now in
-    let chip = c.in_ok-chip.chip in
+    let chip = c.args.chip.now in
     λ lifetimes outlive. (
       script,
-      subst (λ (crew : List (Member UeView)). IsFreshCrew script chip crew) (sym c.as_mut_slice.ensures.value) (c.in_ok-crew.ensures.fresh chip c.in_ok-chip.ensures.new),
+      subst (λ (crew : List (Member UeView)). IsFreshCrew script chip crew) (sym c.as_mut_slice.ensures.value) (c.in_ok-crew.ensures.fresh chip c.requires.new),
     )
