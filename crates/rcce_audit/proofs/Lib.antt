@@ -7,6 +7,7 @@ pub mod ReadingLemmas
 pub mod SizeLemmas
 pub mod StandingLemmas
 pub mod StepLemmas
+pub mod TableLemmas
 pub mod TextLemmas
 pub mod ThreeWords
 pub mod VerdictLemmas
