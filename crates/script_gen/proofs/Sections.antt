@@ -4,7 +4,7 @@ use Rattle.std.proofs.lemmas.Bool.{eq-eqb, ne_eqb}
 use Rattle.std.proofs.lemmas.List.{append-nil}
 use Rattle.rcce_io.specs.Sending.{SinkView, joined_texts, with_text}
 use Rattle.rcce_io.proofs.SendingLemmas.{text_after}
-use Rattle.script_gen.specs.Texts.{fill_line, gen_text, recv_line, section_text, send_line, text_of_lines, turns_of}
+use Rattle.script_gen.specs.Texts.{back_text, fill_line, front_text, gen_text, recv_line, section_text, send_line, text_of_lines, turns_of}
 
 pub text_append : (xs ys : List (List ℕ)) → text_of_lines (xs ++ ys) ≡ text_of_lines xs ++ text_of_lines ys
 text_append [] ys = refl
@@ -40,40 +40,28 @@ tail_lines exchange shown =
 abbrev section_of : List ℕ → ℕ → List (List ℕ) → List (List ℕ) → List (List ℕ)
 section_of ranks s exchange shown = ranks ∷ fill_line s ∷ codes "rank me long" ∷ (codes "repeat " ++ decimal (turns_of s)) ∷ tail_of exchange shown
 
+parts : (r f d b m t l e a w p : List ℕ)
+    → r ++ (f ++ (d ++ (b ++ (d ++ (m ++ (t ++ (l ++ (e ++ (a ++ (w ++ p))))))))))
+    ≡ (r ++ (f ++ (d ++ (b ++ (d ++ (m ++ (t ++ l))))))) ++ (e ++ (a ++ (w ++ p)))
+parts r f d b m t l e a w p = simp append_assoc
+
 section_is : (ranks : List ℕ) (s : ℕ) (exchange shown : List (List ℕ)) → text_of_lines (section_of ranks s exchange shown) ≡ section_text ranks s (text_of_lines exchange) (text_of_lines shown)
 unfolding section_text
 section_is ranks s exchange shown =
     head_lines ranks (decimal s) (decimal (turns_of s)) (tail_of exchange shown)
     ∙ ap (λ (t : List ℕ). ranks ++ (codes "\nfill h " ++ (decimal s ++ (codes " " ++ (decimal s ++ (codes "\nrank me long\nrepeat " ++ (decimal (turns_of s) ++ (codes "\n" ++ t))))))))
     (tail_lines exchange shown)
-
--- a section as it is put behind a text
-parts : (r f d b m t l e a w p : List ℕ)
-    → (r ++ (f ++ (d ++ (b ++ (d ++ (m ++ (t ++ l))))))) ++ (e ++ (a ++ (w ++ p)))
-    ≡ r ++ (f ++ (d ++ (b ++ (d ++ (m ++ (t ++ (l ++ (e ++ (a ++ (w ++ p))))))))))
-parts r f d b m t l e a w p = simp append_assoc
-
--- the lines of a section before those of the ring, and behind them
-abbrev pub front_of : List ℕ → ℕ → ℕ → List ℕ
-front_of ranks s turns =
-    joined_texts (ranks ∷ codes "\nfill h " ∷ decimal s ∷ codes " " ∷ decimal s ∷ codes "\nrank me long\nrepeat " ∷ decimal turns ∷ codes "\n" ∷ [])
-
-abbrev pub back_text : List ℕ → List ℕ
-back_text shown = joined_texts (codes "allreduce 0 sum long me me\nend\n" ∷ shown ∷ codes "print long me\n" ∷ [])
-
-section_parts : (ranks : List ℕ) (s : ℕ) (exchange shown : List ℕ) → front_of ranks s (turns_of s) ++ (exchange ++ back_text shown) ≡ section_text ranks s exchange shown
-unfolding section_text
-section_parts ranks s exchange shown =
-    parts ranks (codes "\nfill h ") (decimal s) (codes " ") (codes "\nrank me long\nrepeat ") (decimal (turns_of s)) (codes "\n") exchange (codes "allreduce 0 sum long me me\nend\n") shown (codes "print long me\n")
+    ∙ parts ranks (codes "\nfill h ") (decimal s) (codes " ") (codes "\nrank me long\nrepeat ") (decimal (turns_of s)) (codes "\n") (text_of_lines exchange)
+    (codes "allreduce 0 sum long me me\nend\n") (text_of_lines shown) (codes "print long me\n")
 
 -- a section that was put behind a text in three parts
 pub section_put : {A E : Type 0} (ranks : List ℕ) (s : ℕ) (exchange shown : List ℕ) (old first second third : SinkView) (result : Result A E)
-    → first ≡ with_text (front_of ranks s (turns_of s)) old → second ≡ with_text exchange first → OnOk result (third ≡ with_text (back_text shown) second)
+    → first ≡ with_text (front_text ranks s (turns_of s)) old → second ≡ with_text exchange first → OnOk result (third ≡ with_text (back_text shown) second)
     → OnOk result (third ≡ with_text (section_text ranks s exchange shown) old)
+unfolding section_text
 section_put ranks s exchange shown old first second third (Err failed) front more back = tt
 section_put ranks s exchange shown old first second third (Ok done) front more back =
-    text_after old first third (front_of ranks s (turns_of s)) (exchange ++ back_text shown) front (text_after first second third exchange (back_text shown) more back)
-    ∙ ap (λ (t : List ℕ). with_text t old) (section_parts ranks s exchange shown)
+    text_after old first third (front_text ranks s (turns_of s)) (exchange ++ back_text shown) front (text_after first second third exchange (back_text shown) more back)
 
 -- the lines of a script, by whether there is one rank alone
 abbrev section_by : Bool → List ℕ → ℕ → List (List ℕ) → List (List ℕ)

@@ -32,12 +32,19 @@ section_lines ranks nue s exchange =
     ++ (with_others nue (codes "print g" ∷ [])
     ++ (codes "print long me" ∷ []))))
 
--- a section, where the lines of a turn round the ring, and those that print what came, are given as they stand in the text
-unfoldable pub section_text : List ℕ → ℕ → List ℕ → List ℕ → List ℕ
-section_text ranks s exchange shown =
+-- the first lines of a section as a text, those before a turn round the ring, of which there are so many
+abbrev pub front_text : List ℕ → ℕ → ℕ → List ℕ
+front_text ranks s turns =
     joined_texts (ranks ∷ codes "\nfill h " ∷ decimal s ∷ codes " " ∷ decimal s ∷ codes "\nrank me long\nrepeat "
-    ∷ decimal (turns_of s) ∷ codes "\n"
-    ∷ exchange ∷ codes "allreduce 0 sum long me me\nend\n" ∷ shown ∷ codes "print long me\n" ∷ [])
+    ∷ decimal turns ∷ codes "\n" ∷ [])
+
+-- its last lines, those behind a turn, where those that print what came are given as they stand in the text
+abbrev pub back_text : List ℕ → List ℕ
+back_text shown = joined_texts (codes "allreduce 0 sum long me me\nend\n" ∷ shown ∷ codes "print long me\n" ∷ [])
+
+-- a section as a text, where the lines of a turn are given so too
+unfoldable pub section_text : List ℕ → ℕ → List ℕ → List ℕ → List ℕ
+section_text ranks s exchange shown = front_text ranks s (turns_of s) ++ (exchange ++ back_text shown)
 
 -- the lines of the script of a number s for nue ranks: the even ranks send first, and the odd ones receive first
 abbrev pub gen_lines : ℕ → ℕ → List (List ℕ)

@@ -1,9 +1,9 @@
 //! The text of a generated script.
 
-ghost use Rattle.std.specs.Prelude.{◌≡◌, ◌≢◌, ◌≤◌, ◌∷◌, [], ℕ, IfOk, OnOk, codes, decimal, map};
+ghost use Rattle.std.specs.Prelude.{◌≡◌, ◌≢◌, ◌≤◌, ℕ, IfOk, OnOk, map};
 ghost use Rattle.rcce_io.specs.Pieces.{piece_text};
 ghost use Rattle.rcce_io.specs.Sending.{joined_texts, with_text};
-ghost use Rattle.script_gen.specs.Texts.{gen_text, section_text, turns_of};
+ghost use Rattle.script_gen.specs.Texts.{front_text, gen_text, section_text, turns_of};
 
 use rcce_io::Piece::{Number, Text};
 use rcce_io::{GrowingText, Piece};
@@ -70,8 +70,7 @@ fn push_section(
 
 /// Puts the first lines of a section behind a text, those before a turn round the ring.
 fn push_front(text: &mut GrowingText, ranks: &'static str, s: u32) -> Result<(), AllocError>
-    ensures { OnOk result (text.new ≡ with_text (joined_texts (ranks.now ∷ codes "\nfill h " ∷ decimal s ∷ codes " " ∷ decimal s
-        ∷ codes "\nrank me long\nrepeat " ∷ decimal (turns_of s) ∷ codes "\n" ∷ [])) text.old) }
+    ensures { OnOk result (text.new ≡ with_text (front_text ranks.now s (turns_of s)) text.old) }
 {
     text.push(&[
         Text(ranks),
