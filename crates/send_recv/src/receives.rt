@@ -188,11 +188,11 @@ impl RecvOp {
     {
         let start = start_of(layout, self.chunk) + 32 * line as usize;
         put_line(bytes, start, words);
-        if line + 1 < lines_in(layout, self.head.len(), self.chunk) {
-            self.stage = RecvStage::Lines(line + 1);
-            return RecvTurn::Moved;
-        }
-        self.stage = RecvStage::Raise;
+        self.stage = if line + 1 < lines_in(layout, self.head.len(), self.chunk) {
+            RecvStage::Lines(line + 1)
+        } else {
+            RecvStage::Raise
+        };
         RecvTurn::Moved
     }
 

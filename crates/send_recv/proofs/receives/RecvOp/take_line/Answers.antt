@@ -11,24 +11,6 @@ use Rattle.send_recv.proofs.receives.RecvOp.take_line.Goals as goal
 start_is : (size line start : ℕ) (now op : RecvAt) → start ≡ chunk_start size now.chunk → now ≡ op → start + 32 * line ≡ chunk_start size op.chunk + 32 * line
 start_is size line start now op is seen = ap (λ (x : ℕ). x + 32 * line) (is ∙ ap (λ (x : RecvAt). chunk_start size x.chunk) seen)
 
-pub returns-then-line-lines_in-clause-takes : goal.returns-then-line-lines_in-clause-takes
-returns-then-line-lines_in-clause-takes c =
-    subst (λ (x : ℕ). (k : ℕ) → k < 32 → x + k < length c.args.bytes.now → slice_index c.put_line.new.bytes (x + k) ≡ byte_of_line c.args.words.now k)
-    (start_is (chunk_size c.args.layout) c.args.line c.start_of.result _ c.args.self.now c.start_of.ensures.gives c.self.view_is) c.put_line.ensures.put
-
-pub returns-then-line-lines_in-clause-before : goal.returns-then-line-lines_in-clause-before
-returns-then-line-lines_in-clause-before c =
-    let start = start_is (chunk_size c.args.layout) c.args.line c.start_of.result _ c.args.self.now c.start_of.ensures.gives c.self.view_is in
-    λ k at. c.put_line.ensures.before k (subst (λ (x : ℕ). k < x) (sym start) at)
-
-pub returns-then-line-lines_in-clause-behind : goal.returns-then-line-lines_in-clause-behind
-returns-then-line-lines_in-clause-behind c =
-    let start = start_is (chunk_size c.args.layout) c.args.line c.start_of.result _ c.args.self.now c.start_of.ensures.gives c.self.view_is in
-    λ k at. c.put_line.ensures.behind k (subst (λ (x : ℕ). x + 32 ≤ k) (sym start) at)
-
-pub returns-then-line-lines_in-clause-next : goal.returns-then-line-lines_in-clause-next
-returns-then-line-lines_in-clause-next c = search rules
-
 pub returns-clause-takes : goal.returns-clause-takes
 returns-clause-takes c =
     subst (λ (x : ℕ). (k : ℕ) → k < 32 → x + k < length c.args.bytes.now → slice_index c.put_line.new.bytes (x + k) ≡ byte_of_line c.args.words.now k)
