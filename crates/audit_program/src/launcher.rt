@@ -87,7 +87,7 @@ fn judge_log<F: Files, O: Sink, E: Sink>(
         (sinks (O.seen out.old) (E.seen err.old)) (sinks (O.seen out.new) (E.seen err.new)) result }
 {
     let ending = judge_file(alloc, files, file);
-    deliver("rcceaudit", &ending, out, err)
+    deliver("rcceaudit", ending, out, err)
 }
 
 fn judge_file<'a, F: Files>(

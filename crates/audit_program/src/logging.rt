@@ -40,7 +40,7 @@ pub fn log_words<F: Files, O: Sink, E: Sink>(
         Some(job) => log_job(alloc, job, files, out, err, chip),
         None => {
             let complaint = Complaint::words("words refused");
-            deliver::<Logged<'_>, O, E>("rcceaudit", &Err(complaint), out, err)
+            deliver::<Logged<'_>, O, E>("rcceaudit", Err(complaint), out, err)
         }
     }
 }
@@ -64,7 +64,7 @@ fn log_job<F: Files, O: Sink, E: Sink>(
 {
     match read_script_file(alloc, files, job.script, job.nue) {
         Ok(scripts) => log_script(alloc, &scripts, job.script, out, err, chip),
-        Err(complaint) => deliver::<Logged<'_>, O, E>("rcceaudit", &Err(complaint), out, err),
+        Err(complaint) => deliver::<Logged<'_>, O, E>("rcceaudit", Err(complaint), out, err),
     }
 }
 
@@ -83,7 +83,7 @@ fn log_script<O: Sink, E: Sink>(
     ensures legal { IsOpen chip.new → AreLegalCalls chip.new }
 {
     let ending = launch(alloc, scripts, file, chip);
-    deliver("rcceaudit", &ending, out, err)
+    deliver("rcceaudit", ending, out, err)
 }
 
 // Runs the script, if there is room for its calls.

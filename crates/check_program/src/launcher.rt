@@ -40,7 +40,7 @@ pub fn rccecheck<F: Files, O: Sink, E: Sink>(
         (sinks (O.seen out.old) (E.seen err.old)) (sinks (O.seen out.new) (E.seen err.new)) result }
 {
     let ending = run_words(alloc, words, files);
-    deliver("rccecheck", &ending, out, err)
+    deliver("rccecheck", ending, out, err)
 }
 
 fn run_words<'a, F: Files>(

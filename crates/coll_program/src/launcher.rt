@@ -44,7 +44,7 @@ pub fn rccecoll<O: Sink, E: Sink>(
         (sinks (O.seen out.old) (E.seen err.old)) (sinks (O.seen out.new) (E.seen err.new)) result }
 {
     let ending = run_words(alloc, words, chip);
-    deliver("rccecoll", &ending, out, err)
+    deliver("rccecoll", ending, out, err)
 }
 
 // Runs what the words ask for.

@@ -58,7 +58,7 @@ pub fn line_count<F: Files, O: Sink, E: Sink>(
         (sinks (O.seen out.old) (E.seen err.old)) (sinks (O.seen out.new) (E.seen err.new)) result }
 {
     let ending = count_words(alloc, words, files);
-    deliver("lines", &ending, out, err)
+    deliver("lines", ending, out, err)
 }
 
 fn count_words<'a, F: Files>(

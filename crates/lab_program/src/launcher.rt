@@ -48,7 +48,7 @@ pub fn rccelab<F: Files, O: Sink, E: Sink>(
         (sinks (O.seen out.old) (E.seen err.old)) (sinks (O.seen out.new) (E.seen err.new)) result }
 {
     let ending = run_words(alloc, words, files, left);
-    deliver("rccelab", &ending, out, err)
+    deliver("rccelab", ending, out, err)
 }
 
 /// The file that the words name, if they are one word that is no option.

@@ -37,7 +37,7 @@ pub fn rccemesh<F: Files, O: Sink, E: Sink>(
         (sinks (O.seen out.old) (E.seen err.old)) (sinks (O.seen out.new) (E.seen err.new)) result }
 {
     let ending = run_words(alloc, words, files);
-    deliver("rccemesh", &ending, out, err)
+    deliver("rccemesh", ending, out, err)
 }
 
 fn run_words<'a, F: Files>(

@@ -10,17 +10,17 @@ use rcce_io::{Sink, WriteFault};
 
 /// Writes the texts of a report or of a complaint, first out's and then err's, and answers how the program ends. Nothing
 /// is written behind a failed write.
-pub fn deliver<'a, R: Report, O: Sink, E: Sink>(
+pub fn deliver<'a, R: Report + Drop, O: Sink, E: Sink>(
     program: &'a str,
-    ending: &Result<R, Complaint<'a>>,
+    ending: Result<R, Complaint<'a>>,
     out: &mut O,
     err: &mut E,
 ) -> Status
-    ensures { Delivers (outcome_of program.now R.ran ending.now) (sinks (O.seen out.old) (E.seen err.old))
+    ensures { Delivers (outcome_of program.now R.ran ending.entry) (sinks (O.seen out.old) (E.seen err.old))
         (sinks (O.seen out.new) (E.seen err.new)) result }
 {
-    match write_ending(program, ending, out, err) {
-        Ok(()) => status(ending),
+    match write_ending(program, &ending, out, err) {
+        Ok(()) => status(&ending),
         Err(WriteFault) => Status::Write,
     }
 }

@@ -59,7 +59,7 @@ pub fn rccerun<R: Threads + Sync, F: Files, O: Sink, E: Sink, G: Gate + Sync>(
 {
     match load(alloc, words, files) {
         Ok(loaded) => run_loaded(rt, alloc, &loaded, out, err, chip, gate),
-        Err(complaint) => deliver::<Run<'_>, O, E>("rccerun", &Err(complaint), out, err),
+        Err(complaint) => deliver::<Run<'_>, O, E>("rccerun", Err(complaint), out, err),
     }
 }
 
@@ -80,7 +80,7 @@ fn run_loaded<R: Threads + Sync, O: Sink, E: Sink, G: Gate + Sync>(
     ensures legal { IsOpen chip.new → AreLegal chip.new }
 {
     let ending = launch(rt, alloc, loaded, chip, gate);
-    deliver("rccerun", &ending, out, err)
+    deliver("rccerun", ending, out, err)
 }
 
 // Makes the units of execution and then the chip's words, and runs.

@@ -40,7 +40,7 @@ pub fn rccetrace<F: Files, O: Sink, E: Sink>(
     ensures legal { result ≡ Status.Finished → NamesLegal (map string_bytes words.now) (F.seen files.old).told }
 {
     let ending = run_words(alloc, words, files);
-    deliver("rccetrace", &ending, out, err)
+    deliver("rccetrace", ending, out, err)
 }
 
 fn run_words<'a, F: Files>(

@@ -60,7 +60,7 @@ fn complain<'a, O: Sink, E: Sink>(why: Complaint<'a>, out: &mut O, err: &mut E) 
     ensures { Delivers (complaint_outcome (codes "rccetrace") why.entry) (sinks (O.seen out.old) (E.seen err.old))
         (sinks (O.seen out.new) (E.seen err.new)) result }
 {
-    deliver::<Run<'_>, O, E>("rccetrace", &Err(why), out, err)
+    deliver::<Run<'_>, O, E>("rccetrace", Err(why), out, err)
 }
 
 /// Runs what was loaded, if there is memory for it.
