@@ -121,10 +121,27 @@ pub fn run_script<'s>(
     ensures history { IfOk result (λ run. HasRunLogged scripts.now setup.now chip.new) }
     ensures refused { IfErr result (λ failed. chip.new ≡ None) }
 {
-    let mut crew = crew_of(alloc, scripts, setup)?;
+    let crew = crew_of(alloc, scripts, setup)?;
     chip.open(alloc, setup.copy())?;
+    Ok(run_opened(scripts, setup, crew, chip))
+}
+
+/// Runs the loggers of a script on the chip that was opened for them.
+fn run_opened<'s>(
+    scripts: &'s Scripts,
+    setup: &Setup,
+    mut crew: Vec<Logger<Ue<'s, Never>>>,
+    chip: &mut Chip,
+) -> LogRun<'s>
+    requires chip { IsNew setup.now chip.old }
+    requires fresh { AreFreshLoggers scripts.now setup.now crew.items }
+    requires ranks { setup.now.nue ≡ scripts.now.nue }
+    requires room { has_room_for_all scripts.now ≡ true }
+    ensures run { result ≡ scripts.now }
+    ensures history { HasRunLogged scripts.now setup.now chip.new }
+{
     let end = run_crew(scripts, setup, chip, crew.as_mut_slice());
-    Ok(LogRun::new(scripts, crew, end))
+    LogRun::new(scripts, crew, end)
 }
 
 /// Runs the loggers of a script on a chip that was just opened.

@@ -8,8 +8,8 @@ ghost use Rattle.rcce_run.specs.UeRuns.{AreFresh, AreLegal};
 ghost use Rattle.rcce_words.specs.CommandLine.{parse_command};
 ghost use Rattle.run_program.specs.Asking.{ChipTells};
 ghost use Rattle.run_program.specs.Evictors.{HaveEvictors};
-ghost use Rattle.run_program.specs.History.{mode_by};
-ghost use Rattle.run_program.specs.Loading.{Launches, IsCarriedOut, asked_by};
+ghost use Rattle.run_program.specs.History.{HasRun, mode_by};
+ghost use Rattle.run_program.specs.Loading.{Launches, IsCarriedOut, asked_by, shown_by};
 ghost use Rattle.run_program.specs.Program.{rccerun};
 ghost use Rattle.run_program.specs.Runs.{IsMadeOf, IsOver};
 
@@ -96,14 +96,33 @@ fn launch<'s, R: Threads + Sync, G: Gate + Sync>(
     ensures ran { Launches (asked_by loaded.now) chip.new result }
     ensures legal { IsOpen chip.new → AreLegal chip.new }
 {
-    let Ok(mut crew) = crew_of(alloc, &loaded.script, &loaded.setup, loaded.job.evict) else {
+    let Ok(crew) = crew_of(alloc, &loaded.script, &loaded.setup, loaded.job.evict) else {
         return Err(Complaint::Memory);
     };
     if chip.open(alloc, loaded.setup.copy()).is_err() {
         return Err(Complaint::Memory);
     }
+    Ok(run_opened(rt, loaded, crew, chip, gate))
+}
+
+// Runs the units of execution on the chip that was opened for them.
+fn run_opened<'s, R: Threads + Sync, G: Gate + Sync>(
+    rt: &R,
+    loaded: &'s Loaded,
+    mut crew: Vec<Crew<'s, Choice>>,
+    chip: &mut Chip,
+    gate: &G,
+) -> Run<'s>
+    requires made { IsMadeOf loaded.now.script loaded.now.seed }
+    requires chip { IsNew loaded.now.setup chip.old }
+    requires fresh { AreFresh loaded.now.script loaded.now.setup loaded.now.setup.nue crew.items }
+    requires evictors { HaveEvictors loaded.now.job.evict crew.items }
+    ensures shown { result ≡ shown_by (asked_by loaded.now) }
+    ensures ran { HasRun (asked_by loaded.now) chip.new }
+    ensures legal { AreLegal chip.new }
+{
     let end = run_crew(rt, loaded, chip, crew.as_mut_slice(), gate);
-    Ok(Run::new(&loaded.script, crew, end, loaded.seed))
+    Run::new(&loaded.script, crew, end, loaded.seed)
 }
 
 // Runs the units of execution, each in a thread of its own, or all on one thread where the words ask for that.

@@ -1,25 +1,11 @@
-use Rattle.std.proofs.Common.{subst, sym}
-use Rattle.rcce_run.specs.UeRuns.{AreFresh}
-use Rattle.run_program.specs.Evictors.{HaveEvictors}
 use Rattle.run_program.proofs.launcher.launch.Goals as goal
 
 -- Answered by name, so that a body which turns this is refused at once, with no search for what else might be written.
-pub run_crew-end-requires-clause-evictors : goal.run_crew-end-requires-clause-evictors
-run_crew-end-requires-clause-evictors g c = λ lifetimes outlive.
-    subst (HaveEvictors c.args.loaded.now.job.evict) (sym c.as_mut_slice.ensures.value) c.in-Ok.ensures.evictors
+pub run_opened-requires-clause-evictors : goal.run_opened-requires-clause-evictors
+run_opened-requires-clause-evictors g c = λ lifetimes outlive. c.in-Ok.ensures.evictors
 
 pub returns-clause-ran : goal.returns-clause-ran
-returns-clause-ran g c = (c.new.ensures, c.run_crew-end.ensures.over.history)
+returns-clause-ran g c = (c.run_opened.ensures.shown, c.run_opened.ensures.ran)
 
 pub returns-clause-legal : goal.returns-clause-legal
-returns-clause-legal g c = λ opened. c.run_crew-end.ensures.legal
-
-pub run_crew-end-requires-clause-fresh : goal.run_crew-end-requires-clause-fresh
-run_crew-end-requires-clause-fresh g c = λ lifetimes outlive.
-    subst (AreFresh c.args.loaded.now.script c.args.loaded.now.setup c.args.loaded.now.setup.nue) (sym c.as_mut_slice.ensures.value) c.in-Ok.ensures.fresh
-
-pub new-requires-clause-answer : goal.new-requires-clause-answer
-new-requires-clause-answer g c = c.run_crew-end.ensures.over.answer
-
-pub new-requires-clause-made : goal.new-requires-clause-made
-new-requires-clause-made g c = c.requires.made
+returns-clause-legal g c = λ opened. c.run_opened.ensures.legal

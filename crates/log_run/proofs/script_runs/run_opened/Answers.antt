@@ -1,4 +1,4 @@
-use Rattle.log_run.proofs.script_runs.run_script.Goals as goal
+use Rattle.log_run.proofs.script_runs.run_opened.Goals as goal
 
 -- Answered by name, so that a body which turns this is refused at once, with no search for what else might be written.
 pub new-requires-clause-answer : goal.new-requires-clause-answer
