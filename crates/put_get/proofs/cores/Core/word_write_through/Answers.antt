@@ -1,7 +1,8 @@
-use Rattle.std.proofs.Common.{◌≡◌, ◌∙◌, [], ◌∷◌, Option, ap, rules, subst}
+use Rattle.std.proofs.Common.{◌≡◌, ◌∙◌, [], ◌∷◌, None, Option, ap, subst}
 use Rattle.scc_base.specs.Events.{store_of}
 use Rattle.scc_proto.specs.Ports.{Did}
 use Rattle.scc_proto.proofs.PortLaws.{did_both, may_next}
+use Rattle.line_cache.specs.Lines.{lines_with_word}
 use Rattle.write_combine.specs.declared.combiner.Out.{Out}
 use Rattle.put_get.specs.Accesses.{stores_of}
 use Rattle.put_get.specs.Cores.{Private}
@@ -33,5 +34,6 @@ returns-clause-writes g c =
     let did = subst (λ (o : Option Out). Did start (stores_of o) stored) held c.store_out.ensures.did in
     record {
       did = did_both start (stores_of c.args.self.now.out) stored (store_of c.args.place c.args.word ∷ []) _ did c.store.ensures.did;
-      is = search rules;
+      is = (λ i. record { lines = c.note_write.ensures.lines i; out = c.flush-before.ensures.held i; evictions = g.V.Evict.count c.self.inside.evict; asked = g.V.Evict.asked c.self.inside.evict; answers = g.V.Evict.answers c.self.inside.evict })
+          ∙ ap (λ (x : Private). record x { lines = lines_with_word x.lines c.args.place c.args.word; out = None }) c.self.view_is;
     }
