@@ -1,7 +1,9 @@
-use Rattle.std.proofs.Common.{◌≡◌, length, refl, sym, ap, ◌∙◌, arith, rules}
+use Rattle.std.proofs.Common.{◌≡◌, ◌||◌, length, refl, sym, ap, ◌∙◌, arith}
 use Rattle.std.proofs.lemmas.List.{with_items_is}
 use Rattle.std.specs.Vec.{with_items}
+use Rattle.rcce_ue.specs.Stretches.{reads_line_next, writes_line_next}
 use Rattle.rcce_ue.specs.Ues.{UeView}
+use Rattle.rcce_ue.specs.declared.calls.Open.{Open}
 use Rattle.rcce_ue.specs.declared.calls.Open.TheVariants.{Receiving}
 use Rattle.rcce_ue.proofs.OpAnswers.{head_fits, recv_before}
 use Rattle.rcce_ue.proofs.StretchTurns.{read_moves, reads_tell, writes_tell, wrote_moves}
@@ -63,9 +65,39 @@ read_lines-requires-clause-stands g c =
 pub read_lines-requires-clause-reading : goal.read_lines-requires-clause-reading
 read_lines-requires-clause-reading g c = sym c.is_reading.ensures ∙ c.if-not-is_reading.false
 
+pub returns-then-not-is_writing-clause-moves : goal.returns-then-not-is_writing-clause-moves
+returns-then-not-is_writing-clause-moves g c = λ moved. absurd (cc (moved))
+
+pub returns-then-not-is_writing-clause-stays : goal.returns-then-not-is_writing-clause-stays
+returns-then-not-is_writing-clause-stays g c =
+    let b : UeView = record { machine = c.self.inside.machine; core = c.self.inside.core; slot = c.self.inside.slot; parity = c.self.inside.parity; op = c.self.inside.op; inbox = c.self.inside.inbox.items; posted = c.self.inside.posted; sent = c.self.inside.sent; sent_bytes = c.self.inside.sent_bytes } in
+    λ none. ((λ i. record b { op = sym c.in-Sending.is i }) ∙ c.self.view_is, refl)
+
+pub returns-then-not-is_reading-clause-moves : goal.returns-then-not-is_reading-clause-moves
+returns-then-not-is_reading-clause-moves g c = λ moved. absurd (cc (moved))
+
+pub returns-then-not-is_reading-clause-stays : goal.returns-then-not-is_reading-clause-stays
+returns-then-not-is_reading-clause-stays g c =
+    let b : UeView = record { machine = c.self.inside.machine; core = c.self.inside.core; slot = c.self.inside.slot; parity = c.self.inside.parity; op = c.self.inside.op; inbox = c.self.inside.inbox.items; posted = c.self.inside.posted; sent = c.self.inside.sent; sent_bytes = c.self.inside.sent_bytes } in
+    λ none. ((λ i. record b { op = sym c.in-Receiving.is i }) ∙ c.self.view_is, refl)
+
 -- what the turn of a barrier tells is answered by name, so that a body which turns it is refused at once
 pub returns-in-Meeting-clause-tells : goal.returns-in-Meeting-clause-tells
-returns-in-Meeting-clause-tells g c = search rules
+returns-in-Meeting-clause-tells g c =
+    sym (ap (λ (o : Open). writes_line_next o || reads_line_next o) (ap (λ (x : UeView). x.op) (sym c.self.view_is) ∙ c.in-Meeting.is))
 
 pub returns-in-Meeting-clause-moves : goal.returns-in-Meeting-clause-moves
 returns-in-Meeting-clause-moves g c = λ moved. absurd (cc (moved))
+
+pub returns-in-Meeting-clause-stays : goal.returns-in-Meeting-clause-stays
+returns-in-Meeting-clause-stays g c = λ none. (c.self.view_is, refl)
+
+pub returns-in-Nothing-clause-tells : goal.returns-in-Nothing-clause-tells
+returns-in-Nothing-clause-tells g c =
+    sym (ap (λ (o : Open). writes_line_next o || reads_line_next o) (ap (λ (x : UeView). x.op) (sym c.self.view_is) ∙ c.in-Nothing.is))
+
+pub returns-in-Nothing-clause-moves : goal.returns-in-Nothing-clause-moves
+returns-in-Nothing-clause-moves g c = λ moved. absurd (cc (moved))
+
+pub returns-in-Nothing-clause-stays : goal.returns-in-Nothing-clause-stays
+returns-in-Nothing-clause-stays g c = λ none. (c.self.view_is, refl)
