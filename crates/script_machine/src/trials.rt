@@ -28,25 +28,31 @@ pub fn reckon<'s>(alloc: Global, count: usize, walk: Walk<'s>) -> Result<Reckone
     ensures holds { IfOk result (λ r. AreWithin (rooms_of r.needs) (nothing_held count) walk.entry.left) }
     ensures again { IfOk result (λ r. r.walk ≡ record walk.entry { left = program_of walk.entry.script walk.entry.rank }) }
 {
-    let mut reckoning = Reckoning::new(alloc, count)?;
     let mut course = walk.into_course();
-    reckon_prims(&mut course, &mut reckoning)?;
-    reckon_passes(&mut course, &mut reckoning)?;
-    reckoning.within_law();
+    let needs = reckon_course(alloc, count, &mut course)?;
     course.restart();
     let walk = Walk::of(course);
-    let needs = reckoning.needs();
     Ok(Reckoned { needs, walk })
 }
 
-/// Reckons with all that is left from the end of a pass on.
-fn reckon_passes(course: &mut Course, reckoning: &mut Reckoning) -> Result<(), AllocError>
-    requires { prim_of (slice_get course.old.left 0) ≡ None }
-    ensures holds { OnOk result (HoldsBefore reckoning.new.most reckoning.old.lengths (prims_in course.old.left)
-        reckoning.new.lengths []) }
-    ensures wider { OnOk result (IsWider reckoning.old.most reckoning.new.most) }
+/// The greatest lengths on what is left of a course, begun with this many registers of which none is set.
+fn reckon_course(alloc: Global, count: usize, course: &mut Course) -> Result<Needs, AllocError>
+    ensures holds { IfOk result (λ needs. AreWithin (rooms_of needs) (nothing_held count) (prims_in course.old.left)) }
     ensures same { OnOk result (course.new ≡ record course.old { left = course.new.left }) }
 {
+    let mut reckoning = Reckoning::new(alloc, count)?;
+    reckon_all(course, &mut reckoning)?;
+    reckoning.within_law();
+    Ok(reckoning.needs())
+}
+
+/// Reckons with all that is left.
+fn reckon_all(course: &mut Course, reckoning: &mut Reckoning) -> Result<(), AllocError>
+    ensures holds { OnOk result (HoldsBefore reckoning.new.most reckoning.old.lengths (prims_in course.old.left)
+        reckoning.new.lengths []) }
+    ensures same { OnOk result (course.new ≡ record course.old { left = course.new.left }) }
+{
+    reckon_prims(course, reckoning)?;
     while course.is_at_end() {
         reckon_pass(course, reckoning)?;
     }

@@ -1,10 +1,11 @@
-use Rattle.std.proofs.Common.{◌≡◌, ◌∙◌, [], ap, sym, arith, length, drop, List, Option}
+use Rattle.std.proofs.Common.{◌≡◌, ◌∙◌, ℕ, ◌+◌, [], ap, subst, sym, arith, length, drop, List, Option}
 use Rattle.std.proofs.lemmas.List.{drop-drop}
+use Rattle.script_machine.specs.Depths.{HasRoom}
 use Rattle.script_machine.specs.Program.{Prim, marks_of, nesting_at}
 use Rattle.script_machine.specs.Walk.{CourseView, left_at}
 use Rattle.script_machine.proofs.Walks.DepthLaws.{deep_passed}
 use Rattle.script_machine.proofs.Walks.StandLaws.{stand_of}
-use Rattle.script_machine.proofs.Walks.WalkLaws.{behind_open, behind_same, last_done, nothing_past, some_at, stands_there}
+use Rattle.script_machine.proofs.Walks.WalkLaws.{behind_open, behind_same, last_done, nothing_past, some_at, some_there, stands_there}
 use Rattle.script_machine.proofs.course.Course.advance.Goals as goal
 
 pub returns-then-at-len : goal.returns-then-at-len
@@ -22,6 +23,29 @@ overflow_add-self c =
     let stand = stand_of walk.setup walk.rank walk.scripts.now.items walk.place walk.count walk.closes found.0 found.1 c.self.invariant.1.1.1 in
     let there = stands_there walk.setup walk.rank walk.scripts.now.items walk.place walk.step found.0 found.1 c.self.invariant.0.stands in
     omega (arith, there, stand.count_is)
+
+pub overflow_add-self-inside : goal.overflow_add-self-inside
+overflow_add-self-inside c =
+    let walk = c.self.inside in
+    let found = some_at walk.scripts.now.items walk.place (omega (arith, c.if-at-len.false, c.len.ensures)) in
+    let stand = stand_of walk.setup walk.rank walk.scripts.now.items walk.place walk.count walk.closes found.0 found.1 c.self.invariant.1.1.1 in
+    let there = stands_there walk.setup walk.rank walk.scripts.now.items walk.place walk.step found.0 found.1 c.self.invariant.0.stands in
+    omega (arith, there, stand.count_is)
+
+pub invariant_of-self : goal.invariant_of-self
+invariant_of-self c =
+    let walk = c.self.inside in
+    let found = some_at walk.scripts.now.items walk.place (omega (arith, c.if-at-len.false, c.len.ensures)) in
+    let stand = stand_of walk.setup walk.rank walk.scripts.now.items walk.place walk.count walk.closes found.0 found.1 c.self.invariant.1.1.1 in
+    let more = some_there walk.setup walk.rank walk.scripts.now.items walk.place (walk.step + 1) found.0 found.1 (omega (arith, c.if-self.true, stand.count_is)) in
+    (record { within = c.self.invariant.0.within; opens = c.self.invariant.0.opens; stands = more }, c.self.invariant.1)
+
+pub invariant_of-self-2 : goal.invariant_of-self-2
+invariant_of-self-2 c =
+    let walk = c.self.inside in
+    let held = c.settled-stand.ensures in
+    let room = subst (λ (n : ℕ). HasRoom walk.rank walk.scripts.now.items n) (sym (held.room ∙ c.pass_marks-next.ensures.room)) c.self.invariant.1.0.1 in
+    (record { within = c.self.invariant.0.within; opens = held.opens; stands = held.stands }, ((held.deep, room), (c.self.invariant.1.1.0, held.stand)))
 
 pub returns-then-self : goal.returns-then-self
 returns-then-self c =

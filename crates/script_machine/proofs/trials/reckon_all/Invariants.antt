@@ -3,7 +3,7 @@ use Rattle.script_machine.specs.Passes.{HoldsBefore}
 use Rattle.script_machine.specs.Program.{prims_in}
 use Rattle.script_machine.specs.Rooms.{IsWider}
 use Rattle.script_machine.specs.Walk.{prim_of}
-use Rattle.script_machine.proofs.trials.reckon_passes.Given as goal
+use Rattle.script_machine.proofs.trials.reckon_all.Given as goal
 
 abbrev pub invariant-loop-course : goal.invariant-loop-course
 invariant-loop-course l = record {
