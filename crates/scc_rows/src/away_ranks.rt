@@ -21,13 +21,20 @@ use std::test::Fail;
 use std::thread;
 use std::thread::Threads;
 
-#[test]
-fn a_blank_chip_opens(rt: HostRuntime) -> Result<(), Fail> {
-    let setup = world_of(48, Layout::lines()).ok_or("a setup")?;
+// Whether a blank chip is open once it was opened with a setup of 48 ranks, and not before.
+fn opens(alloc: Global) -> bool {
+    let Some(setup) = world_of(48, Layout::lines()) else {
+        return false;
+    };
     let mut chip = Chip::blank();
     let early = chip.is_open();
-    chip.open(rt.alloc(), setup)?;
-    as_named(!early && chip.is_open() && chip.setup().nue() == 48)
+    let opened = chip.open(alloc, setup).is_ok();
+    !early && opened && chip.is_open() && chip.setup().nue() == 48
+}
+
+#[test]
+fn a_blank_chip_opens(rt: HostRuntime) {
+    assert!(rt; opens(rt.alloc()));
 }
 
 // A chip of two ranks that was just opened.
@@ -177,13 +184,21 @@ fn sees_both<P: Port>(port: &mut P) -> bool {
     first == 7 && second == 8
 }
 
+// Whether rank 0 does once it is home from its thread.
+fn sees_both_at_home<R: Threads + Sync>(rt: &R, chip: &mut Chip) -> bool
+    requires whole { IsWhole chip.old }
+    requires ranks { (about_in chip.old).nue ≡ 2 }
+    requires none { (r : ℕ) → events_in chip.old r ≡ [] }
+{
+    step_apart(rt, chip);
+    chip.known();
+    sees_both(&mut chip.port(Rank::of(0)))
+}
+
 #[test]
 fn two_ranks_step_in_threads_of_their_own(rt: HostRuntime) -> Result<(), Fail> {
     let mut chip = opened_pair(rt.alloc())?;
-    step_apart(&rt, &mut chip);
-    chip.known();
-    let mut port = chip.port(Rank::of(0));
-    as_named(sees_both(&mut port))
+    as_named(sees_both_at_home(&rt, &mut chip))
 }
 
 fn away_and_home(chip: &mut Chip)

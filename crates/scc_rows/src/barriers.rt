@@ -17,6 +17,19 @@ use scc_proto::Port;
 use std::alloc::Global;
 use std::test::Fail;
 
+/// A rank for the barriers of one communicator.
+pub(crate) trait Enters: Player + Drop {
+    ghost use Rattle.std.specs.Prelude.{◌≢◌, ◌<◌, ℕ, []};
+    ghost use Rattle.scc_base.specs.Setups.{SetupView};
+    ghost use Rattle.scc_base.specs.Communicators.{rule_of};
+    ghost use Rattle.scc_base.specs.declared.communicators.CommRule.TheVariants.{Absent};
+
+    /// It is to enter the next one, and `more` behind it where it counts them.
+    fn at(comm: u8, more: u8) -> Self
+        requires below { comm < 16 }
+        ensures ready { (s : SetupView) (r : ℕ) → rule_of s.comms comm ≢ Absent → Self.stands result s r [] };
+}
+
 /// A rank that enters barriers of a communicator, one after the other.
 #[derive(Drop)]
 struct Entrant {
@@ -28,19 +41,8 @@ struct Entrant {
     more: u8,
 }
 
-impl Entrant {
-    ghost use Rattle.std.specs.Prelude.{◌≢◌, ◌<◌, ℕ, []};
-    ghost use Rattle.scc_base.specs.Setups.{SetupView};
-    ghost use Rattle.scc_base.specs.Communicators.{rule_of};
-    ghost use Rattle.scc_base.specs.declared.communicators.CommRule.TheVariants.{Absent};
-    ghost use Rattle.chip_teams.specs.Teams.{sight_alone};
-    ghost use Rattle.scc_rows.specs.Entrants.{IsBarrierReady};
-
-    fn new(comm: u8, more: u8) -> Entrant
-        requires below { comm < 16 }
-        ensures ready { (s : SetupView) (r : ℕ) → rule_of s.comms comm ≢ Absent
-            → IsBarrierReady (sight_alone s r []) result.core result.comm result.op result.parity }
-    {
+impl Enters for Entrant {
+    fn at(comm: u8, more: u8) -> Entrant {
         Entrant {
             core: Core::new(Never),
             comm,
@@ -73,8 +75,13 @@ impl Player for Entrant {
     }
 }
 
-// All ranks of a chip, which enter barriers of this communicator: each the first one and `more` behind it.
-fn entrants(alloc: Global, chip: Chip, comm: u8, more: u8) -> Result<Team<Entrant>, Fail>
+// All ranks of a chip, for barriers of this communicator: each for the first one and `more` behind it.
+pub(crate) fn entrants<M: Enters>(
+    alloc: Global,
+    chip: Chip,
+    comm: u8,
+    more: u8,
+) -> Result<Team<M>, Fail>
     requires new { IsNew (about_in chip) chip }
     requires below { comm < 16 }
 {
@@ -84,7 +91,7 @@ fn entrants(alloc: Global, chip: Chip, comm: u8, more: u8) -> Result<Team<Entran
     let nue = chip.setup().nue();
     let mut team = Team::new(alloc, chip);
     for _ in 0..nue {
-        team.join(Entrant::new(comm, more))?;
+        team.join(M::at(comm, more))?;
     }
     Ok(team)
 }
@@ -92,7 +99,7 @@ fn entrants(alloc: Global, chip: Chip, comm: u8, more: u8) -> Result<Team<Entran
 // How many rounds of this order it takes until all ranks have passed a barrier and one more after it.
 fn rounds_of(alloc: Global, layout: Layout, nue: u8, order: &[usize]) -> Result<u32, Fail> {
     let chip = opened(alloc, nue, layout, CommRule::Absent)?;
-    let mut team = entrants(alloc, chip, 0, 1)?;
+    let mut team = entrants::<Entrant>(alloc, chip, 0, 1)?;
     Ok(team.rounds(order, 20))
 }
 
@@ -145,13 +152,21 @@ fn nobody_passes_before_all_have_entered(rt: HostRuntime) -> Result<(), Fail> {
     as_named(pass_after_third(&mut team))
 }
 
+// Shows that the ranks of a chip take these steps in a barrier of this communicator.
+fn shows_entrants(alloc: Global, chip: Chip, comm: u8, steps: &[Step]) -> Result<(), Fail>
+    requires new { IsNew (about_in chip) chip }
+    requires below { comm < 16 }
+{
+    let mut team = entrants::<Entrant>(alloc, chip, comm, 0)?;
+    as_named(takes(&mut team, steps))
+}
+
 // Shows that `nue` ranks take these steps in a barrier, in both layouts. The ranks of even number are one group, and the
 // others another.
 fn shows_groups(alloc: Global, nue: u8, steps: &[Step]) -> Result<(), Fail> {
     for layout in LAYOUTS {
         let chip = opened(alloc, nue, *layout, CommRule::Mod { parent: 0, k: 2 })?;
-        let mut team = entrants(alloc, chip, 8, 0)?;
-        as_named(takes(&mut team, steps))?;
+        shows_entrants(alloc, chip, 8, steps)?;
     }
     Ok(())
 }

@@ -266,8 +266,9 @@ fn call_of(alloc: Global, deed: Deed, len: usize) -> Result<Call, Fail> {
 // These calls, in this order, each with the length of its bytes.
 fn calls_of(alloc: Global, deeds: &[(Deed, usize)]) -> Result<Vec<Call>, Fail> {
     let mut calls = Vec::new(alloc);
-    for (deed, len) in deeds.iter().rev() {
-        calls.push(call_of(alloc, *deed, *len)?)?;
+    for k in 0..deeds.len() {
+        let (deed, len) = deeds[deeds.len() - 1 - k];
+        calls.push(call_of(alloc, deed, len)?)?;
     }
     Ok(calls)
 }

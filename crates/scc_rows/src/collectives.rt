@@ -45,8 +45,8 @@ fn roots_and_others_have_so_many_steps(rt: HostRuntime) {
     let setup = five_ranks().expect(&rt, "a setup");
     let len = 8;
     for &(comm, root, rank, bcast, reduce) in COUNTS_AT_ROOTS_AND_OTHERS {
-        assert!(rt; has_count(&setup, rank, Coll::Bcast { comm, root, len }, bcast));
-        assert!(rt; has_count(&setup, rank, Coll::Reduce { comm, root, len }, reduce));
+        let sent = has_count(&setup, rank, Coll::Bcast { comm, root, len }, bcast);
+        assert!(rt; sent && has_count(&setup, rank, Coll::Reduce { comm, root, len }, reduce));
     }
     for &(comm, rank, count) in COUNTS_WHERE_ALL_GET_IT {
         assert!(rt; has_count(&setup, rank, Coll::Allreduce { comm, len }, count));

@@ -19,13 +19,15 @@ fn shows(out: &Option<Out>, line: u8, words: [u64; 4], mask: [bool; 4]) -> bool 
     }
 }
 
+const WRITES: &[(u8, u64)] = &[(0, 5), (3, 6), (0, 7)];
+
 #[test]
 fn words_of_one_line_join(rt: HostRuntime) {
     let mut combiner = Combiner::new();
     assert!(rt; combiner.is_empty());
-    assert!(rt; joins(&mut combiner, word(2, 113, 0), 5));
-    assert!(rt; joins(&mut combiner, word(2, 113, 3), 6));
-    assert!(rt; joins(&mut combiner, word(2, 113, 0), 7) && !combiner.is_empty());
+    for &(at, value) in WRITES {
+        assert!(rt; joins(&mut combiner, word(2, 113, at), value) && !combiner.is_empty());
+    }
     let out = combiner.flush();
     assert!(rt; shows(&out, 113, [7, 0, 0, 6], [true, false, false, true]));
     assert!(rt; combiner.is_empty());

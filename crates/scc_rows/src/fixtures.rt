@@ -49,7 +49,9 @@ pub(crate) fn new_pair(alloc: Global) -> Result<Chip, Fail>
 pub(crate) fn pair_in(alloc: Global, layout: Layout) -> Result<Chip, Fail>
     ensures pair { IfOk result (λ chip. IsNewPair chip) }
 {
-    let setup = world_of(2, layout).ok_or("a setup")?;
+    let Some(setup) = world_of(2, layout) else {
+        return Err("a setup".into());
+    };
     let _nue = setup.nue();
     let mut chip = Chip::blank();
     chip.open(alloc, setup)?;

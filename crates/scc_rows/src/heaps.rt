@@ -30,8 +30,7 @@ fn a_whole_heap_goes_out_and_comes_back(rt: HostRuntime) {
     let mut heap = Heap::new();
     assert!(rt; heap.fits(992) && !heap.fits(993) && !heap.fits(0));
     let whole = heap.malloc(992).expect(&rt, "31 lines");
-    assert!(rt; whole.first() == 225 && whole.lines() == 31);
-    assert!(rt; is_full(&mut heap, 1, 1, 0));
+    assert!(rt; whole.first() == 225 && whole.lines() == 31 && is_full(&mut heap, 1, 1, 0));
     assert!(rt; give_back(&mut heap, whole) && gives(&mut heap, 33, 225, 2));
     assert!(rt; heap.malloc(0) == Err(MallocFault::Empty));
 }
@@ -42,8 +41,8 @@ fn the_lowest_run_that_fits_is_taken_and_neighbours_join(rt: HostRuntime) {
     let first = heap.malloc(64).expect(&rt, "2 lines");
     let second = heap.malloc(96).expect(&rt, "3 lines");
     let third = heap.malloc(32).expect(&rt, "a line");
-    assert!(rt; give_back(&mut heap, first) && give_back(&mut heap, third));
-    assert!(rt; !give_back(&mut heap, third));
+    let given = give_back(&mut heap, first) && give_back(&mut heap, third);
+    assert!(rt; given && !give_back(&mut heap, third));
     assert!(rt; gives(&mut heap, 96, 230, 3) && is_full(&mut heap, 768, 24, 23));
     assert!(rt; give_back(&mut heap, second) && gives(&mut heap, 160, 225, 5));
 }

@@ -54,8 +54,7 @@ fn a_write_changes_a_held_line_and_brings_none_in(rt: HostRuntime) {
     cache.note_write(line(4, 41).word(2), 99);
     let written = [8, 8, 99, 8];
     assert!(rt; holds(&cache, line(3, 40), [7; 4]) && holds(&cache, line(3, 41), written));
-    assert!(rt; lacks(&cache, line(4, 41)));
-    assert!(rt; cache.len() == 2);
+    assert!(rt; lacks(&cache, line(4, 41)) && cache.len() == 2);
     cache.drop_at(0);
     assert!(rt; lacks(&cache, line(3, 40)) && holds(&cache, line(3, 41), written));
     cache.invalidate();

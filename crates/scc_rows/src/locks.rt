@@ -27,9 +27,7 @@ fn a_taken_register_is_taken_after_its_release(rt: HostRuntime) {
     let mut port = listed_port(&rt, rt.alloc());
     let core = CoreId::of(5);
     port.taken[5] = true;
-    assert!(rt; !could_take(&mut port, core));
-    assert!(rt; port.events.len() == 1);
+    assert!(rt; !could_take(&mut port, core) && port.events.len() == 1);
     port.taken[5] = false;
-    assert!(rt; could_take(&mut port, core));
-    assert!(rt; port.events.len() == 3 && !port.taken[5]);
+    assert!(rt; could_take(&mut port, core) && port.events.len() == 3 && !port.taken[5]);
 }

@@ -8,6 +8,7 @@ ghost use Rattle.scc_mesh.specs.Scenes.{IsNew, about_in};
 ghost use Rattle.chip_teams.specs.Teams.{sight_alone};
 ghost use Rattle.scc_rows.specs.Talkers.{IsTalking};
 
+use crate::evictors::Fresh;
 use crate::fixtures::{LAYOUTS, as_named};
 use crate::steps::{Step, takes};
 use chip_teams::{Player, Team, opened};
@@ -255,8 +256,9 @@ fn task_of(alloc: Global, first: u8, deed: Deed, len: usize) -> Result<Task, Fai
 // their place from the end.
 fn tasks_of(alloc: Global, deeds: &[(Deed, usize)]) -> Result<Vec<Task>, Fail> {
     let mut tasks = Vec::new(alloc);
-    for (k, (deed, len)) in deeds.iter().rev().enumerate() {
-        tasks.push(task_of(alloc, (k % 2) as u8, *deed, *len)?)?;
+    for k in 0..deeds.len() {
+        let (deed, len) = deeds[deeds.len() - 1 - k];
+        tasks.push(task_of(alloc, (k % 2) as u8, deed, len)?)?;
     }
     Ok(tasks)
 }
@@ -280,49 +282,56 @@ pub(crate) fn team_of_two<M: Player + Drop>(
 }
 
 // A rank that does these deeds with its peer.
-fn rank_with_tasks<V: Evict + Drop>(
+fn rank_with_tasks<V: Fresh>(
     alloc: Global,
     peer: Rank,
-    evict: V,
     deeds: &[(Deed, usize)],
 ) -> Result<Talker<V>, Fail>
     ensures ready { IfOk result (λ t. (s : SetupView) (r : ℕ) → are_peers s r peer ≡ true
         → IsTalking (sight_alone s r []) t.core t.slot t.peer t.bytes.items t.sending t.receiving) }
 {
     let tasks = tasks_of(alloc, deeds)?;
-    Ok(Talker::new(alloc, peer, evict, tasks))
+    Ok(Talker::new(alloc, peer, V::fresh(), tasks))
 }
 
 // A pair of ranks of which rank 0 does the first deeds and rank 1 the others.
-pub(crate) fn talking<V: Evict + Drop>(
+pub(crate) fn talking<V: Fresh>(
     alloc: Global,
     layout: Layout,
-    evictors: (V, V),
     first: &[(Deed, usize)],
     second: &[(Deed, usize)],
 ) -> Result<Team<Talker<V>>, Fail> {
-    let first = rank_with_tasks(alloc, Rank::of(1), evictors.0, first)?;
-    let second = rank_with_tasks(alloc, Rank::of(0), evictors.1, second)?;
+    let first = rank_with_tasks(alloc, Rank::of(1), first)?;
+    let second = rank_with_tasks(alloc, Rank::of(0), second)?;
     let chip = opened(alloc, 2, layout, CommRule::Absent)?;
     team_of_two(alloc, chip, first, second)
 }
 
 // How many messages of rank 1 arrived as they were to.
-pub(crate) fn arrived_in<V: Evict + Drop>(team: &Team<Talker<V>>) -> u32 {
+fn arrived_in<V: Evict + Drop>(team: &Team<Talker<V>>) -> u32 {
     team.player(1).map_or(0, |talker| talker.arrived)
 }
 
+// Whether `arrived` messages of rank 1 have arrived once the ranks have taken these steps.
+pub(crate) fn arrive_by<V: Evict + Drop>(
+    team: &mut Team<Talker<V>>,
+    steps: &[Step],
+    arrived: u32,
+) -> bool {
+    takes(team, steps) && arrived_in(team) == arrived
+}
+
 // Shows that rank 0 does the first deeds and rank 1 the others by these steps, and that `arrived` messages arrive.
-pub(crate) fn shows_exchange<V: Evict + Drop>(
+pub(crate) fn shows_exchange<V: Fresh>(
     alloc: Global,
     layout: Layout,
-    evictors: (V, V),
-    deeds: (&[(Deed, usize)], &[(Deed, usize)]),
+    first: &[(Deed, usize)],
+    second: &[(Deed, usize)],
     steps: &[Step],
     arrived: u32,
 ) -> Result<(), Fail> {
-    let mut team = talking(alloc, layout, evictors, deeds.0, deeds.1)?;
-    as_named(takes(&mut team, steps) && arrived_in(&team) == arrived)
+    let mut team = talking::<V>(alloc, layout, first, second)?;
+    as_named(arrive_by(&mut team, steps, arrived))
 }
 
 /// In turn, until all are done.
@@ -352,8 +361,7 @@ const EXCHANGES: &[(&[(Deed, usize)], &[(Deed, usize)], u32)] = &[
 
 fn shows_exchanges(alloc: Global, layout: Layout) -> Result<(), Fail> {
     for &(first, second, arrived) in EXCHANGES {
-        let evictors = (Never, Never);
-        shows_exchange(alloc, layout, evictors, (first, second), IN_TURN, arrived)?;
+        shows_exchange::<Never>(alloc, layout, first, second, IN_TURN, arrived)?;
     }
     Ok(())
 }
@@ -364,9 +372,7 @@ const BOTH_RECEIVED: &[(Deed, usize)] = &[(Deed::Receive, 6_625), (Deed::Receive
 
 // Shows that messages sent and posted arrive, where each fill of either rank evicts a line.
 fn shows_evictions(alloc: Global, layout: Layout) -> Result<(), Fail> {
-    let evictors = (Always::new(), Always::new());
-    let both = (SENT_AND_POSTED, BOTH_RECEIVED);
-    shows_exchange(alloc, layout, evictors, both, IN_TURN, 2)
+    shows_exchange::<Always>(alloc, layout, SENT_AND_POSTED, BOTH_RECEIVED, IN_TURN, 2)
 }
 
 #[test]

@@ -275,10 +275,12 @@ fn has_members(setup: &Setup, comm: u8, rank: u8, members: &[u8]) -> bool {
         }
         place = place.saturating_add(1);
     }
+    let at = usize::from(setup.place(comm, me));
     place == setup.group_size(comm, me)
         && setup.member(comm, me, place).is_none()
-        && members.first() == Some(&setup.root(comm, me).number())
-        && members.get(usize::from(setup.place(comm, me))) == Some(&rank)
+        && at < members.len()
+        && members[at] == rank
+        && members[0] == setup.root(comm, me).number()
 }
 
 // Eight ranks. Communicator 1 takes the world apart in fours, 9 the fours in even and odd places, and 10 the
@@ -302,8 +304,8 @@ const MEMBERS: &[(u8, u8, &[u8])] = &[
 #[test]
 fn splits_nest(rt: HostRuntime) {
     let setup = nested_setup().expect(&rt, "a setup");
-    assert!(rt; setup.nue() == 8 && setup.layout() == Layout::lines());
-    assert!(rt; setup.rule(9) == CommRule::Mod { parent: 1, k: 2 });
+    let split = setup.rule(9) == CommRule::Mod { parent: 1, k: 2 };
+    assert!(rt; split && setup.nue() == 8 && setup.layout() == Layout::lines());
     for &(comm, rank, members) in MEMBERS {
         assert!(rt; has_members(&setup, comm, rank, members));
     }

@@ -84,9 +84,9 @@ fn a_heap_flag_is_written_and_waited_for(rt: HostRuntime) {
     let mut heap = Heap::new();
     let buffer = flag_alloc(&mut heap).expect(&rt, "a line");
     let flag = heap_flag(&buffer);
-    assert!(rt; is_seen(&mut core, &mut port, flag, true, 1, 5));
-    assert!(rt; is_seen(&mut core, &mut port, flag, false, 6, 10));
-    assert!(rt; heap.is_out(buffer));
+    let set = is_seen(&mut core, &mut port, flag, true, 1, 5);
+    let cleared = is_seen(&mut core, &mut port, flag, false, 6, 10);
+    assert!(rt; set && cleared && heap.is_out(buffer));
     flag_free(&mut heap, buffer);
     assert!(rt; !heap.is_out(buffer));
 }
@@ -101,17 +101,24 @@ fn a_wait_stalls_after_its_polls(rt: HostRuntime) {
     assert!(rt; stalls(stalled, Spot::Flag { place, bit: 7 }, 3) && port.events.len() == 12);
 }
 
+// Whether a bit is written alone where two others of its word are set, and then read.
+fn is_changed_alone<R: Abort>(port: &mut ListedPort<'_, R>, buffer: &Buf) -> bool
+    requires fresh { port.old.events.items ≡ [] }
+{
+    port.words[20] = 0b1000_0001;
+    let mut core = Core::new(Never);
+    let written = write_bit(&mut core, port, buffer, 5).is_ok();
+    let alone = port.words[20] == 0b1010_0001 && port.events.len() == 7 && !port.taken[0];
+    let _ = port.setup.nue();
+    let set = flag_read(&mut core, port, Rank::of(0), heap_bit(buffer, 5));
+    written && alone && set && port.events.len() == 11
+}
+
 #[test]
 fn a_bit_is_changed_alone(rt: HostRuntime) {
     let mut port = listed_port(&rt, rt.alloc());
-    port.words[20] = 0b1000_0001;
-    let mut core = Core::new(Never);
     let buffer = Buf::new(230, 1).expect(&rt, "a line");
-    assert!(rt; write_bit(&mut core, &mut port, &buffer, 5).is_ok());
-    assert!(rt; port.words[20] == 0b1010_0001 && port.events.len() == 7 && !port.taken[0]);
-    let _ = port.setup.nue();
-    assert!(rt; flag_read(&mut core, &mut port, Rank::of(0), heap_bit(&buffer, 5)));
-    assert!(rt; port.events.len() == 11);
+    assert!(rt; is_changed_alone(&mut port, &buffer));
 }
 
 #[test]
@@ -119,8 +126,10 @@ fn a_second_bit_is_changed_on_the_same_port(rt: HostRuntime) {
     let mut port = listed_port(&rt, rt.alloc());
     let mut core = Core::new(Never);
     let buffer = Buf::new(230, 1).expect(&rt, "a line");
-    assert!(rt; write_two_bits(&mut core, &mut port, &buffer, 5, 7));
-    assert!(rt; port.words[20] == 0b1010_0000 && port.events.len() == 14 && !port.taken[0]);
+    let written = write_two_bits(&mut core, &mut port, &buffer, 5, 7);
+    assert!(rt;
+        written && port.words[20] == 0b1010_0000 && port.events.len() == 14 && !port.taken[0]
+    );
 }
 
 #[test]

@@ -1,8 +1,8 @@
 //! Rows of messages whose calls wait: a receive before its message, one of another length, and a second post.
 
 use crate::fixtures::{LAYOUTS, as_named};
-use crate::messages::{Deed, IN_TURN, Talker, arrived_in, shows_exchange, talking};
-use crate::steps::{Answer, Step, takes};
+use crate::messages::{Deed, IN_TURN, Talker, arrive_by, shows_exchange, talking};
+use crate::steps::{Answer, Step};
 use chip_teams::Team;
 use line_cache::Never;
 use scc_base::{Head, Layout};
@@ -25,8 +25,7 @@ const RECEIVE_WAITS: &[Step] = &[
 ];
 
 fn shows_receive(alloc: Global, layout: Layout) -> Result<(), Fail> {
-    let evictors = (Never, Never);
-    shows_exchange(alloc, layout, evictors, (SEND, RECEIVE), RECEIVE_WAITS, 1)
+    shows_exchange::<Never>(alloc, layout, SEND, RECEIVE, RECEIVE_WAITS, 1)
 }
 
 const SEND_FORTY: &[(Deed, usize)] = &[(Deed::Send, 40)];
@@ -43,8 +42,8 @@ fn met_forty(team: &Team<Talker<Never>>) -> bool {
 
 // Shows that a receive of another length meets the head that was sent, and leaves the message to the next receive.
 fn shows_other_length(alloc: Global, layout: Layout) -> Result<(), Fail> {
-    let mut team = talking(alloc, layout, (Never, Never), SEND_FORTY, RECEIVE_MORE)?;
-    as_named(takes(&mut team, IN_TURN) && met_forty(&team) && arrived_in(&team) == 1)
+    let mut team = talking::<Never>(alloc, layout, SEND_FORTY, RECEIVE_MORE)?;
+    as_named(arrive_by(&mut team, IN_TURN, 1) && met_forty(&team))
 }
 
 const LONG_AND_SHORT: &[(Deed, usize)] = &[(Deed::Post, 3_584), (Deed::Post, 7)];
@@ -60,15 +59,11 @@ const SECOND_POST_WAITS: &[Step] = &[
 
 // Whether a second post waits until the first is taken.
 fn second_post_waits(team: &mut Team<Talker<Never>>) -> bool {
-    takes(team, SECOND_POST_WAITS)
-        && arrived_in(team) == 1
-        && takes(team, IN_TURN)
-        && arrived_in(team) == 2
+    arrive_by(team, SECOND_POST_WAITS, 1) && arrive_by(team, IN_TURN, 2)
 }
 
 fn shows_second_post(alloc: Global, layout: Layout) -> Result<(), Fail> {
-    let evictors = (Never, Never);
-    let mut team = talking(alloc, layout, evictors, LONG_AND_SHORT, THEIR_RECEIVES)?;
+    let mut team = talking::<Never>(alloc, layout, LONG_AND_SHORT, THEIR_RECEIVES)?;
     as_named(second_post_waits(&mut team))
 }
 

@@ -3,10 +3,11 @@
 ghost use Rattle.std.specs.Prelude.{◌<◌};
 ghost use Rattle.scc_mesh.specs.Scenes.{IsNew, about_in};
 
+use crate::barriers::{Enters, entrants};
 use crate::fixtures::{LAYOUTS, as_named};
 use crate::steps::{Answer, Step, takes};
 use barrier::{BarOp, BarStop, Parity, barrier};
-use chip_teams::{Player, Team, opened};
+use chip_teams::{Player, opened};
 use line_cache::Never;
 use put_get::Core;
 use scc_base::{CommRule, Layout, Turn};
@@ -28,19 +29,9 @@ struct Passer {
     parity: Parity,
 }
 
-impl Passer {
-    ghost use Rattle.std.specs.Prelude.{◌≢◌, ◌<◌, ℕ, []};
-    ghost use Rattle.scc_base.specs.Setups.{SetupView};
-    ghost use Rattle.scc_base.specs.Communicators.{rule_of};
-    ghost use Rattle.scc_base.specs.declared.communicators.CommRule.TheVariants.{Absent};
-    ghost use Rattle.chip_teams.specs.Teams.{sight_alone};
-    ghost use Rattle.scc_rows.specs.Entrants.{IsBarrierReady};
-
-    fn new(comm: u8) -> Passer
-        requires below { comm < 16 }
-        ensures ready { (s : SetupView) (r : ℕ) → rule_of s.comms comm ≢ Absent
-            → IsBarrierReady (sight_alone s r []) result.core result.comm result.op result.parity }
-    {
+impl Enters for Passer {
+    fn at(comm: u8, more: u8) -> Passer {
+        let _ = more;
         Passer {
             core: Core::new(Never),
             comm,
@@ -69,22 +60,6 @@ impl Player for Passer {
     }
 }
 
-// All ranks of a chip, which pass barriers of this communicator by whole calls.
-fn passers(alloc: Global, chip: Chip, comm: u8) -> Result<Team<Passer>, Fail>
-    requires new { IsNew (about_in chip) chip }
-    requires below { comm < 16 }
-{
-    if chip.setup().rule(comm) == CommRule::Absent {
-        return Err("a communicator with a rule".into());
-    }
-    let nue = chip.setup().nue();
-    let mut team = Team::new(alloc, chip);
-    for _ in 0..nue {
-        team.join(Passer::new(comm))?;
-    }
-    Ok(team)
-}
-
 // Shows that the ranks of a chip take these steps, and then those, by whole calls of this communicator's barriers.
 fn shows_passers(
     alloc: Global,
@@ -96,7 +71,7 @@ fn shows_passers(
     requires new { IsNew (about_in chip) chip }
     requires below { comm < 16 }
 {
-    let mut team = passers(alloc, chip, comm)?;
+    let mut team = entrants::<Passer>(alloc, chip, comm, 0)?;
     as_named(takes(&mut team, first) && takes(&mut team, second))
 }
 

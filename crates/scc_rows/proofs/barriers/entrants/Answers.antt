@@ -6,8 +6,8 @@ use Rattle.scc_mesh.specs.Scenes.{about_in}
 use Rattle.scc_rows.proofs.barriers.entrants.Goals as goal
 
 pub join-requires : goal.join-requires
-join-requires c =
+join-requires g c =
     let present : rule_of (about_in c.args.chip).comms c.args.comm ≢ Absent = search rules in
     record {
-      stands = c.new.ensures.ready c.loop.team.about c.loop.team.size (subst (λ (s : SetupView). rule_of s.comms c.args.comm ≢ Absent) (sym c.loop.invariant) present);
+      stands = c.at.ensures.ready c.loop.team.about c.loop.team.size (subst (λ (s : SetupView). rule_of s.comms c.args.comm ≢ Absent) (sym c.loop.invariant) present);
     }

@@ -1,7 +1,7 @@
 use Rattle.std.proofs.Common.{ap}
 use Rattle.put_get.specs.Cores.{Private}
 use Rattle.scc_rows.proofs.EntrantLemmas.{starts_ready}
-use Rattle.scc_rows.proofs.whole_barriers.Passer.new.Goals as goal
+use Rattle.scc_rows.proofs.barriers.EntrantEnters.at.Goals as goal
 
 pub returns : goal.returns
 returns c = record {

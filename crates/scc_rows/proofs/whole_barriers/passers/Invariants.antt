@@ -1,6 +1,0 @@
-use Rattle.std.proofs.Common.{◌≡◌}
-use Rattle.scc_mesh.specs.Scenes.{about_in}
-use Rattle.scc_rows.proofs.whole_barriers.passers.Given as goal
-
-abbrev pub invariant-loop : goal.invariant-loop
-invariant-loop l = l.team.about ≡ about_in l.fn.chip
