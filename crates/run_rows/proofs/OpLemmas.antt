@@ -47,3 +47,14 @@ pub op_begins : (s : Sight) (c : Private) (slot : SlotAt) (src dst : List ℕ) (
     → IsFit more s.seat.rank s.seat.setup.nue len src dst → op ≡ new_more more len → Stands (taking_part s c op slot src dst)
 op_begins s c slot src dst op more len free fits is =
     subst (λ (x : MoreAt). Stands (taking_part s c x slot src dst)) (sym is) ((record_in s).calls, begins s c slot more len src dst free fits)
+
+-- the bytes of a call that is under way may be spelled in another way
+pub op_spelled : (s : Sight) (c : Private) (slot : SlotAt) (op : MoreAt) {src from dst into : List ℕ} → from ≡ src → into ≡ dst → Stands (taking_part s c op slot src dst) → Stands (taking_part s c op slot from into)
+op_spelled s c slot op {src} {from} {dst} {into} same_src same_dst st =
+    subst (λ (x : List ℕ). Stands (taking_part s c op slot x into)) (sym same_src) (subst (λ (y : List ℕ). Stands (taking_part s c op slot src y)) (sym same_dst) st)
+
+-- a rank whose call has ended is in none
+pub op_ended : (s : Sight) (c d : Private) (slot after : SlotAt) (src dst : List ℕ) (op : Option MoreAt) → IsBetweenMessages s c slot → d ≡ c → after ≡ slot → op ≡ None → IsAtOp s d after src dst op
+op_ended s c d slot after src dst op free core same none =
+    subst (λ (x : Option MoreAt). IsAtOp s d after src dst x) (sym none)
+    (subst (λ (x : SlotAt). IsBetweenMessages s d x) (sym same) (subst (λ (x : Private). IsBetweenMessages s x slot) (sym core) free))

@@ -283,9 +283,6 @@ over stepped p s ties = record {
 peers_of : (s : SetupView) (i j : ℕ) → s.nue ≡ 4 → (nat_lt i 4 && (nat_lt j 4 && not (i == j))) ≡ true → are_peers s i j ≡ true
 peers_of s i j four both = ap (λ (n : ℕ). nat_lt i n && (nat_lt j n && not (i == j))) four ∙ both
 
-pub seated_at : {m : Member Passer} {x y from to : ℕ} → IsSeated m x y → x ≡ from → y ≡ to → IsSeated m from to
-seated_at {m} {x} {y} {from} {to} seated is_from is_to = subst (λ (j : ℕ). IsSeated m from j) is_to (subst (λ (k : ℕ). IsSeated m k y) is_from seated)
-
 pub four_seated : (chip : ChipView) (a b c e : Member Passer) → IsNew (about_in chip) chip → (about_in chip).nue ≡ 4 → IsSeated a 3 1 → IsSeated b 0 2 → IsSeated c 1 3 → IsSeated e 2 0
     → IsCrew (conduct_of_members passer_conduct) chip (a ∷ b ∷ c ∷ e ∷ [])
 four_seated chip a b c e new four one two three last = record { whole = new.whole; each = sym four; ties = ties }

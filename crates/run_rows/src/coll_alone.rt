@@ -1,5 +1,7 @@
 //! Collective calls of one rank of a chip whose other ranks make no event.
 
+ghost use Rattle.std.specs.Prelude.{◌≤◌};
+
 use crate::coll_teams::{met, right_at};
 use chip_teams::{Player, Team};
 use coll_more::More;
@@ -18,22 +20,23 @@ fn answer_after<M: Player + Drop>(team: &mut Team<M>, moves: u32) -> Option<Turn
     team.turn(0)
 }
 
-// Whether an alltoall of one rank begins, copies its own piece, and is at its end.
-fn one_ends(alloc: Global) -> Result<bool, Fail> {
-    let mut team = met::<Never>(alloc, Layout::LineFlags, 1, More::Alltoall, 3, 1)?;
-    let answer = answer_after(&mut team, 2);
-    Ok(matches!(answer, Some(Turn::Done)) && right_at(&team, 0) == 1)
-}
-
-// Whether a gather of two begins, copies the own piece, begins the message of rank 1, and waits for it.
-fn first_waits(alloc: Global) -> Result<bool, Fail> {
-    let mut team = met::<Never>(alloc, Layout::LineFlags, 2, More::Gather, 3, 1)?;
-    let answer = answer_after(&mut team, 3);
-    Ok(matches!(answer, Some(Turn::Waiting(_))) && right_at(&team, 0) == 0)
+// The same of `nue` ranks that are to make a call once, with pieces of three bytes, and how many calls of rank 0 have then
+// got their bytes.
+fn first_after(alloc: Global, nue: u8, more: More, moves: u32) -> Result<(Option<Turn>, u32), Fail>
+    requires few { nue ≤ 48 }
+{
+    let mut team = met::<Never>(alloc, Layout::LineFlags, nue, more, 3, 1)?;
+    let answer = answer_after(&mut team, moves);
+    Ok((answer, right_at(&team, 0)))
 }
 
 #[test]
 fn a_rank_of_one_ends_and_a_rank_of_two_waits(rt: HostRuntime) -> Result<(), Fail> {
-    assert!(rt; one_ends(rt.alloc())? && first_waits(rt.alloc())?);
+    // An alltoall of one rank begins, copies its own piece, and is at its end.
+    let one = first_after(rt.alloc(), 1, More::Alltoall, 2)?;
+    assert!(rt; matches!(one, (Some(Turn::Done), 1)));
+    // A gather of two begins, copies the own piece, begins the message of rank 1, and waits for it.
+    let two = first_after(rt.alloc(), 2, More::Gather, 3)?;
+    assert!(rt; matches!(two, (Some(Turn::Waiting(_)), 0)));
     Ok(())
 }

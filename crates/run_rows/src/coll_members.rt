@@ -128,13 +128,16 @@ impl<V: Evict + Drop> Member<V> {
             &self.src,
             &mut self.dst,
         );
-        if turn == RecvTurn::Done {
-            return self.end(port.rank().number(), port.setup().nue());
-        }
-        self.op = Some(op);
         match turn {
-            RecvTurn::Waiting(spot) => Turn::Waiting(spot),
-            _ => Turn::Moved,
+            RecvTurn::Done => self.end(port.rank().number(), port.setup().nue()),
+            RecvTurn::Waiting(spot) => {
+                self.op = Some(op);
+                Turn::Waiting(spot)
+            }
+            _ => {
+                self.op = Some(op);
+                Turn::Moved
+            }
         }
     }
 }

@@ -1,5 +1,5 @@
 //! Tests over a chip: of UEs and of collective calls on one with one seat, and of whole runs, in threads and on one. There is no other code but
-//! a worker of a user's own (`rings`), whose ranks pass a number round a ring.
+//! the types of a worker of a user's own (`rings`), of which the specs speak: its ranks pass a number round a ring.
 #![tactic(auto)]
 
 #[cfg(test)]
@@ -22,6 +22,8 @@ mod meetings;
 mod open_sends;
 #[cfg(test)]
 mod ring_runs;
+#[cfg(test)]
+mod ring_turns;
 mod rings;
 #[cfg(test)]
 mod runs;

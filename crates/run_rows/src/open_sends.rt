@@ -4,8 +4,8 @@ ghost use Rattle.std.specs.Prelude.{◌≡◌, ◌<◌};
 ghost use Rattle.scc_mesh.specs.Scenes.{IsNew};
 ghost use Rattle.script_rules.specs.Script.{rules_of};
 
-use crate::runs::crew_of;
-use crate::scripts::{FOUR_BYTES, chip_with, setup_of};
+use crate::runs::{BOTH_MODES, crew_of};
+use crate::scripts::{FOUR_BYTES, LAYOUTS, chip_with, setup_of};
 use chip_run::{Mode, Open};
 use line_cache::Never;
 use rcce_run::run;
@@ -84,8 +84,8 @@ fn leaves<R: Threads + Sync>(rt: &R, alloc: Global, text: &[u8], words: [u64; 7]
     let Ok(scripts) = read_script(alloc, text, 2) else {
         return false;
     };
-    for layout in &[Layout::LineFlags, Layout::BitFlags] {
-        for mode in &[Mode::Serial(1), Mode::Threads] {
+    for layout in LAYOUTS {
+        for mode in BOTH_MODES {
             if !leaves_in(rt, alloc, &scripts, *layout, *mode, words) {
                 return false;
             }

@@ -1,9 +1,11 @@
 //! Runs of a worker of a user's own: a number comes round a ring.
 
-use crate::rings::seated;
+use crate::ring_turns::seated;
+use crate::runs::BOTH_MODES;
+use crate::scripts::LAYOUTS;
 use chip_run::{Mode, Open, RunEnd, run};
 use chip_teams::opened;
-use scc_base::{CommRule, Layout, Rank};
+use scc_base::{CommRule, Layout};
 use std::alloc::Global;
 use std::test::Fail;
 use std::thread::Threads;
@@ -17,20 +19,19 @@ fn comes_round<R: Threads + Sync>(
 ) -> Result<bool, Fail> {
     let mut chip = opened(alloc, 4, layout, CommRule::Absent)?;
     let mut ring = [
-        seated(Rank::of(3), Rank::of(1), true, 7),
-        seated(Rank::of(0), Rank::of(2), false, 0),
-        seated(Rank::of(1), Rank::of(3), false, 0),
-        seated(Rank::of(2), Rank::of(0), false, 0),
+        seated(3, 1, true, 7),
+        seated(0, 2, false, 0),
+        seated(1, 3, false, 0),
+        seated(2, 0, false, 0),
     ];
     let end = run(rt, &mut chip, &mut ring, mode, &Open);
-    let first = &ring[0].worker;
-    Ok(end == RunEnd::Finished && first.number[0] == 11)
+    Ok(end == RunEnd::Finished && ring[0].worker.number[0] == 11)
 }
 
 #[test]
 fn a_number_comes_round_a_ring(rt: HostRuntime) -> Result<(), Fail> {
-    for layout in &[Layout::LineFlags, Layout::BitFlags] {
-        for mode in &[Mode::Serial(1), Mode::Threads] {
+    for layout in LAYOUTS {
+        for mode in BOTH_MODES {
             assert!(rt; comes_round(&rt, rt.alloc(), *layout, *mode)?);
         }
     }

@@ -6,7 +6,7 @@ ghost use Rattle.scc_mesh.specs.Scenes.{ChipView, IsNew};
 ghost use Rattle.script_rules.specs.Script.{rules_of};
 
 use crate::evictors::PerRank;
-use crate::scripts::{End, FOUR_BYTES, chip_with, has_printed, is_at, setup_of};
+use crate::scripts::{End, FOUR_BYTES, LAYOUTS, chip_with, has_printed, is_at, setup_of};
 use chip_run::{Gate, Mode, Open, RunEnd};
 use line_cache::{Always, Evict, Never, Seeded};
 use rcce_run::{Crew, run};
@@ -89,7 +89,8 @@ fn are_as_told<V: Evict + Drop>(crew: &[Crew<'_, V>], row: &Row<'_>) -> bool {
     }
     for at in 0..crew.len() {
         let (end, printed) = &row.ranks[at];
-        if !is_at(&crew[at].worker, end) || !has_printed(&crew[at].worker, printed) {
+        let ue = &crew[at].worker;
+        if !is_at(ue, end) || !has_printed(ue, printed) {
             return false;
         }
     }
@@ -117,30 +118,7 @@ fn run_comes_to<V: PerRank + Send, G: Gate + Sync, R: Threads + Sync>(
     Ok(end == row.end && are_as_told(crew.as_slice(), row))
 }
 
-/// Whether a run of a script on a new chip in this layout does.
-fn script_comes_to<V: PerRank + Send, G: Gate + Sync, R: Threads + Sync>(
-    rt: &R,
-    alloc: Global,
-    scripts: &Scripts,
-    layout: Layout,
-    row: &Row<'_>,
-    like: &V,
-    mode: Mode,
-    gate: &G,
-) -> bool {
-    let Some(setup) = setup_of(scripts, layout, false) else {
-        return false;
-    };
-    match chip_with(alloc, &setup) {
-        Ok(mut chip) => matches!(
-            run_comes_to(rt, alloc, &mut chip, scripts, &setup, row, like, mode, gate),
-            Ok(true)
-        ),
-        Err(_) => false,
-    }
-}
-
-/// Whether a run of a row's script comes to all that the row says.
+/// Whether a run of a row's script, on a new chip in this layout, comes to all that the row says.
 pub(crate) fn comes_to<V: PerRank + Send, G: Gate + Sync, R: Threads + Sync>(
     rt: &R,
     alloc: Global,
@@ -154,8 +132,19 @@ pub(crate) fn comes_to<V: PerRank + Send, G: Gate + Sync, R: Threads + Sync>(
     if nue < 1 || nue > 48 {
         return false;
     }
-    match read_script(alloc, row.script, nue as u8) {
-        Ok(scripts) => script_comes_to(rt, alloc, &scripts, layout, row, like, mode, gate),
+    let Ok(scripts) = read_script(alloc, row.script, nue as u8) else {
+        return false;
+    };
+    let Some(setup) = setup_of(&scripts, layout, false) else {
+        return false;
+    };
+    match chip_with(alloc, &setup) {
+        Ok(mut chip) => matches!(
+            run_comes_to(
+                rt, alloc, &mut chip, &scripts, &setup, row, like, mode, gate
+            ),
+            Ok(true)
+        ),
         Err(_) => false,
     }
 }
@@ -169,7 +158,7 @@ fn always_comes_to<V: PerRank + Send, R: Threads + Sync>(
     modes: &[Mode],
 ) -> bool {
     for mode in modes {
-        for layout in &[Layout::LineFlags, Layout::BitFlags] {
+        for layout in LAYOUTS {
             if !comes_to(rt, alloc, *layout, row, like, *mode, &Open) {
                 return false;
             }
@@ -255,7 +244,8 @@ const ROWS: &[&Row<'static>] = &[
     LENGTHS_THAT_DIFFER,
 ];
 
-const BOTH_MODES: &[Mode] = &[Mode::Serial(1), Mode::Threads];
+/// On one thread, and in threads.
+pub(crate) const BOTH_MODES: &[Mode] = &[Mode::Serial(1), Mode::Threads];
 
 #[test]
 fn scripts_come_to_their_ends(rt: HostRuntime) {

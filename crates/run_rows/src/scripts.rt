@@ -16,6 +16,9 @@ use std::alloc::{AllocError, Global};
 pub(crate) const FOUR_BYTES: &[u8] =
     b"ue 0\nbytes x 01020304\nsend 1 x\nue 1\nrecv 0 y 4\nprint y\n";
 
+/// Both layouts.
+pub(crate) const LAYOUTS: &[Layout] = &[Layout::LineFlags, Layout::BitFlags];
+
 /// The setup of a script, on cores 0 and up, or from the highest core down.
 pub(crate) fn setup_of(scripts: &Scripts, layout: Layout, downwards: bool) -> Option<Setup>
     ensures layout { IfSome result (λ s. s.layout ≡ layout) }

@@ -29,70 +29,32 @@ struct Apart<M: Player + Drop> {
     player: M,
 }
 
-// `count` turns of a rank, by its port.
-fn turns<M: Player, P: Port>(player: &mut M, port: &mut P, count: u32)
+// Ten turns of a rank, by its port.
+fn turns<M: Player, P: Port>(player: &mut M, port: &mut P)
     requires stands { M.stands player.old (P.sight port.old).seat.setup (P.sight port.old).seat.rank (P.sight port.old).events }
     ensures stands { M.stands player.new (P.sight port.new).seat.setup (P.sight port.new).seat.rank (P.sight port.new).events }
     ensures did { (events : List Event) × Did (P.sight port.old) events (P.sight port.new) }
 {
-    for _ in 0..count {
+    for _ in 0..10 {
         player.turn(port);
     }
 }
 
-// `count` turns of a rank that is away, by a port that its token gives for them.
-fn turns_away<M: Player>(words: Words<'_>, token: Token, player: &mut M, count: u32) -> Token
-    requires of_chip { token.table ≡ words.space.now.table }
-    requires stands { M.stands player.old words.space.now.about token.rank token.events }
-    ensures of_chip { result.table ≡ token.table }
-    ensures stands { M.stands player.new words.entry.space.now.about result.rank result.events }
-{
-    let mut port = words.port(token);
-    turns(player, &mut port, count);
-    port.into_token()
-}
-
-// `count` turns of a rank that is away, with the token in its place before and after them.
-fn turns_held<M: Player + Drop>(words: Words<'_>, rank: &mut Apart<M>, count: u32)
+// Ten turns of a rank that is away, by a port that its token gives for them, with the token in its place before and after them.
+fn turns_away<M: Player + Drop>(words: Words<'_>, rank: &mut Apart<M>)
     requires away { StandsAway (M.stands rank.old.player) words.space.now.about words.space.now.table rank.old.token }
     ensures away { StandsAway (M.stands rank.new.player) words.entry.space.now.about words.entry.space.now.table rank.new.token }
 {
     let Some(token) = rank.token.take() else {
         unreachable!()
     };
-    rank.token = Some(turns_away(words, token, &mut rank.player, count));
+    let mut port = words.port(token);
+    turns(&mut rank.player, &mut port);
+    rank.token = Some(port.into_token());
 }
 
-// `count` turns of each rank, at the same time where threads can be had: the words and a rank go into each thread.
-fn all_turn<M: Player + Drop + Send, R: Threads + Sync>(
-    rt: &R,
-    words: Words<'_>,
-    ranks: &mut [Apart<M>],
-    count: u32,
-)
-    requires some { 0 < length ranks.old }
-    requires away { (i : ℕ) (d : _) → i < length ranks.old
-        → let m = slice_index_or ranks.old i d in StandsAway (M.stands m.player) words.space.now.about words.space.now.table m.token }
-    ensures away { (i : ℕ) (d : _) → i < length ranks.old
-        → let m = slice_index_or ranks.new i d in StandsAway (M.stands m.player) words.entry.space.now.about
-        words.entry.space.now.table m.token }
-{
-    let threads = ranks.len();
-    thread::for_each_mut(
-        rt,
-        ranks,
-        threads,
-        &|at: usize, rank: &mut Apart<M>|
-            requires { StandsAway (M.stands rank.old.player) words.space.now.about words.space.now.table rank.old.token }
-            ensures { StandsAway (M.stands rank.new.player) words.entry.space.now.about words.entry.space.now.table rank.new.token }
-        {
-            let _ = at;
-            turns_held(words, rank, count)
-        },
-    );
-}
-
-// `count` rounds, each of ten turns of each rank.
+// `count` rounds, each of ten turns of each rank, at the same time where threads can be had: the words and a rank go into each
+// thread.
 fn rounds<M: Player + Drop + Send, R: Threads + Sync>(
     rt: &R,
     words: Words<'_>,
@@ -103,8 +65,20 @@ fn rounds<M: Player + Drop + Send, R: Threads + Sync>(
     requires away { (i : ℕ) (d : _) → i < length ranks.old
         → let m = slice_index_or ranks.old i d in StandsAway (M.stands m.player) words.space.now.about words.space.now.table m.token }
 {
+    let threads = ranks.len();
     for _ in 0..count {
-        all_turn(rt, words, ranks, 10);
+        thread::for_each_mut(
+            rt,
+            ranks,
+            threads,
+            &|at: usize, rank: &mut Apart<M>|
+                requires { StandsAway (M.stands rank.old.player) words.space.now.about words.space.now.table rank.old.token }
+                ensures { StandsAway (M.stands rank.new.player) words.entry.space.now.about words.entry.space.now.table rank.new.token }
+            {
+                let _ = at;
+                turns_away(words, rank)
+            },
+        );
     }
 }
 
@@ -184,39 +158,40 @@ fn both_finish<M: Player + Finishes + Drop + Send, R: Threads + Sync>(
     Ok(have_finished(ranks.as_slice(), len))
 }
 
-// Whether two ranks finish so on a new chip with this setup.
+// Whether two ranks finish so, if there was memory for both.
 fn arrives_with<M: Player + Finishes + Drop + Send, R: Threads + Sync>(
     rt: &R,
     alloc: Global,
-    setup: &Setup,
+    chip: &mut Chip,
     first: Result<M, AllocError>,
     second: Result<M, AllocError>,
     len: u16,
 ) -> Result<bool, AllocError>
-    requires ranks { 2 ≤ setup.now.nue }
-    requires first { IfOk first (λ m. M.stands m setup.now 0 []) }
-    requires second { IfOk second (λ m. M.stands m setup.now 1 []) }
+    requires new { IsNew (about_in chip.old) chip.old }
+    requires ranks { 2 ≤ (about_in chip.old).nue }
+    requires first { IfOk first (λ m. M.stands m (about_in chip.old) 0 []) }
+    requires second { IfOk second (λ m. M.stands m (about_in chip.old) 1 []) }
 {
-    let (first, second) = (first?, second?);
-    let mut chip = chip_with(alloc, setup)?;
-    both_finish(rt, alloc, &mut chip, first, second, len)
+    both_finish(rt, alloc, chip, first?, second?, len)
 }
 
-// Whether a message of this length arrives by a script for two, on a chip with this setup.
+// Whether a message of this length arrives by a script for two, on a new chip with this setup.
 fn arrives_on<V: Fresh + Send, R: Threads + Sync>(
     rt: &R,
     alloc: Global,
+    chip: &mut Chip,
     scripts: &Scripts,
     setup: &Setup,
     len: u16,
 ) -> Result<bool, AllocError>
+    requires new { IsNew setup.now chip.old }
     requires two { setup.now.nue ≡ 2 }
     requires ranks { setup.now.nue ≡ scripts.now.nue }
     requires communicators { setup.now.comms ≡ rules_of scripts.now.items }
 {
     let first = runner_of::<V>(alloc, scripts, setup, 0);
     let second = runner_of::<V>(alloc, scripts, setup, 1);
-    arrives_with(rt, alloc, setup, first, second, len)
+    arrives_with(rt, alloc, chip, first, second, len)
 }
 
 // Whether it arrives in this layout.
@@ -229,12 +204,15 @@ fn arrives_in<R: Threads + Sync>(
 ) -> bool
     requires two { scripts.now.nue ≡ 2 }
 {
-    match setup_of(scripts, layout, true) {
-        Some(setup) => matches!(
-            arrives_on::<Never, R>(rt, alloc, scripts, &setup, len),
+    let Some(setup) = setup_of(scripts, layout, true) else {
+        return false;
+    };
+    match chip_with(alloc, &setup) {
+        Ok(mut chip) => matches!(
+            arrives_on::<Never, R>(rt, alloc, &mut chip, scripts, &setup, len),
             Ok(true)
         ),
-        None => false,
+        Err(_) => false,
     }
 }
 

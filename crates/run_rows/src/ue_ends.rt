@@ -1,7 +1,7 @@
 //! What scripts come to over a chip with one seat.
 
 use crate::scripts::End::{Finished, Mismatch, Waits};
-use crate::scripts::FOUR_BYTES;
+use crate::scripts::{FOUR_BYTES, LAYOUTS};
 use crate::ues::{Row, comes_to};
 use line_cache::{Always, Never};
 use scc_base::Layout;
@@ -23,7 +23,7 @@ fn comes_to_it(alloc: Global, row: &Row<'_>, layout: Layout) -> Result<bool, Fai
 // The same of each script, in both layouts.
 fn always_come_to<R: Abort>(rt: &R, alloc: Global, rows: &[Row<'_>]) -> Result<(), Fail> {
     for row in rows {
-        for layout in &[Layout::LineFlags, Layout::BitFlags] {
+        for layout in LAYOUTS {
             assert!(rt; comes_to_it(alloc, row, *layout)?);
         }
     }

@@ -101,22 +101,6 @@ fn join_next<'s, V: Fresh>(
     team.join(runner_of(alloc, scripts, setup, number)?)
 }
 
-// The ranks of a script on a chip that was just opened.
-fn team_on<'s, V: Fresh>(
-    alloc: Global,
-    scripts: &'s Scripts,
-    setup: &Setup,
-) -> Result<Team<Runner<'s, V>>, Fail>
-    requires ranks { setup.now.nue ≡ scripts.now.nue }
-    requires communicators { setup.now.comms ≡ rules_of scripts.now.items }
-{
-    let mut team = Team::new(alloc, chip_with(alloc, setup)?);
-    for number in 0..scripts.nue() {
-        join_next(alloc, &mut team, scripts, setup, number)?;
-    }
-    Ok(team)
-}
-
 // One turn of each rank, in rank order or the other way round. Whether one of them moved.
 fn sweep<M: Player + Drop>(team: &mut Team<M>, nue: usize, backwards: bool) -> bool {
     let mut moved = false;
@@ -157,7 +141,7 @@ fn rest_at<M: Player + Ends + Drop>(
     settles(team, wanted.len(), backwards) && are_wanted(team, wanted)
 }
 
-// Whether the ranks of a script do so.
+// Whether the ranks of a script do so, on a chip that was just opened.
 fn come_to<V: Fresh>(
     alloc: Global,
     scripts: &Scripts,
@@ -168,7 +152,10 @@ fn come_to<V: Fresh>(
     let Some(setup) = setup_of(scripts, layout, true) else {
         return Ok(false);
     };
-    let mut team = team_on::<V>(alloc, scripts, &setup)?;
+    let mut team = Team::new(alloc, chip_with(alloc, &setup)?);
+    for number in 0..scripts.nue() {
+        join_next::<V>(alloc, &mut team, scripts, &setup, number)?;
+    }
     Ok(rest_at(&mut team, backwards, wanted))
 }
 
