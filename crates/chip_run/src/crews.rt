@@ -21,7 +21,7 @@ use scc_mesh::Chip;
 const TURNS: usize = 1000;
 
 /// A turn of each worker, in rank order.
-pub(crate) fn sweep<W: Worker + Drop>(chip: &mut Chip, crew: &mut [Member<W>]) -> Rest
+pub(crate) fn sweep<W: Worker>(chip: &mut Chip, crew: &mut [Member<W>]) -> Rest
     requires crew { IsCrew (conduct_of_members W.conduct) chip.old crew.old }
     ensures swept { SweepStands (conduct_of_members W.conduct) result (length crew.old) chip.old crew.old chip.new crew.new }
     ensures order { TurnsOf (conduct_of_members W.conduct) (range_with_len 0 (length crew.old)) chip.old crew.old chip.new crew.new }
@@ -36,7 +36,7 @@ pub(crate) fn sweep<W: Worker + Drop>(chip: &mut Chip, crew: &mut [Member<W>]) -
 }
 
 /// A thousand turns for each rank, each of the rank that the generator's next word names.
-pub(crate) fn round<W: Worker + Drop>(chip: &mut Chip, crew: &mut [Member<W>], picks: &mut Pcg32)
+pub(crate) fn round<W: Worker>(chip: &mut Chip, crew: &mut [Member<W>], picks: &mut Pcg32)
     requires crew { IsCrew (conduct_of_members W.conduct) chip.old crew.old }
     requires some { 0 < length crew.old }
     ensures picks { picks.new ≡ generator_after pcg32 (1000 * length crew.old) picks.old }

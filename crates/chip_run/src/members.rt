@@ -7,14 +7,14 @@ use scc_proto::Port;
 
 /// A worker with a place for its rank's token, which is empty before and after a run.
 #[derive(Drop)]
-pub struct Member<W: Worker + Drop> {
+pub struct Member<W: Worker> {
     pub worker: W,
     pub token: Option<Token>,
     /// How many turns in a row it has waited, of a row that is taken a stretch at a time.
     pub vain: usize,
 }
 
-impl<W: Worker + Drop> Member<W> {
+impl<W: Worker> Member<W> {
     ghost use Rattle.std.specs.Prelude.{◌≡◌, None};
 
     /// A member whose rank is at home.
@@ -30,7 +30,7 @@ impl<W: Worker + Drop> Member<W> {
     }
 }
 
-impl<W: Worker + Drop> Worker for Member<W> {
+impl<W: Worker> Worker for Member<W> {
     ghost use Rattle.chip_run.specs.Away.{conduct_of_members};
 
     ghost conduct = { conduct_of_members W.conduct };

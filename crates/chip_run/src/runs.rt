@@ -47,7 +47,7 @@ impl Rounds {
 }
 
 /// The next round. In threads it asks for `threads` of them, and tells how many the round behind it asks for.
-fn next_round<W: Worker + Drop + Send, G: Gate + Sync, R: Threads + Sync>(
+fn next_round<W: Worker + Send, G: Gate + Sync, R: Threads + Sync>(
     rt: &R,
     chip: &mut Chip,
     crew: &mut [Member<W>],
@@ -69,7 +69,7 @@ fn next_round<W: Worker + Drop + Send, G: Gate + Sync, R: Threads + Sync>(
 }
 
 /// Runs the members of a chip's crew, until a sweep in which none moves. No memory is taken.
-pub fn run<W: Worker + Drop + Send, G: Gate + Sync, R: Threads + Sync>(
+pub fn run<W: Worker + Send, G: Gate + Sync, R: Threads + Sync>(
     rt: &R,
     chip: &mut Chip,
     crew: &mut [Member<W>],

@@ -18,7 +18,7 @@ use std::thread;
 use std::thread::Threads;
 
 /// Hands out one rank.
-fn give<W: Worker + Drop>(chip: &mut Chip, at: usize, member: &mut Member<W>)
+fn give<W: Worker>(chip: &mut Chip, at: usize, member: &mut Member<W>)
     requires from { IsHomeFrom chip.old at }
     requires below { at < (about_in chip.old).nue }
     requires ties { W.conduct.tied member.old.worker (about_in chip.old) at (events_in chip.old at) }
@@ -33,7 +33,7 @@ fn give<W: Worker + Drop>(chip: &mut Chip, at: usize, member: &mut Member<W>)
 }
 
 /// Takes one rank home.
-fn bring<W: Worker + Drop>(chip: &mut Chip, at: usize, member: &mut Member<W>)
+fn bring<W: Worker>(chip: &mut Chip, at: usize, member: &mut Member<W>)
     requires home { IsHomeBelow chip.old at }
     requires below { at < (about_in chip.old).nue }
     requires away { IsAway (W.conduct.tied member.old.worker) (about_in chip.old) (table_in chip.old) at member.old.token }
@@ -50,7 +50,7 @@ fn bring<W: Worker + Drop>(chip: &mut Chip, at: usize, member: &mut Member<W>)
 }
 
 /// One member's row of turns, in its thread.
-fn go<W: Worker + Drop, G: Gate>(
+fn go<W: Worker, G: Gate>(
     words: Words<'_>,
     gate: &G,
     roll: &Roll,
@@ -70,7 +70,7 @@ fn go<W: Worker + Drop, G: Gate>(
 }
 
 /// Hands out all ranks, in rank order.
-fn hand_out<W: Worker + Drop>(chip: &mut Chip, crew: &mut [Member<W>])
+fn hand_out<W: Worker>(chip: &mut Chip, crew: &mut [Member<W>])
     requires crew { IsCrew (conduct_of_members W.conduct) chip.old crew.old }
     ensures none { IsHomeBelow chip.new 0 }
     ensures same { (about_in chip.new ≡ about_in chip.old) × (table_in chip.new ≡ table_in chip.old) }
@@ -84,7 +84,7 @@ fn hand_out<W: Worker + Drop>(chip: &mut Chip, crew: &mut [Member<W>])
 }
 
 /// All members' rows of turns, each in a thread of its own.
-fn in_threads<W: Worker + Drop + Send, G: Gate + Sync, R: Threads + Sync>(
+fn in_threads<W: Worker + Send, G: Gate + Sync, R: Threads + Sync>(
     rt: &R,
     words: Words<'_>,
     gate: &G,
@@ -114,7 +114,7 @@ fn in_threads<W: Worker + Drop + Send, G: Gate + Sync, R: Threads + Sync>(
 }
 
 /// All members' rows of turns, where `each` of them share a thread.
-fn in_few_threads<W: Worker + Drop + Send, G: Gate + Sync, R: Threads + Sync>(
+fn in_few_threads<W: Worker + Send, G: Gate + Sync, R: Threads + Sync>(
     rt: &R,
     words: Words<'_>,
     gate: &G,
@@ -148,7 +148,7 @@ fn in_few_threads<W: Worker + Drop + Send, G: Gate + Sync, R: Threads + Sync>(
 }
 
 /// All members' rows of turns, at most `each` of them in a thread.
-fn all_rows<W: Worker + Drop + Send, G: Gate + Sync, R: Threads + Sync>(
+fn all_rows<W: Worker + Send, G: Gate + Sync, R: Threads + Sync>(
     rt: &R,
     words: Words<'_>,
     gate: &G,
@@ -174,7 +174,7 @@ fn all_rows<W: Worker + Drop + Send, G: Gate + Sync, R: Threads + Sync>(
 }
 
 /// Takes all ranks home, in rank order.
-fn take_home<W: Worker + Drop>(chip: &mut Chip, crew: &mut [Member<W>])
+fn take_home<W: Worker>(chip: &mut Chip, crew: &mut [Member<W>])
     requires none { IsHomeBelow chip.old 0 }
     requires each { length crew.old ≡ (about_in chip.old).nue }
     requires away { (i : ℕ) (d : _) → i < length crew.old
@@ -192,7 +192,7 @@ fn take_home<W: Worker + Drop>(chip: &mut Chip, crew: &mut [Member<W>])
 
 /// A round in threads: every rank is away while its worker takes turns, and at home again afterwards. It asks for
 /// `threads` threads, one for each rank at the most, and tells how many the next round asks for.
-pub(crate) fn round_in_threads<W: Worker + Drop + Send, G: Gate + Sync, R: Threads + Sync>(
+pub(crate) fn round_in_threads<W: Worker + Send, G: Gate + Sync, R: Threads + Sync>(
     rt: &R,
     chip: &mut Chip,
     crew: &mut [Member<W>],

@@ -11,7 +11,7 @@ use crate::workers::Worker;
 use scc_mesh::Words;
 
 /// The row of a member begins.
-fn begin<W: Worker + Drop, G: Gate>(words: Words<'_>, gate: &G, at: usize, member: &mut Member<W>)
+fn begin<W: Worker, G: Gate>(words: Words<'_>, gate: &G, at: usize, member: &mut Member<W>)
     requires away { IsAway (W.conduct.tied member.old.worker) words.space.now.about words.space.now.table at member.old.token }
     ensures begins { member.new ≡ record member.old { vain = 0 } }
 {
@@ -23,7 +23,7 @@ fn begin<W: Worker + Drop, G: Gate>(words: Words<'_>, gate: &G, at: usize, membe
 }
 
 /// The next stretch of a member's row, where it is not over; tells whether there was one.
-fn go_on<W: Worker + Drop>(words: Words<'_>, at: usize, member: &mut Member<W>) -> bool
+fn go_on<W: Worker>(words: Words<'_>, at: usize, member: &mut Member<W>) -> bool
     requires away { IsAway (W.conduct.tied member.old.worker) words.space.now.about words.space.now.table at member.old.token }
     ensures away { IsAway (W.conduct.tied member.new.worker) words.entry.space.now.about words.entry.space.now.table at member.new.token }
     ensures stretches { Stretches W.conduct words.entry.space.now.about member.old.worker member.old.token member.old.vain
@@ -46,12 +46,7 @@ fn go_on<W: Worker + Drop>(words: Words<'_>, at: usize, member: &mut Member<W>) 
 }
 
 /// The next stretch of each row that is not over; tells whether there was one.
-fn pass<W: Worker + Drop>(
-    words: Words<'_>,
-    roll: &Roll,
-    start: usize,
-    members: &mut [Member<W>],
-) -> bool
+fn pass<W: Worker>(words: Words<'_>, roll: &Roll, start: usize, members: &mut [Member<W>]) -> bool
     requires room { start + length members.old < 2 ^ 64 }
     requires away { (k : ℕ) (d : _) → k < length members.old
         → let m = slice_index_or members.old k d in IsAway (W.conduct.tied m.worker) words.space.now.about words.space.now.table
@@ -76,7 +71,7 @@ fn pass<W: Worker + Drop>(
 }
 
 /// The rows of all these members begin.
-fn begin_all<W: Worker + Drop, G: Gate>(
+fn begin_all<W: Worker, G: Gate>(
     words: Words<'_>,
     gate: &G,
     start: usize,
@@ -94,7 +89,7 @@ fn begin_all<W: Worker + Drop, G: Gate>(
 }
 
 /// The rows of all these members.
-pub(crate) fn rows_together<W: Worker + Drop, G: Gate>(
+pub(crate) fn rows_together<W: Worker, G: Gate>(
     words: Words<'_>,
     gate: &G,
     roll: &Roll,

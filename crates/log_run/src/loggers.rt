@@ -7,12 +7,12 @@ use scc_proto::Port;
 
 /// A worker with the tap on its rank's port. The tap is away only while a turn lasts.
 #[derive(Drop)]
-pub struct Logger<W: Worker + Drop> {
+pub struct Logger<W: Worker> {
     pub worker: W,
     pub tap: Option<Tap>,
 }
 
-impl<W: Worker + Drop> Logger<W> {
+impl<W: Worker> Logger<W> {
     ghost use Rattle.std.specs.Prelude.{◌≡◌, Some};
 
     /// A worker with this tap.
@@ -28,7 +28,7 @@ impl<W: Worker + Drop> Logger<W> {
 }
 
 // A turn goes through the worker's port with the tap on it.
-impl<W: Worker + Drop> Worker for Logger<W> {
+impl<W: Worker> Worker for Logger<W> {
     ghost use Rattle.log_run.specs.Loggers.{loggers_of};
 
     ghost conduct = { loggers_of W.conduct };
