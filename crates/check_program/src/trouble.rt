@@ -7,9 +7,9 @@ ghost use Rattle.check_program.specs.Waiting.{all_found, cause_of, trouble_by_wa
 use crate::causes::Cause;
 use crate::waiting::waits_for;
 use crate::walking::cause;
+use plain_run::End;
 use scc_base::Rank;
 use script_machine::UeEnd;
-use script_plain::End;
 use script_rules::Scripts;
 use std::alloc::{AllocError, Global};
 

@@ -8,9 +8,9 @@ ghost use Rattle.script_plain.specs.HeldUp.{ended_at_barrier};
 ghost use Rattle.script_plain.specs.Meaning.{keys_of, plain_ends};
 ghost use Rattle.check_program.specs.Waiting.{is_waiting, lowest_absent, waits_by_call, waits_for};
 
+use plain_run::{End, is_with, setup_of};
 use scc_base::{Call, Rank, Setup};
 use script_machine::UeEnd;
-use script_plain::{End, is_with, setup_of};
 use script_rules::Scripts;
 
 /// The rank that a rank waits for at the end of a script. No memory is taken.

@@ -8,9 +8,9 @@ ghost use Rattle.check_program.specs.Waiting.{IsCause, cause_of, is_waiting, lea
 
 use crate::causes::Cause;
 use crate::waiting::waits_for;
+use plain_run::End;
 use scc_base::Rank;
 use script_machine::UeEnd;
-use script_plain::End;
 use script_rules::Scripts;
 
 /// Why a rank waits at the end of a script: what a walk from rank to rank comes to, each to the one that is waited for. No

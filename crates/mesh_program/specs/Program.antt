@@ -3,7 +3,7 @@ use Rattle.std.specs.Prelude.{ℕ, Bool, if◌then◌else◌, List, [], ◌∷�
 use Rattle.std.specs.Str.{bytes_eq}
 use Rattle.script_rules.specs.Script.{Script}
 use Rattle.script_plain.specs.Ends.{all_finished}
-use Rattle.script_plain.specs.Matches.{plain_matches}
+use Rattle.plain_run.specs.Matches.{plain_matches}
 use Rattle.script_plain.specs.Meaning.{plain_ends}
 use Rattle.mesh_load.specs.Mesh.{Link, lines_over_link}
 use Rattle.outcomes.specs.Outcomes.{Ran}

@@ -6,7 +6,7 @@ use Rattle.outcomes.specs.Outcomes.{Ran}
 use Rattle.mesh_program.specs.declared.report.Report.{Report}
 use Rattle.mesh_program.specs.Program.{mesh_ran_of}
 use Rattle.script_plain.specs.Ends.{all_finished}
-use Rattle.script_plain.specs.Matches.{plain_matches}
+use Rattle.plain_run.specs.Matches.{plain_matches}
 use Rattle.script_plain.specs.Meaning.{plain_ends}
 use Rattle.script_rules.specs.Script.{Script}
 

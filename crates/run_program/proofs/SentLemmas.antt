@@ -11,7 +11,7 @@ use Rattle.scc_base.specs.Calls.DataCall.{Send, Recv, Post, Bar}
 use Rattle.scc_proto.specs.Stages.{Record}
 use Rattle.script_rules.specs.Script.{Script}
 use Rattle.script_machine.specs.Local.{most_steps_left, local_start}
-use Rattle.script_plain.specs.Matches.{plain_matches}
+use Rattle.plain_run.specs.Matches.{plain_matches}
 use Rattle.script_plain.specs.Meaning.{State, plain_end, plain_ends}
 use Rattle.script_machine.specs.Printed.{Printed}
 use Rattle.script_plain.proofs.Runs.PlainLaws.{length-plain_end}

@@ -1,8 +1,8 @@
 //! What the ranks of a run came to, as a report is written from it.
 
+use plain_run::End;
 use scc_base::Rank;
 use script_machine::{PrintedItem, UeEnd};
-use script_plain::End;
 
 /// A run that is over: who ended how, and printed what.
 pub trait Endings {

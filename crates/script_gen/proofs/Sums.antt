@@ -10,13 +10,13 @@ use Rattle.scc_base.specs.Calls.DataCall.{Send, Recv, Bar}
 use Rattle.scc_base.specs.Groups.{is_with}
 use Rattle.scc_base.specs.Heads.{MessageHead}
 use Rattle.script_rules.specs.Script.{Script}
-use Rattle.script_plain.specs.declared.matches.Match.{Match}
+use Rattle.plain_run.specs.declared.matches.Match.{Match}
 use Rattle.script_machine.specs.declared.posts.Posted.{Posted}
 use Rattle.script_machine.specs.declared.prims.Standing.{Standing}
 use Rattle.script_machine.specs.declared.prims.Standing.TheVariants as standing
 use Rattle.script_plain.specs.Collectives.{start_of_rank}
 use Rattle.script_machine.specs.Local.{Local, local_next, next_by_act, next_by_prim, prim_by_standing, statement_line}
-use Rattle.script_plain.specs.Matches.{messages_brought, brought_by, statement_line_at, lowest_brought, match_of, matches_on, plain_matches, step_brought, brought_by_take}
+use Rattle.plain_run.specs.Matches.{messages_brought, brought_by, statement_line_at, lowest_brought, match_of, matches_on, plain_matches, step_brought, brought_by_take}
 use Rattle.script_plain.specs.Meaning.{State, keys_of, next_of, plain_end, next_with_calls, start_of, steps_left}
 use Rattle.script_machine.specs.Next.{Next, is_at_barrier, past_barrier}
 use Rattle.script_machine.specs.Next.Next.{Ends, Goes, Posts, Sends, Recvs, Bars}

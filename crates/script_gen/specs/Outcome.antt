@@ -4,9 +4,9 @@ use Rattle.std.specs.List.{sum}
 use Rattle.rcce_io.specs.Sending.{joined_texts}
 use Rattle.scc_base.specs.Calls.{DataCall}
 use Rattle.scc_base.specs.Calls.DataCall.{Send, Post}
-use Rattle.script_plain.specs.declared.matches.Match.{Match}
+use Rattle.plain_run.specs.declared.matches.Match.{Match}
 use Rattle.script_plain.specs.Ends.{Ended}
-use Rattle.script_plain.specs.Matches.{plain_matches}
+use Rattle.plain_run.specs.Matches.{plain_matches}
 use Rattle.script_plain.specs.Meaning.{State, plain_ends}
 use Rattle.script_plain.specs.Step.{Configuration}
 use Rattle.script_rules.specs.Script.{Script}

@@ -1,6 +1,5 @@
 pub mod Runs
 pub mod Orders
-pub mod CodeSteps
 pub mod Messages
 pub mod OwnWays
 pub mod ProgramLengths

@@ -1,6 +1,5 @@
 -- Messages of pairs of ranks: they arrive as they were sent; and what a rank waits for that is held up.
 pub mod MessageLaws
-pub mod MatchLaws
 pub mod KeptLaws
 pub mod RestLaws
 pub mod HeldUpLaws

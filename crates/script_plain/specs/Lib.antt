@@ -1,12 +1,9 @@
-pub mod Facing
 pub mod Ends
 pub mod Step
 pub mod Paths
 pub mod Meaning
-pub mod Code
 pub mod Barriers
 pub mod Messages
-pub mod Matches
 pub mod HeldUp
 pub mod Collectives
 pub mod Kept

@@ -1,17 +1,13 @@
 -- Laws of the plain step and of the plain meaning.
-use Rattle.std.proofs.Common.{◌≡◌, ◌++◌, ℕ, ◌+◌, ◌<◌, List, [], ◌∷◌, Option, length, map, drop, None, refl, replicate, sym, ap, ◌∙◌, arith, sum_by, slice_get}
+use Rattle.std.proofs.Common.{◌≡◌, ◌++◌, ℕ, ◌+◌, ◌<◌, List, [], ◌∷◌, length, map, drop, None, refl, sym, ap, ◌∙◌, arith, sum_by, slice_get}
 use Rattle.std.specs.List.{range_with_len}
 use Rattle.std.proofs.lemmas.List.{length-map}
 use Rattle.std.proofs.lemmas.List.FromFn.{length-map-range_with_len, map-range_with_len_more}
 use Rattle.scc_base.specs.Heads.{MessageHead}
-use Rattle.scc_base.specs.Communicators.{key_of}
-use Rattle.scc_base.specs.declared.communicators.CommRule.{CommRule}
 use Rattle.scc_base.specs.Calls.{DataCall}
-use Rattle.script_rules.specs.Script.{Script, rules_of}
-use Rattle.script_plain.specs.Code.{config}
+use Rattle.script_rules.specs.Script.{Script}
 use Rattle.script_machine.specs.Program.{Act, Prim}
 use Rattle.script_machine.specs.Program.Act.{Recv, Gather}
-use Rattle.script_machine.specs.declared.posts.Posted.{Posted}
 use Rattle.script_machine.specs.declared.prims.Standing.{Standing}
 use Rattle.script_machine.specs.declared.prims.Standing.TheVariants as standing
 use Rattle.script_machine.specs.Local.{Local, local_start, local_next, next_by_act, next_by_prim, prim_by_standing, most_steps_left, runs}
@@ -94,16 +90,6 @@ pub seen_of-plain_end : (script : Script) → run_on (keys_of script) local_next
 seen_of-plain_end script =
     ap (λ (n : ℕ). run_on (keys_of script) local_next n (seen_of (start_of script))) (ViewLaws.sum_by-map most_steps_left (λ (u : State). u.local) (start_of script).cells)
     ∙ ViewLaws.run_on-map (λ (u : State). u.local) (keys_of script) next_of local_next state_seen (steps_left (start_of script)) (start_of script)
-
--- the same of a run whose groups, ranks and slots are those of the start
-pub run_from_start : (script : Script) (comms : List CommRule) (us : List Local) (slots : List (Option Posted)) → comms ≡ rules_of script.items → us ≡ locals_of (start_of script) → slots ≡ replicate script.nue None
-    → run_on (key_of comms) local_next (sum_by most_steps_left us) (config us slots) ≡ seen_of (plain_end script)
-run_from_start script comms us slots rules cells empty =
-    let start = locals_of (start_of script) in
-    ap (λ (cs : List CommRule). run_on (key_of cs) local_next (sum_by most_steps_left us) (config us slots)) rules
-    ∙ ap (λ (ls : List Local). run_on (keys_of script) local_next (sum_by most_steps_left ls) (config ls slots)) cells
-    ∙ ap (λ (ss : List (Option Posted)). run_on (keys_of script) local_next (sum_by most_steps_left start) (config start ss)) empty
-    ∙ seen_of-plain_end script
 
 -- as many ranks as the script runs on
 pub length-plain_end : (script : Script) → length (locals_of (plain_end script)) ≡ script.nue

@@ -1,0 +1,5 @@
+pub mod CodeSteps
+pub mod WayLaws
+pub mod StartLaws
+pub mod FacingLaws
+pub mod MatchLaws

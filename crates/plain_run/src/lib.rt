@@ -1,0 +1,16 @@
+//! The plain meaning of scripts, evaluated: the run of a script whose sends meet its receives.
+#![tactic(auto)]
+
+mod barriers;
+mod decisions;
+mod ends;
+mod facing;
+mod matches;
+mod posts;
+mod steps;
+mod ues;
+
+pub use barriers::{is_with, setup_of};
+pub use ends::{End, have_finished};
+pub use matches::{History, Match, Matches, plain_history, plain_matches};
+pub use steps::plain_run;

@@ -1,6 +1,0 @@
-use Rattle.std.proofs.Common.{rules}
-use Rattle.script_plain.proofs.facing.still_to.Goals as goal
-
--- Answered by name, so that a body which turns this is refused at once, with no search for what else might be written.
-pub returns-in-One-clause-aside : goal.returns-in-One-clause-aside
-returns-in-One-clause-aside c = search rules
