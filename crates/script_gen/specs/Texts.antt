@@ -32,7 +32,7 @@ section_lines ranks nue s exchange =
     ++ (with_others nue (codes "print g" ∷ [])
     ++ (codes "print long me" ∷ []))))
 
--- the first lines of a section as a text, those before a turn round the ring, of which there are so many
+-- the first lines of a section as a text, those before a turn round the ring, for so many turns
 abbrev pub front_text : List ℕ → ℕ → ℕ → List ℕ
 front_text ranks s turns =
     joined_texts (ranks ∷ codes "\nfill h " ∷ decimal s ∷ codes " " ∷ decimal s ∷ codes "\nrank me long\nrepeat "
