@@ -218,3 +218,7 @@ receive_waits_by (receive.Mismatch sent) spot is = absurd (cc (is))
 
 pub receive_waits : (answer : RecvTurn) (told : Turn) (spot : Spot) → told ≡ told_by_receive answer → waits_at told ≡ Some spot → recv_waits answer ≡ Some spot
 receive_waits answer told spot tells is = receive_waits_by answer spot (ap waits_at (sym tells) ∙ is)
+
+-- a turn that does not wait waits nowhere
+pub waits_nowhere : (spot : Spot) → waits_at turn.Moved ≡ Some spot → ⊥
+waits_nowhere spot is = cc (is)

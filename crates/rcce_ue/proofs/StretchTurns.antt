@@ -1,5 +1,5 @@
 -- Turns of a UE in a row that write or read the lines of a chunk.
-use Rattle.std.proofs.Common.{◌≡◌, ℕ, Bool, true, false, ◌||◌, List, ◌++◌, length, take, drop, take_at, length-append, length-drop, refl, sym, ap, ◌∙◌, subst, arith}
+use Rattle.std.proofs.Common.{◌≡◌, ℕ, ◌≤◌, Bool, true, false, ◌||◌, List, ◌++◌, length, take, drop, take_at, length-append, length-drop, refl, sym, ap, ◌∙◌, subst, arith}
 use Rattle.scc_base.specs.Heads.{MessageHead}
 use Rattle.scc_proto.specs.Ports.{Sight}
 use Rattle.put_get.specs.Cores.{Private}
@@ -17,7 +17,7 @@ use Rattle.rcce_ue.specs.Stretches.{StretchMoves, MovedOnce, MovedOn, reads_line
 use Rattle.rcce_ue.specs.Ues.{UeView}
 use Rattle.rcce_ue.specs.declared.calls.Open.TheVariants.{Sending, Receiving}
 use Rattle.send_recv.proofs.Loops.StretchLoop.{read_same}
-use Rattle.rcce_ue.proofs.OpAnswers.{asked}
+use Rattle.rcce_ue.proofs.OpAnswers.{asked, head_fits, recv_before}
 use Rattle.rcce_ue.proofs.RecvTurns.{recv_moved}
 use Rattle.rcce_ue.proofs.SendTurns.{send_moved}
 
@@ -133,3 +133,37 @@ module _ (ue old : UeView) (r : Bool) where
 
   pub reads_tell : (op : RecvAt) → old ≡ record ue { op = Receiving op } → r ≡ line.is_reading op.stage → Tells
   reads_tell op before is = told (record ue { op = Receiving op }) before is
+
+-- ---- as a function spells the UEs: b is what stands before, part by part
+
+module _ (b old : UeView) (is : b ≡ old) where
+  module _ (op : SendAt) (found : b.op ≡ Sending op) where
+    pub sends : old ≡ record b { op = Sending op }
+    sends = sym is ∙ (λ i. record b { op = found i })
+
+    pub sends_tell : (r : Bool) → r ≡ line.is_writing op.stage → r ≡ (writes_line_next old.op || reads_line_next old.op)
+    sends_tell r tells = writes_tell b old r op sends tells
+
+    pub sends_move : (s t : Sight) (next : SendAt) (d : Private) (after : SlotAt) (bytes : List ℕ) → bytes ≡ bytes_out (local_next b.machine.local) → Tied old s
+        → SendStands t d next after bytes → WroteLines (sending s b.core op b.slot bytes) t d next after → StretchMoves old s (sends_on b d next after) t
+    sends_move s t next d after bytes out tied stands lines = wrote_moves b old (sends_on b d next after) s t op next d after bytes sends out tied stands lines refl
+
+  -- the inbox is lent
+  module _ (op : RecvAt) (found : b.op ≡ Receiving op) (lent : List ℕ) (same : lent ≡ b.inbox) where
+    pub receives : old ≡ record b { op = Receiving op; inbox = lent }
+    receives = sym is ∙ (λ i. record b { op = found i; inbox = sym same i })
+
+    pub receives_tell : (r : Bool) → r ≡ line.is_reading op.stage → r ≡ (writes_line_next old.op || reads_line_next old.op)
+    receives_tell r tells = reads_tell (record b { inbox = lent }) old r op receives tells
+
+    module _ (s : Sight) (tied : Tied old s) where
+      pub receives_fit : op.head.len ≤ length lent
+      receives_fit = head_fits (record b { inbox = lent }) old old s s op receives tied
+
+      pub receives_stand : RecvStands s b.core op (take op.head.len lent)
+      receives_stand = recv_before (record b { inbox = lent }) old old s s op receives tied
+
+      pub receives_move : (t : Sight) (next : RecvAt) (d : Private) (inbox kept : List ℕ) → length inbox ≡ length lent → kept ≡ inbox → RecvStands t d next (take op.head.len inbox)
+          → ReadLines (receiving s b.core op (take op.head.len lent)) (receiving t d next (take op.head.len inbox)) → StretchMoves old s (receives_on b d next kept) t
+      receives_move t next d inbox kept room back stands lines =
+          read_moves (record b { inbox = lent }) old (receives_on b d next kept) s t op next d inbox receives tied room stands lines (ap (receives_on b d next) back)

@@ -1,4 +1,4 @@
-use Rattle.std.proofs.Common.{◌≡◌, ℕ, ◌≤◌, length, sym, ap, ◌∙◌, subst, arith}
+use Rattle.std.proofs.Common.{◌≡◌, ℕ, ◌≤◌, length, sym, ap, ◌∙◌, subst}
 use Rattle.std.proofs.lemmas.List.{with_items_is}
 use Rattle.std.specs.Vec.{with_items}
 use Rattle.script_machine.specs.Local.{local_next}
@@ -25,8 +25,8 @@ pub returns-in-Receiving : goal.returns-in-Receiving
 returns-in-Receiving g c =
     let b : UeView = record { machine = c.self.inside.machine; core = c.self.inside.core; slot = c.self.inside.slot; parity = c.self.inside.parity; op = c.self.inside.op; inbox = c.as_mut_slice.result.now; posted = c.self.inside.posted; sent = c.self.inside.sent; sent_bytes = c.self.inside.sent_bytes } in
     let given : length c.as_mut_slice.result.now ≡ length c.self.inside.inbox.items = ap length c.as_mut_slice.ensures.value in
-    let room : length c.turn-answer-in-Receiving.new.inbox ≡ length c.as_mut_slice.result.now = omega (arith, c.turn-answer-in-Receiving.auto.inbox) in
-    let long : length c.turn-answer-in-Receiving.new.inbox ≡ c.self.inside.inbox.len = omega (arith, given, room, c.self.inside.inbox.ok.0) in
+    let room : length c.turn-answer-in-Receiving.new.inbox ≡ length c.as_mut_slice.result.now = c.turn-answer-in-Receiving.auto.inbox in
+    let long : length c.turn-answer-in-Receiving.new.inbox ≡ c.self.inside.inbox.len = room ∙ given ∙ sym c.self.inside.inbox.ok.0 in
     let back : (with_items c.self.inside.inbox c.turn-answer-in-Receiving.new.inbox).items ≡ c.turn-answer-in-Receiving.new.inbox = with_items_is c.self.inside.inbox c.turn-answer-in-Receiving.new.inbox long in
     let done = receiving_turns b c.args.self.now _ (g.P.Port.sight c.args.port.now) (g.P.Port.sight c.turn-answer-in-Receiving.new.port) c.in-Receiving.op (sym c.self.view_is ∙ (λ i. record b { op = c.in-Receiving.is i; inbox = sym c.as_mut_slice.ensures.value i })) c.requires.tied
     c.turn-answer-in-Receiving.new.self c.turn-answer-in-Receiving.new.core c.turn-answer-in-Receiving.new.inbox room c.turn-answer-in-Receiving.ensures.stands c.turn-answer-in-Receiving.result c.settle_receive.result c.settle_receive.ensures.tells
@@ -52,8 +52,8 @@ pub settle_receive-requires-clause-room : goal.settle_receive-requires-clause-ro
 settle_receive-requires-clause-room g c =
     let b : UeView = record { machine = c.self.inside.machine; core = c.self.inside.core; slot = c.self.inside.slot; parity = c.self.inside.parity; op = c.self.inside.op; inbox = c.as_mut_slice.result.now; posted = c.self.inside.posted; sent = c.self.inside.sent; sent_bytes = c.self.inside.sent_bytes } in
     let given : length c.as_mut_slice.result.now ≡ length c.self.inside.inbox.items = ap length c.as_mut_slice.ensures.value in
-    let room : length c.turn-answer-in-Receiving.new.inbox ≡ length c.as_mut_slice.result.now = omega (arith, c.turn-answer-in-Receiving.auto.inbox) in
-    let long : length c.turn-answer-in-Receiving.new.inbox ≡ c.self.inside.inbox.len = omega (arith, given, room, c.self.inside.inbox.ok.0) in
+    let room : length c.turn-answer-in-Receiving.new.inbox ≡ length c.as_mut_slice.result.now = c.turn-answer-in-Receiving.auto.inbox in
+    let long : length c.turn-answer-in-Receiving.new.inbox ≡ c.self.inside.inbox.len = room ∙ given ∙ sym c.self.inside.inbox.ok.0 in
     let back : (with_items c.self.inside.inbox c.turn-answer-in-Receiving.new.inbox).items ≡ c.turn-answer-in-Receiving.new.inbox = with_items_is c.self.inside.inbox c.turn-answer-in-Receiving.new.inbox long in
     subst (λ (n : ℕ). length_asked (local_next b.machine.local) ≤ n) (sym (ap length back ∙ room))
     (recv_fits b c.args.self.now c.args.self.now (g.P.Port.sight c.args.port.now) (g.P.Port.sight c.args.port.now) c.in-Receiving.op (sym c.self.view_is ∙ (λ i. record b { op = c.in-Receiving.is i; inbox = sym c.as_mut_slice.ensures.value i })) c.requires.tied)
