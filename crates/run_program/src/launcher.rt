@@ -102,7 +102,8 @@ fn launch<'s, R: Threads + Sync, G: Gate + Sync>(
     if chip.open(alloc, loaded.setup.copy()).is_err() {
         return Err(Complaint::Memory);
     }
-    Ok(run_opened(rt, loaded, crew, chip, gate))
+    let run = run_opened(rt, loaded, crew, chip, gate);
+    Ok(run)
 }
 
 // Runs the units of execution on the chip that was opened for them.

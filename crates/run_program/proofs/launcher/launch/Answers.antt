@@ -1,11 +1,11 @@
 use Rattle.run_program.proofs.launcher.launch.Goals as goal
 
 -- Answered by name, so that a body which turns this is refused at once, with no search for what else might be written.
-pub run_opened-requires-clause-evictors : goal.run_opened-requires-clause-evictors
-run_opened-requires-clause-evictors g c = λ lifetimes outlive. c.in-Ok.ensures.evictors
+pub run_opened-run-requires-clause-evictors : goal.run_opened-run-requires-clause-evictors
+run_opened-run-requires-clause-evictors g c = λ lifetimes outlive. c.in-Ok.ensures.evictors
 
 pub returns-clause-ran : goal.returns-clause-ran
-returns-clause-ran g c = (c.run_opened.ensures.shown, c.run_opened.ensures.ran)
+returns-clause-ran g c = (c.run_opened-run.ensures.shown, c.run_opened-run.ensures.ran)
 
 pub returns-clause-legal : goal.returns-clause-legal
-returns-clause-legal g c = λ opened. c.run_opened.ensures.legal
+returns-clause-legal g c = λ opened. c.run_opened-run.ensures.legal
