@@ -123,7 +123,8 @@ pub fn run_script<'s>(
 {
     let crew = crew_of(alloc, scripts, setup)?;
     chip.open(alloc, setup.copy())?;
-    Ok(run_opened(scripts, setup, crew, chip))
+    let run = run_opened(scripts, setup, crew, chip);
+    Ok(run)
 }
 
 /// Runs the loggers of a script on the chip that was opened for them.
