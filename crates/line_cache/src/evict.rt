@@ -36,7 +36,7 @@ pub trait Evict {
 }
 
 /// The evictor that drops nothing.
-#[derive(Clone, Copy)]
+#[derive(Clone, Copy, Default)]
 pub struct Never;
 
 impl Evict for Never {
@@ -156,7 +156,7 @@ impl Evict for Choice {
 }
 
 /// The evictor that drops the oldest line at every fill.
-#[derive(Drop)]
+#[derive(Default, Drop)]
 pub struct Always {
     count: u64,
 }

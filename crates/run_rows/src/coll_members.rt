@@ -6,7 +6,6 @@ ghost use Rattle.run_rows.specs.CollMembers.{IsAtOp};
 ghost use Rattle.chip_teams.specs.Teams.{sight_alone};
 
 use crate::coll_pieces::{is_right, is_whole, src_of};
-use crate::evictors::Fresh;
 use chip_teams::Player;
 use coll_more::{More, MoreOp, dst_len, src_len};
 use line_cache::Evict;
@@ -34,7 +33,7 @@ pub(crate) struct Member<V: Evict + Drop> {
 }
 
 /// A rank that is to make a call `times` times.
-pub(crate) fn member_of<V: Fresh>(
+pub(crate) fn member_of<V: Evict + Default + Drop>(
     alloc: Global,
     more: More,
     len: u32,
@@ -48,7 +47,7 @@ pub(crate) fn member_of<V: Fresh>(
 {
     let src = src_of(alloc, more, rank, nue, len)?;
     let dst = vec![in alloc; 0u8; dst_len(more, rank, nue, len)]?;
-    Ok(Member::new(V::fresh(), more, len, src, dst, times))
+    Ok(Member::new(V::default(), more, len, src, dst, times))
 }
 
 impl<V: Evict + Drop> Member<V> {

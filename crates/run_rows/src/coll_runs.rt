@@ -4,7 +4,6 @@ ghost use Rattle.std.specs.Prelude.{◌≡◌, ◌≤◌, IfOk, length};
 ghost use Rattle.coll_run.specs.Teams.{AreFreshMembers};
 
 use crate::coll_pieces::{KINDS, is_right, src_of};
-use crate::evictors::Fresh;
 use chip_teams::opened;
 use coll_more::More;
 use coll_run::{Member, join, run};
@@ -14,7 +13,7 @@ use std::alloc::{AllocError, Global};
 use std::test::Fail;
 
 /// The ranks of a run before their first turns.
-fn team_of<V: Fresh>(
+fn team_of<V: Evict + Default + Drop>(
     alloc: Global,
     more: More,
     nue: u8,
@@ -28,7 +27,7 @@ fn team_of<V: Fresh>(
     let mut team = Vec::new(alloc);
     for number in 0..nue {
         let src = src_of(alloc, more, Rank::of(number), nue, len)?;
-        join(alloc, &mut team, nue, V::fresh(), more, len, src)?;
+        join(alloc, &mut team, nue, V::default(), more, len, src)?;
     }
     Ok(team)
 }
@@ -45,7 +44,7 @@ fn all_right<V: Evict + Drop>(team: &[Member<V>], more: More, nue: u8, len: u32)
 }
 
 /// Whether all ranks get their pieces in a run, of at most 1,024 bytes a piece.
-fn ends_right<V: Fresh>(
+fn ends_right<V: Evict + Default + Drop>(
     alloc: Global,
     layout: Layout,
     more: More,

@@ -4,7 +4,6 @@ ghost use Rattle.std.specs.Prelude.{◌≤◌};
 
 use crate::coll_members::{Member, member_of};
 use crate::coll_pieces::KINDS;
-use crate::evictors::Fresh;
 use chip_teams::{Team, opened};
 use coll_more::More;
 use line_cache::{Always, Evict, Never};
@@ -13,7 +12,7 @@ use std::alloc::Global;
 use std::test::Fail;
 
 // Gives the next rank of a team a call to make `times` times.
-fn join_next<V: Fresh>(
+fn join_next<V: Evict + Default + Drop>(
     alloc: Global,
     team: &mut Team<Member<V>>,
     more: More,
@@ -29,7 +28,7 @@ fn join_next<V: Fresh>(
 }
 
 /// The `nue` ranks of a chip, each of which is to make a call `times` times.
-pub(crate) fn met<V: Fresh>(
+pub(crate) fn met<V: Evict + Default + Drop>(
     alloc: Global,
     layout: Layout,
     nue: u8,
@@ -66,7 +65,7 @@ fn are_right<V: Evict + Drop>(team: &Team<Member<V>>, order: &[usize]) -> bool {
 }
 
 // Whether a call that is made twice ends at all ranks by turns in this order, and each rank has got its pieces.
-fn end_right<V: Fresh>(
+fn end_right<V: Evict + Default + Drop>(
     alloc: Global,
     layout: Layout,
     order: &[usize],

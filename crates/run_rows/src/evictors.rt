@@ -2,23 +2,6 @@
 
 use line_cache::{Always, Evict, Never, Seeded};
 
-/// An evictor that can be made for each rank.
-pub(crate) trait Fresh: Evict + Drop {
-    fn fresh() -> Self;
-}
-
-impl Fresh for Never {
-    fn fresh() -> Never {
-        Never
-    }
-}
-
-impl Fresh for Always {
-    fn fresh() -> Always {
-        Always::new()
-    }
-}
-
 /// An evictor that makes one of its kind for each rank.
 pub(crate) trait PerRank: Evict + Drop {
     fn for_rank(&self, rank: u8) -> Self;

@@ -7,7 +7,6 @@ ghost use Rattle.scc_mesh.specs.Scenes.{IsNew, about_in};
 ghost use Rattle.script_rules.specs.Script.{rules_of};
 ghost use Rattle.run_rows.specs.AwayPlayers.{StandsAway};
 
-use crate::evictors::Fresh;
 use crate::scripts::{End, chip_with, is_at, setup_of};
 use crate::ues::{Runner, runner_of};
 use chip_teams::Player;
@@ -176,7 +175,7 @@ fn arrives_with<M: Player + Finishes + Drop + Send, R: Threads + Sync>(
 }
 
 // Whether a message of this length arrives by a script for two, on a new chip with this setup.
-fn arrives_on<V: Fresh + Send, R: Threads + Sync>(
+fn arrives_on<V: Evict + Default + Drop + Send, R: Threads + Sync>(
     rt: &R,
     alloc: Global,
     chip: &mut Chip,

@@ -5,7 +5,6 @@ ghost use Rattle.script_rules.specs.Script.{rules_of};
 ghost use Rattle.rcce_ue.specs.Standing.{Tied};
 ghost use Rattle.chip_teams.specs.Teams.{sight_alone};
 
-use crate::evictors::Fresh;
 use crate::scripts::{End, chip_with, has_printed, is_at, setup_of};
 use chip_teams::{Player, Team};
 use line_cache::Evict;
@@ -69,7 +68,7 @@ impl<'s, V: Evict + Drop> Ends for Runner<'s, V> {
 }
 
 /// A rank of a script before its first turn.
-pub(crate) fn runner_of<'s, V: Fresh>(
+pub(crate) fn runner_of<'s, V: Evict + Default + Drop>(
     alloc: Global,
     scripts: &'s Scripts,
     setup: &Setup,
@@ -80,12 +79,12 @@ pub(crate) fn runner_of<'s, V: Fresh>(
     requires communicators { setup.now.comms ≡ rules_of scripts.now.items }
     ensures fits { IfOk result (λ m. Tied m.ue (sight_alone setup.now number [])) }
 {
-    let ue = Ue::new(alloc, scripts, setup.copy(), Rank::of(number), V::fresh())?;
+    let ue = Ue::new(alloc, scripts, setup.copy(), Rank::of(number), V::default())?;
     Ok(Runner { ue, moved: 0 })
 }
 
 // Gives the next rank of a team its part of a script.
-fn join_next<'s, V: Fresh>(
+fn join_next<'s, V: Evict + Default + Drop>(
     alloc: Global,
     team: &mut Team<Runner<'s, V>>,
     scripts: &'s Scripts,
@@ -142,7 +141,7 @@ fn rest_at<M: Player + Ends + Drop>(
 }
 
 // Whether the ranks of a script do so, on a chip that was just opened.
-fn come_to<V: Fresh>(
+fn come_to<V: Evict + Default + Drop>(
     alloc: Global,
     scripts: &Scripts,
     layout: Layout,
@@ -160,7 +159,7 @@ fn come_to<V: Fresh>(
 }
 
 /// Whether the script of a row comes to what is wanted of at most 48 ranks, by sweeps in rank order or the other way round.
-pub(crate) fn comes_to<V: Fresh>(
+pub(crate) fn comes_to<V: Evict + Default + Drop>(
     alloc: Global,
     row: &Row<'_>,
     layout: Layout,

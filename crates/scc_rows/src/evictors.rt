@@ -3,28 +3,11 @@
 ghost use Rattle.std.specs.Prelude.{◌≡◌, [], None, if◌then◌else◌};
 
 use crate::fixtures::{Meeting, has_text, shows};
-use line_cache::{Always, Evict, Never};
+use line_cache::Evict;
 use put_get::{Core, RangeFault};
 use scc_base::{CoreId, Place};
 use scc_proto::{CountingPort, Port};
 use std::test::Fail;
-
-/// An evictor that each rank of a test begins with.
-pub(crate) trait Fresh: Evict + Drop {
-    fn fresh() -> Self;
-}
-
-impl Fresh for Never {
-    fn fresh() -> Never {
-        Never
-    }
-}
-
-impl Fresh for Always {
-    fn fresh() -> Always {
-        Always::new()
-    }
-}
 
 #[test]
 fn the_text_of_the_fault(rt: HostRuntime) -> Result<(), Fail> {

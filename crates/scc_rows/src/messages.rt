@@ -8,7 +8,6 @@ ghost use Rattle.scc_mesh.specs.Scenes.{IsNew, about_in};
 ghost use Rattle.chip_teams.specs.Teams.{sight_alone};
 ghost use Rattle.scc_rows.specs.Talkers.{IsTalking};
 
-use crate::evictors::Fresh;
 use crate::fixtures::{LAYOUTS, as_named};
 use crate::steps::{Step, takes};
 use chip_teams::{Player, Team, opened};
@@ -282,7 +281,7 @@ pub(crate) fn team_of_two<M: Player + Drop>(
 }
 
 // A rank that does these deeds with its peer.
-fn rank_with_tasks<V: Fresh>(
+fn rank_with_tasks<V: Evict + Default + Drop>(
     alloc: Global,
     peer: Rank,
     deeds: &[(Deed, usize)],
@@ -291,11 +290,11 @@ fn rank_with_tasks<V: Fresh>(
         → IsTalking (sight_alone s r []) t.core t.slot t.peer t.bytes.items t.sending t.receiving) }
 {
     let tasks = tasks_of(alloc, deeds)?;
-    Ok(Talker::new(alloc, peer, V::fresh(), tasks))
+    Ok(Talker::new(alloc, peer, V::default(), tasks))
 }
 
 // A pair of ranks of which rank 0 does the first deeds and rank 1 the others.
-pub(crate) fn talking<V: Fresh>(
+pub(crate) fn talking<V: Evict + Default + Drop>(
     alloc: Global,
     layout: Layout,
     first: &[(Deed, usize)],
@@ -322,7 +321,7 @@ pub(crate) fn arrive_by<V: Evict + Drop>(
 }
 
 // Shows that rank 0 does the first deeds and rank 1 the others by these steps, and that `arrived` messages arrive.
-pub(crate) fn shows_exchange<V: Fresh>(
+pub(crate) fn shows_exchange<V: Evict + Default + Drop>(
     alloc: Global,
     layout: Layout,
     first: &[(Deed, usize)],
