@@ -2,6 +2,7 @@
 use Rattle.std.proofs.Common.{◌≡◌, ◌≢◌, ◌⊎◌, inl, inr, ℕ, ◌-◌, ◌<◌, ◌^◌, Bool, true, false, ◌==◌, if◌then◌else◌, List, [], ◌∷◌, ◌++◌, length, slice_index, slice_set, get_or, take, refl, sym, ◌∙◌, ap, subst, arith}
 use Rattle.std.proofs.lemmas.List.{append-nil, append_assoc, append_cancel_left, length-append, length-set, get_or_read_under, map-append, take-append-le}
 use Rattle.std.proofs.Math.Seq.{take-length}
+use Rattle.scc_base.specs.Numbers.{word_number, register_number}
 use Rattle.scc_base.specs.Places.{WordAt, IsPlace}
 use Rattle.scc_base.specs.Events.{IsEvent, load_of, store_of, take_of, free_of}
 use Rattle.scc_base.specs.Setups.{SetupView, IsSetup}
@@ -11,7 +12,7 @@ use Rattle.scc_proto.specs.Words.{Memory, zeros, IsStep, IsRun, RankEvent, memor
 use Rattle.scc_proto.specs.Records.{IsPermitted, IsHonest, record_after, record_of}
 use Rattle.scc_proto.specs.Tables.{table_with}
 use Rattle.scc_proto.specs.Histories.{IsPermittedRun, events_of, memory_from, records_from, records_of}
-use Rattle.scc_proto.specs.Memories.{word_number, register_number, memory_of}
+use Rattle.scc_proto.specs.Memories.{memory_of}
 use Rattle.scc_proto.specs.Ports.{Sight, Did, MayMake, IsSoundPort, record_in}
 use Rattle.scc_proto.specs.Registers.{Holder, Nobody, HeldBy}
 use Rattle.scc_proto.specs.Soundness.{IsSound}

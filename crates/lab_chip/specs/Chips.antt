@@ -3,13 +3,14 @@ use Rattle.std.specs.Prelude.{◌≡◌, ℕ, ◌-◌, ◌<◌, List, [], ◌++�
 use Rattle.std.specs.Coded.{code_by, coded×, coded_ℕ}
 use base.Stored.{Coded, coded_list, gnil}
 use mathlib.Core.Path.{refl}
+use Rattle.scc_base.specs.Numbers.{number_count}
 use Rattle.scc_base.specs.Setups.{SetupView, IsSetup}
 use Rattle.scc_base.specs.contracts.events.Event.{the_row}
 use Rattle.scc_base.specs.declared.events.Event.{Event}
 use Rattle.scc_proto.specs.Words.{zeros, IsStep, IsRun, SameWords, RankEvent}
 use Rattle.scc_proto.specs.Stages.{blank}
 use Rattle.scc_proto.specs.Histories.{IsPermittedRun, events_of, memory_from, records_of}
-use Rattle.scc_proto.specs.Memories.{memory_of, number_count}
+use Rattle.scc_proto.specs.Memories.{memory_of}
 use Rattle.scc_proto.specs.Ports.{Seat, Sight}
 use Rattle.scc_proto.specs.Agreement.{Agrees}
 use Rattle.lab_chip.specs.declared.chip.Made.{Made}

@@ -1,20 +1,11 @@
 //! A chip in memory, and the port of the rank whose turn it is.
 
-ghost use Rattle.std.specs.Prelude.{◌≡◌, ◌<◌, ℕ, [], IfOk, length, slice_index};
-ghost use Rattle.scc_proto.specs.Words.{IsRun, zeros};
-ghost use Rattle.lab_chip.specs.Chips.{all_events, new_chip, with_turn};
-
-use scc_base::{CoreId, Event, Place, Rank, Setup};
-use scc_proto::{History, NUMBERS, Port, number_of_register, number_of_word};
+use scc_base::{
+    CoreId, Event, NUMBERS, Place, Rank, Setup, number_of_register, number_of_word, zeros,
+};
+use scc_proto::{History, Port};
 use std::alloc::{AllocError, Global};
 use std::marker::Model;
-
-// As many words that are 0.
-fn zeros(alloc: Global, count: usize) -> Result<Vec<u64>, AllocError>
-    ensures zeros { IfOk result (λ words. (length words.items ≡ count) × ((k : ℕ) → slice_index words.items k ≡ 0)) }
-{
-    vec![in alloc; 0u64; count]
-}
 
 /// An event, and the rank that made it.
 #[derive(Drop)]

@@ -6,6 +6,7 @@ pub mod Events
 pub mod Groups
 pub mod Heads
 pub mod Layouts
+pub mod Numbers
 pub mod Places
 pub mod Runs
 pub mod Setups

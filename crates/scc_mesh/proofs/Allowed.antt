@@ -2,6 +2,7 @@
 use Rattle.std.proofs.Common.{◌≡◌, ◌⊎◌, inl, inr, ℕ, ◌<◌, ◌^◌, Bool, true, false, ◌==◌, if◌then◌else◌, List, length, slice_index, slice_set, refl, sym, ◌∙◌, ap, subst}
 use Rattle.std.proofs.lemmas.List.{length-set, set-get_or}
 use Rattle.atomic_table.specs.Table.{Me, keeps, Allows}
+use Rattle.scc_base.specs.Numbers.{word_number, register_number}
 use Rattle.scc_base.specs.Places.{WordAt, IsPlace}
 use Rattle.scc_base.specs.Events.{IsEvent, load_of, store_of, take_of, free_of}
 use Rattle.scc_base.specs.Setups.{SetupView}
@@ -11,7 +12,7 @@ use Rattle.scc_base.specs.declared.events.Event.{Event}
 use Rattle.scc_proto.specs.Words.{IsStep, memory_after, SameWords}
 use Rattle.scc_proto.specs.Records.{IsPermitted, record_of}
 use Rattle.scc_proto.specs.Registers.{Holder, Nobody, HeldBy}
-use Rattle.scc_proto.specs.Memories.{word_number, register_number, memory_of}
+use Rattle.scc_proto.specs.Memories.{memory_of}
 use Rattle.scc_mesh.specs.SeatViews.{SeatView, list_at, IsKnown, with_event}
 use Rattle.scc_mesh.specs.Keeping.{records_by, Together, Kept, KeepsRule, Made, Looked, MayAccess, event_found}
 use Rattle.scc_proto.proofs.Words.MemoryLemmas.{word_is, register_is, words_kept, word_stored, register_freed, register_taken}

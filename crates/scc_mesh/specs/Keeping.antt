@@ -3,6 +3,7 @@ use Rattle.std.specs.Prelude.{◌≡◌, ◌≢◌, ℕ, ◌<◌, ◌≤◌, ◌
 use mathlib.Core.Option.{some}
 use lib.ListN.{get_elem?}
 use Rattle.atomic_table.specs.Table.{State}
+use Rattle.scc_base.specs.Numbers.{number_count}
 use Rattle.scc_base.specs.Places.{WordAt}
 use Rattle.scc_base.specs.Events.{load_of, store_of, take_of, free_of}
 use Rattle.scc_base.specs.Setups.{SetupView, IsSetup}
@@ -15,7 +16,7 @@ use Rattle.scc_proto.specs.Words.{Memory, IsStep, memory_after, HeapWord, role_o
 use Rattle.scc_proto.specs.Records.{IsPermitted, IsHonest, record_of}
 use Rattle.scc_proto.specs.Soundness.{IsSound}
 use Rattle.scc_proto.specs.Agreement.{Agrees}
-use Rattle.scc_proto.specs.Memories.{memory_of, number_count}
+use Rattle.scc_proto.specs.Memories.{memory_of}
 use Rattle.scc_mesh.specs.SeatViews.{SeatView, events_of_rank, list_at, IsKnown, with_event}
 
 -- the record of each rank's events

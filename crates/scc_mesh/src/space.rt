@@ -1,22 +1,14 @@
 //! The shared words of an open chip, and the steps on them.
 
-ghost use Rattle.std.specs.Prelude.{◌≡◌, ℕ, [], length, slice_index, IfOk};
+ghost use Rattle.std.specs.Prelude.{◌≡◌, [], IfOk};
 ghost use Rattle.scc_mesh.specs.SeatViews.{IsKnown, list_at, events_of_rank, newcomer, without, lone_view, joined_seats};
 ghost use Rattle.scc_mesh.specs.Keeping.{Made, Looked, MayAccess, event_found};
 
 use crate::rule::{Agreement, Aim, Goes, HandsOut, Looks, TakesIn, View};
 use atomic_table::{Seat, Table};
-use scc_base::{Access, Place, Rank, Setup};
-use scc_proto::{NUMBERS, number_of_register, number_of_word};
+use scc_base::{Access, NUMBERS, Place, Rank, Setup, number_of_register, number_of_word, zeros};
 use std::alloc::{AllocError, Global};
 use std::marker::{Brand, Model};
-
-// As many words that are 0.
-fn zeros(alloc: Global, count: usize) -> Result<Vec<u64>, AllocError>
-    ensures zeros { IfOk result (λ words. (length words.items ≡ count) × ((k : ℕ) → slice_index words.items k ≡ 0)) }
-{
-    vec![in alloc; 0u64; count]
-}
 
 /// The shared words of an open chip, with its setup. A word is read and written through a port alone.
 #[derive(Drop)]
@@ -28,7 +20,7 @@ pub struct Space {
 impl Model for Space {
     ghost use Rattle.std.specs.Prelude.{◌≡◌};
     ghost use Rattle.scc_mesh.specs.Spaces.{SpaceView};
-    ghost use Rattle.scc_proto.specs.Memories.{number_count};
+    ghost use Rattle.scc_base.specs.Numbers.{number_count};
 
     ghost Value = { SpaceView };
 

@@ -1,4 +1,3 @@
--- What runs of events of one rank come to: of a rank at rest, of a rank in no call, of a rank alone.
+-- What runs of events of one rank come to: of a rank at rest, of a rank in no call.
 pub mod IdleLaws
 pub mod RestLaw
-pub mod LoneLaws

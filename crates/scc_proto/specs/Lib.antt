@@ -7,7 +7,6 @@ pub mod IdlePorts
 pub mod LegalExamples
 pub mod Legality
 pub mod Like
-pub mod Lone
 pub mod Memories
 pub mod Messages
 pub mod Moves

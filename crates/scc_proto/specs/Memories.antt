@@ -1,19 +1,7 @@
--- The table's words as the chip's memory: the buffer words by core, line and word, and the registers behind
--- them (this project's profile).
-use Rattle.std.specs.Prelude.{ℕ, ◌+◌, ◌*◌, Bool, ◌&&◌, nat_lt, if◌then◌else◌, List, slice_index}
+-- The table's words as the chip's memory: each stands at its number (this project's profile).
+use Rattle.std.specs.Prelude.{ℕ, Bool, ◌&&◌, nat_lt, if◌then◌else◌, List, slice_index}
+use Rattle.scc_base.specs.Numbers.{word_number, register_number}
 use Rattle.scc_proto.specs.Words.{Memory}
-
--- the number of a buffer word in the table
-abbrev pub word_number : ℕ → ℕ → ℕ → ℕ
-word_number core line word = 1024 * core + 4 * line + word
-
--- the number of a core's register in the table
-abbrev pub register_number : ℕ → ℕ
-register_number core = 49152 + core
-
--- how many numbers the words and the registers of the chip have: 1,024 words and a register a core
-abbrev pub number_count : ℕ
-number_count = 49200
 
 -- the chip has such a word
 abbrev pub is_word : ℕ → ℕ → ℕ → Bool

@@ -1,6 +1,6 @@
 //! Barriers over a chip with one seat.
 
-ghost use Rattle.std.specs.Prelude.{◌≢◌, ◌<◌, ◌≤◌, IfOk};
+ghost use Rattle.std.specs.Prelude.{◌≢◌, ◌<◌, ◌≤◌};
 ghost use Rattle.scc_base.specs.Communicators.{rule_of};
 ghost use Rattle.scc_base.specs.declared.communicators.CommRule.TheVariants.{Absent};
 ghost use Rattle.scc_mesh.specs.Scenes.{IsNew, about_in};
@@ -11,7 +11,7 @@ use barrier::{BarOp, BarStop, Parity, barrier};
 use chip_teams::{Player, Team, opened};
 use line_cache::Never;
 use put_get::Core;
-use scc_base::{CommRule, CoreId, Layout, Place, Rank, Setup, Spot, Turn};
+use scc_base::{CommRule, CoreId, Layout, Place, Rank, Spot, Turn};
 use scc_mesh::Chip;
 use scc_proto::Port;
 use std::alloc::Global;

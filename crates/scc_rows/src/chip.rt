@@ -4,7 +4,8 @@ ghost use Rattle.scc_rows.specs.Rests.{IsPortAtRest, IsWithout};
 
 use crate::fixtures::{Meeting, acquire, free, give_back, shows, store, take};
 use scc_base::{CoreId, Place, Rank};
-use scc_proto::{CountingPort, Port};
+use scc_ports::CountingPort;
+use scc_proto::Port;
 use std::test::Fail;
 
 // The bits that are 1 in any word of the chip.

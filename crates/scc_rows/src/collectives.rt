@@ -1,8 +1,8 @@
 //! Collective calls as steps, and folds: values from the tables and the worked runs.
 
-use crate::fixtures::{cores_in_order, has_text};
+use crate::fixtures::has_text;
 use groups::{Coll, Op, Shape, Step, Ty, fold_into, step, steps};
-use scc_base::{CommRule, Head, Kind, Layout, Rank, Setup};
+use scc_base::{CommRule, Head, Kind, Layout, Rank, Setup, own_cores};
 use std::test::Fail;
 
 // Five ranks, on the cores of the same numbers. Communicator 1 has the even and the odd ranks, communicator 2
@@ -13,7 +13,7 @@ fn five_ranks() -> Option<Setup> {
     comms[1] = CommRule::Mod { parent: 0, k: 2 };
     comms[2] = CommRule::Div { parent: 1, k: 2 };
     comms[15] = CommRule::Div { parent: 0, k: 1 };
-    Setup::new(5, Layout::lines(), cores_in_order(), comms)
+    Setup::new(5, Layout::lines(), own_cores(), comms)
 }
 
 // Whether a rank's call has `count` steps.

@@ -6,7 +6,8 @@ use crate::fixtures::{Meeting, has_text, shows};
 use line_cache::Evict;
 use put_get::{Core, RangeFault};
 use scc_base::{CoreId, Place};
-use scc_proto::{CountingPort, Port};
+use scc_ports::CountingPort;
+use scc_proto::Port;
 use std::test::Fail;
 
 #[test]

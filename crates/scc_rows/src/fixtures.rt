@@ -8,9 +8,10 @@ ghost use Rattle.scc_rows.specs.Rests.{IsNewPair, IsPortAtRest, IsFreshPort, IsW
 
 use line_cache::Evict;
 use put_get::{Core, RangeFault};
-use scc_base::{Buf, CommRule, CoreId, Layout, Place, Rank, Setup};
+use scc_base::{Buf, CoreId, Layout, Place, Rank, Setup, own_cores, world_alone};
 use scc_mesh::{Chip, SeatPort};
-use scc_proto::{CountingPort, Port};
+use scc_ports::CountingPort;
+use scc_proto::Port;
 use std::alloc::Global;
 use std::cell::Cell;
 use std::fmt::Display;
@@ -20,22 +21,11 @@ use tas_lock::{Held, release, try_acquire};
 /// Both layouts of the flags.
 pub(crate) const LAYOUTS: &[Layout] = &[Layout::LineFlags, Layout::BitFlags];
 
-/// The cores in the order of their numbers.
-pub(crate) fn cores_in_order() -> [CoreId; 48] {
-    let mut cores = [CoreId::of(0); 48];
-    for number in 0..48 {
-        cores[number] = CoreId::of(number as u8);
-    }
-    cores
-}
-
 /// A setup of `nue` ranks, each on the core of its number, with the world alone.
 pub(crate) fn world_of(nue: u8, layout: Layout) -> Option<Setup>
     ensures ranks { IfSome result (λ s. s.nue ≡ nue) }
 {
-    let mut rules = [CommRule::Absent; 16];
-    rules[0] = CommRule::World;
-    Setup::new(nue, layout, cores_in_order(), rules)
+    Setup::new(nue, layout, own_cores(), world_alone())
 }
 
 /// A chip of two ranks that was just opened, with line flags.

@@ -8,7 +8,8 @@ use crate::fixtures::{Meeting, free, shows, shows_in, take};
 use line_cache::{Evict, Never};
 use put_get::Core;
 use scc_base::{Buf, CoreId, FlagAt, Layout, Place, Rank, Spot, Stalled};
-use scc_proto::{CountingPort, Port};
+use scc_ports::CountingPort;
+use scc_proto::Port;
 use std::test::Fail;
 use sync_flags::{flag_read, flag_write, heap_bit, heap_flag, wait_until};
 

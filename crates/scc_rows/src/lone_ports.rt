@@ -1,12 +1,13 @@
 //! A chip in memory of one rank: it can be had, and its words and registers are used.
 
 ghost use Rattle.std.specs.Prelude.{◌≡◌, [], IfOk};
-ghost use Rattle.scc_proto.specs.Lone.{lone_sight};
+ghost use Rattle.scc_ports.specs.Lone.{lone_sight};
 
 use crate::fixtures::{as_named, world_of};
 use scc_base::{CoreId, Layout, Line, Place, Rank};
+use scc_ports::{CountingPort, LonePort};
+use scc_proto::Port;
 use scc_proto::examples::store_then_load;
-use scc_proto::{CountingPort, LonePort, Port};
 use std::alloc::Global;
 use std::test::Fail;
 

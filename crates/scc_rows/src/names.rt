@@ -1,9 +1,8 @@
 //! The names of things on the chip and in a run, and setups: values from the tables and the worked runs.
 
-use crate::fixtures::cores_in_order;
 use scc_base::{
     Buf, Call, CommRule, CoreId, Event, FlagAt, Head, Kind, Layout, Line, Place, PostHead, Rank,
-    Setup, Signal, Spot, Turn,
+    Setup, Signal, Spot, Turn, own_cores,
 };
 
 const NUMBERS: &[(u8, bool)] = &[(0, true), (47, true), (48, false), (255, false)];
@@ -224,7 +223,7 @@ fn rules_of(first: CommRule, second: CommRule) -> [CommRule; 16] {
 }
 
 fn is_setup(nue: u8, layout: Layout, rules: [CommRule; 16]) -> bool {
-    Setup::new(nue, layout, cores_in_order(), rules).is_some()
+    Setup::new(nue, layout, own_cores(), rules).is_some()
 }
 
 const NUMBERS_OF_RANKS: &[(u8, bool)] = &[(0, false), (1, true), (48, true), (49, false)];
@@ -255,7 +254,7 @@ fn setups_are_refused(rt: HostRuntime) {
 
 #[test]
 fn two_ranks_need_two_cores(rt: HostRuntime) {
-    let mut cores = cores_in_order();
+    let mut cores = own_cores();
     cores[3] = CoreId::of(1);
     let rules = rules_of(CommRule::World, CommRule::Absent);
     assert!(rt; Setup::new(4, Layout::lines(), cores, rules).is_none());
@@ -289,7 +288,7 @@ fn nested_setup() -> Option<Setup> {
     let mut rules = rules_of(CommRule::World, CommRule::Div { parent: 0, k: 4 });
     rules[9] = CommRule::Mod { parent: 1, k: 2 };
     rules[10] = CommRule::Mod { parent: 0, k: 3 };
-    Setup::new(8, Layout::lines(), cores_in_order(), rules)
+    Setup::new(8, Layout::lines(), own_cores(), rules)
 }
 
 const MEMBERS: &[(u8, u8, &[u8])] = &[
@@ -320,7 +319,7 @@ fn sits_on(setup: &Setup, rank: u8, core: u8) -> bool {
 
 #[test]
 fn ranks_sit_on_their_hosts(rt: HostRuntime) {
-    let mut cores = cores_in_order();
+    let mut cores = own_cores();
     cores[0] = CoreId::of(47);
     let rules = rules_of(CommRule::World, CommRule::Absent);
     let setup = Setup::new(2, Layout::bits(), cores, rules).expect(&rt, "a setup");

@@ -7,7 +7,8 @@ use crate::fixtures::{Meeting, Watched, flush, get, put, read, shows, store, wri
 use line_cache::{Always, Evict, Never};
 use put_get::{Core, RangeFault};
 use scc_base::{Buf, CoreId, Line, Place, Rank};
-use scc_proto::{CountingPort, Port};
+use scc_ports::CountingPort;
+use scc_proto::Port;
 use std::cell::Cell;
 use std::test::Fail;
 

@@ -9,7 +9,8 @@ use crate::fixtures::{Meeting, shows_in_both};
 use line_cache::{Evict, Never};
 use put_get::Core;
 use scc_base::{CoreId, Head, Layout, Place, PostHead, Rank, Signal, Spot};
-use scc_proto::{CountingPort, Port};
+use scc_ports::CountingPort;
+use scc_proto::Port;
 use send_recv::{RecvOp, RecvStop, SendOp, SendStop, Slot, recv, recv_test, send};
 use std::test::Fail;
 

@@ -1,11 +1,11 @@
 //! Many accesses to a bare table.
 
 ghost use Rattle.std.specs.Prelude.{◌≡◌};
-ghost use Rattle.scc_proto.specs.Memories.{number_count};
+ghost use Rattle.scc_base.specs.Numbers.{number_count};
 
 use crate::accesses::Kind;
 use atomic_table::{Play, Seat, Shared, Table, TableRule};
-use scc_proto::NUMBERS;
+use scc_base::NUMBERS;
 use std::alloc::{AllocError, Global};
 
 /// A table of which nothing is claimed.

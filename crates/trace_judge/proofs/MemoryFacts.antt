@@ -1,9 +1,10 @@
 -- The words of a chip in a list: what stands at a place, and what a store and a change of a register leave.
 use Rattle.std.proofs.Common.{◌≡◌, ℕ, ◌<◌, List, length, get_or, slice_index, slice_set, sym, ◌∙◌, ap, refl, arith}
 use Rattle.std.proofs.lemmas.List.{get_or_read_under}
+use Rattle.scc_base.specs.Numbers.{word_number, register_number}
 use Rattle.scc_base.specs.Places.{WordAt, IsPlace}
 use Rattle.scc_base.specs.Events.{store_of}
-use Rattle.scc_proto.specs.Memories.{word_number, register_number, memory_of}
+use Rattle.scc_proto.specs.Memories.{memory_of}
 use Rattle.scc_proto.specs.Words.{Memory, zeros, word_at, SameWords, memory_after}
 use Rattle.scc_proto.proofs.Words.MemoryLemmas.{words_at_start, word_is, register_is, word_stored, register_set}
 use Rattle.trace_judge.specs.Rulings.{register_changed}

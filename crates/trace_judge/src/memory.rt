@@ -1,18 +1,10 @@
 //! The shared words of a chip.
 
-ghost use Rattle.std.specs.Prelude.{◌≡◌, ℕ, IfOk, length, slice_index, vec_len};
-ghost use Rattle.scc_proto.specs.Memories.{number_count};
+ghost use Rattle.std.specs.Prelude.{◌≡◌, vec_len};
+ghost use Rattle.scc_base.specs.Numbers.{number_count};
 
-use scc_base::{Access, CoreId, Event, Place};
-use scc_proto::{NUMBERS, number_of_register, number_of_word};
+use scc_base::{Access, CoreId, Event, NUMBERS, Place, number_of_register, number_of_word, zeros};
 use std::alloc::{AllocError, Global};
-
-// As many words that are 0.
-fn zeros(alloc: Global, count: usize) -> Result<Vec<u64>, AllocError>
-    ensures zeros { IfOk result (λ words. (length words.items ≡ count) × ((k : ℕ) → slice_index words.items k ≡ 0)) }
-{
-    vec![in alloc; 0u64; count]
-}
 
 /// The words and registers of a chip, in memory that is taken once.
 #[derive(Drop)]

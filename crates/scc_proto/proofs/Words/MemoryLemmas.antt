@@ -3,10 +3,11 @@ use Rattle.std.proofs.Common.{◌≡◌, ◌≢◌, ◌⊎◌, inl, inr, ℕ, �
 use Rattle.std.proofs.lemmas.Bool.Decides.{nat_tests}
 use Rattle.std.proofs.lemmas.Grind.{get_or-set_at}
 use Rattle.std.proofs.lemmas.List.{set-get_or, get_or-set_other}
+use Rattle.scc_base.specs.Numbers.{word_number, register_number}
 use Rattle.scc_base.specs.Places.{WordAt, IsPlace}
 use Rattle.scc_base.specs.Events.{store_of, take_of, free_of}
 use Rattle.scc_proto.specs.Words.{Memory, zeros, word_at, is_at, IsStep, memory_after, SameWords}
-use Rattle.scc_proto.specs.Memories.{word_number, register_number, is_word, memory_of}
+use Rattle.scc_proto.specs.Memories.{is_word, memory_of}
 
 in_range : (core line word : ℕ) → core < 48 → line < 256 → word < 4 → is_word core line word ≡ true
 in_range core line word a b c = grind (arith, nat_tests)

@@ -1,5 +1,5 @@
 use Rattle.std.proofs.Common.{sym, ◌∙◌, ap, subst, ◌<◌, arith}
-use Rattle.scc_proto.specs.Memories.{register_number}
+use Rattle.scc_base.specs.Numbers.{register_number}
 use Rattle.scc_mesh.specs.Spaces.{SpaceView}
 use Rattle.scc_mesh.proofs.Allowed.{allowed_load, allowed_store, allowed_take, allowed_free, made_so}
 use Rattle.scc_mesh.proofs.space.Space.make_as.Goals as goal
