@@ -4,7 +4,7 @@ ghost use Rattle.std.specs.Prelude.{◌≡◌, ◌+◌, ◌<◌};
 ghost use Rattle.barrier.specs.Stages.{after_flip, after_member_seen, after_release};
 
 /// What a barrier does next.
-#[derive(Clone, Copy, PartialEq, Eq)]
+#[derive(Clone, Copy)]
 pub enum BarStage {
     /// It flips the own gather flag.
     Flip,

@@ -3,7 +3,7 @@
 use scc_base::Rank;
 
 /// What is found behind a rank that waits, from rank to rank.
-#[derive(Clone, Copy, PartialEq, Eq)]
+#[derive(Clone, Copy)]
 pub enum Cause {
     /// A rank that has finished.
     Finished(Rank),

@@ -14,7 +14,7 @@ use script_rules::Scripts;
 use std::alloc::{AllocError, Global};
 
 /// How the run of a rank ended, and for whom it waits.
-#[derive(Clone, Copy, PartialEq, Eq)]
+#[derive(Clone, Copy)]
 pub enum Trouble {
     /// It has finished.
     Finished,
@@ -25,7 +25,7 @@ pub enum Trouble {
 }
 
 /// A rank, and what is the matter with it.
-#[derive(Clone, Copy, PartialEq, Eq)]
+#[derive(Clone, Copy)]
 pub struct Found {
     pub rank: Rank,
     pub trouble: Trouble,

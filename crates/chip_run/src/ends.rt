@@ -1,7 +1,7 @@
 //! How a run ends.
 
 /// How a run ended.
-#[derive(Clone, Copy, PartialEq, Eq)]
+#[derive(Clone, Copy)]
 pub enum RunEnd {
     /// Every rank has finished.
     Finished,

@@ -8,7 +8,7 @@ use crate::ends::RunEnd;
 use scc_base::Turn;
 
 /// What one turn or several came to.
-#[derive(Clone, Copy, PartialEq, Eq)]
+#[derive(Clone, Copy)]
 pub enum Rest {
     /// Some rank moved.
     Moved,

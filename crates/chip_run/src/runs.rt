@@ -19,7 +19,7 @@ use scc_mesh::Chip;
 use std::thread::Threads;
 
 /// How the turns of a run are taken.
-#[derive(Clone, Copy, PartialEq, Eq)]
+#[derive(Clone, Copy)]
 pub enum Mode {
     /// Each rank takes its turns in a thread of its own, or in one that it shares where the system refuses some.
     Threads,

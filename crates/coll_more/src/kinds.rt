@@ -3,7 +3,7 @@
 use scc_base::Rank;
 
 /// A collective call of all ranks of the world, with root 0 (this project's profile: RCCE itself has neither).
-#[derive(Clone, Copy, PartialEq, Eq)]
+#[derive(Clone, Copy)]
 pub enum More {
     /// The pieces of all ranks come to the root.
     Gather,
@@ -16,7 +16,7 @@ pub enum More {
 }
 
 /// What a message of a collective call does at a rank.
-#[derive(Clone, Copy, PartialEq, Eq)]
+#[derive(Clone, Copy)]
 pub enum Way {
     /// It sends bytes of `src`.
     Gives,
@@ -27,7 +27,7 @@ pub enum Way {
 }
 
 /// One message of a collective call at a rank: with whom, which way, the first byte of its piece, and its length.
-#[derive(Clone, Copy, PartialEq, Eq)]
+#[derive(Clone, Copy)]
 pub struct PieceCall {
     pub peer: Rank,
     pub way: Way,

@@ -4,7 +4,7 @@ use scc_base::{CommRule, Head, Rank, Setup};
 
 /// A collective call of a rank, without its registers (RCCE specification 2.0: RCCE_bcast, RCCE_reduce and
 /// RCCE_allreduce). A root is counted inside its group, and `len` is the length of the register in bytes.
-#[derive(Clone, Copy, Debug, PartialEq, Eq)]
+#[derive(Clone, Copy)]
 pub enum Coll {
     /// The root's bytes come to each member.
     Bcast { comm: u8, root: u8, len: u32 },

@@ -8,7 +8,7 @@ use crate::operations::{Op, Ty};
 use thiserror::Error;
 
 /// Two lengths that cannot be folded: they differ, or they are no multiple of the type's width.
-#[derive(Debug, Drop, PartialEq, Eq, Error)]
+#[derive(Debug, Drop, Error)]
 #[error("lengths {acc} and {more} do not fit")]
 pub struct Shape {
     pub acc: usize,

@@ -1,7 +1,7 @@
 //! The operations of a fold and the types of its values.
 
 /// An operation of a fold (RCCE specification 2.0: RCCE_SUM, RCCE_MIN, RCCE_MAX, RCCE_PROD).
-#[derive(Clone, Copy, Debug, PartialEq, Eq)]
+#[derive(Clone, Copy)]
 pub enum Op {
     /// The sum, modulo the type's range.
     Sum,
@@ -14,7 +14,7 @@ pub enum Op {
 }
 
 /// The type of the values, little-endian two's complement (RCCE specification 2.0: RCCE_INT, RCCE_LONG).
-#[derive(Clone, Copy, Debug, PartialEq, Eq)]
+#[derive(Clone, Copy)]
 pub enum Ty {
     /// 4 bytes.
     Int,

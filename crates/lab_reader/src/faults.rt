@@ -6,7 +6,7 @@ ghost use Rattle.lab_reader.specs.Faults.{lab_kind_name};
 use std::alloc::{AllocError, AllocFailed};
 
 /// What is wrong in a line.
-#[derive(Clone, Copy, Debug)]
+#[derive(Clone, Copy)]
 pub enum LabKind {
     /// The file has more bytes than a lab may have.
     TooLong,
@@ -33,14 +33,14 @@ impl LabKind {
 }
 
 /// The first fault of a file. Lines count from 1; line 0 stands for the file as a whole.
-#[derive(Clone, Copy, Debug)]
+#[derive(Clone, Copy)]
 pub struct LabFault {
     pub line: u32,
     pub kind: LabKind,
 }
 
 /// Why a reading stops: the file has a fault, or no memory is left.
-#[derive(Clone, Copy, Debug)]
+#[derive(Clone, Copy)]
 pub enum LabStop {
     Fault(LabFault),
     Memory,

@@ -4,7 +4,7 @@ use crate::tables::{along_columns, along_rows};
 use std::marker::Model;
 
 /// A direction of the mesh: towards the next higher column, the next lower one, the next higher row, the next lower one.
-#[derive(Clone, Copy, PartialEq, Eq)]
+#[derive(Clone, Copy)]
 pub enum Dir {
     East,
     West,

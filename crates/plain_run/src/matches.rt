@@ -24,7 +24,7 @@ use std::marker::Model;
 
 /// A message that came to its receiver: from which rank to which, its head, and the lines of the statements that sent and
 /// received it.
-#[derive(Clone, Copy, PartialEq, Eq)]
+#[derive(Clone, Copy)]
 pub struct Match {
     pub from: Rank,
     pub to: Rank,

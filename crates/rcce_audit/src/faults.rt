@@ -6,7 +6,7 @@ ghost use Rattle.rcce_audit.specs.Kinds.{fault_name};
 use std::alloc::{AllocError, AllocFailed};
 
 /// What is wrong in a line.
-#[derive(Clone, Copy, Debug)]
+#[derive(Clone, Copy)]
 pub enum LogKind {
     /// The file has more bytes than a log may have.
     TooLong,
@@ -33,14 +33,14 @@ impl LogKind {
 }
 
 /// The first fault of a file. Lines count from 1; line 0 stands for the file as a whole.
-#[derive(Clone, Copy, Debug)]
+#[derive(Clone, Copy)]
 pub struct LogFault {
     pub line: u32,
     pub kind: LogKind,
 }
 
 /// Why a reading stops: the file has a fault, or no memory is left.
-#[derive(Clone, Copy, Debug)]
+#[derive(Clone, Copy)]
 pub enum LogStop {
     Fault(LogFault),
     Memory,

@@ -2,7 +2,7 @@ ghost use Rattle.std.specs.Prelude.{◌<◌, length, IsTrue};
 ghost use Rattle.rcce_io.specs.Files.{FilesView, Opens, Reads};
 
 /// What an `open` answers.
-#[derive(Clone, Copy, PartialEq, Eq)]
+#[derive(Clone, Copy)]
 pub enum Opened {
     Open,
     /// No file of that name is found.

@@ -9,7 +9,7 @@ use texts::Bytes;
 const BLOCK: usize = 4096;
 
 /// Why a file was not read.
-#[derive(Clone, Copy, Debug, PartialEq, Eq)]
+#[derive(Clone, Copy, PartialEq, Eq)]
 pub enum ReadEnd {
     Absent,
     Failed,

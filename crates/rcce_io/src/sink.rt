@@ -2,7 +2,7 @@ ghost use Rattle.std.specs.Prelude.{◌<◌, length};
 ghost use Rattle.rcce_io.specs.Sending.{SinkView, SinkWrites};
 
 /// What a `write` answers.
-#[derive(Clone, Copy, PartialEq, Eq)]
+#[derive(Clone, Copy)]
 pub enum Put {
     /// How many bytes were taken, from the front.
     Took(usize),

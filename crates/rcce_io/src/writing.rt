@@ -4,7 +4,7 @@ ghost use Rattle.rcce_io.specs.Sending.{Sends, joined_texts};
 use crate::{Put, Sink, TextSource};
 
 /// A sink did not take a text whole.
-#[derive(Clone, Copy, Debug, PartialEq, Eq)]
+#[derive(Clone, Copy)]
 pub struct WriteFault;
 
 /// Writes the bytes until all are taken or a write fails.

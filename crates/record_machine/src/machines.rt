@@ -11,7 +11,7 @@ use scc_base::{Access, Call, Event, Place, Rank, Setup};
 use std::alloc::{AllocError, Global};
 
 /// The record does not permit the event next.
-#[derive(Debug, Drop, PartialEq, Eq)]
+#[derive(Drop)]
 pub struct Refused;
 
 /// The record of a rank, as far as it says which events are permitted next and which calls they finish. All its memory is taken

@@ -13,7 +13,7 @@ use crate::works::{Standing, Work};
 use scc_base::{Access, CoreId, Event, Head, Rank};
 
 /// What the messages and barriers of a rank allow it to store next. A rank is told where the flag is between it and this one.
-#[derive(Clone, Copy, Debug, PartialEq, Eq)]
+#[derive(Clone, Copy)]
 pub enum NextStore {
     /// Nothing is open: words of a message, a lowered `sent` whose header is read, a barrier, the heap.
     Begin,
@@ -46,7 +46,7 @@ pub enum NextStore {
 }
 
 /// What a record allows in place of an event that it does not permit.
-#[derive(Clone, Copy, Debug, PartialEq, Eq)]
+#[derive(Clone, Copy)]
 pub enum NextEvent {
     /// A free, of a register that is held already.
     FreeRegister,

@@ -3,7 +3,7 @@
 use scc_base::{Head, Spot};
 
 /// What one turn of a receive came to.
-#[derive(Drop, PartialEq, Eq)]
+#[derive(Drop)]
 pub enum RecvTurn {
     /// It went on, and is not at its end.
     Moved,

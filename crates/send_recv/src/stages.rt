@@ -1,7 +1,7 @@
 //! Where the operations stand in their messages.
 
 /// What a receive does next.
-#[derive(Clone, Copy, PartialEq, Eq)]
+#[derive(Clone, Copy)]
 pub enum RecvStage {
     /// It looks whether a chunk was sent.
     Look,
@@ -18,7 +18,7 @@ pub enum RecvStage {
 }
 
 /// What a send or a post does next.
-#[derive(Clone, Copy, PartialEq, Eq)]
+#[derive(Clone, Copy)]
 pub enum SendStage {
     /// It writes its header line, once the slot is empty.
     Header,

@@ -6,7 +6,7 @@ ghost use Rattle.trace_script.specs.Ends.{trace_status_number};
 use outcomes::Status;
 
 /// How a run whose trace is written ends. The number is the status with which the process ends.
-#[derive(Clone, Copy, Debug, PartialEq, Eq)]
+#[derive(Clone, Copy)]
 pub enum TraceEnd {
     /// As any program does.
     Ended(Status),

@@ -4,7 +4,7 @@ ghost use Rattle.std.specs.Prelude.{◌≡◌, codes};
 ghost use Rattle.trace_text.specs.Kinds.{trace_fault_name};
 
 /// What is wrong in a line.
-#[derive(Clone, Copy, Debug)]
+#[derive(Clone, Copy)]
 pub enum TraceKind {
     /// The file has more bytes or lines than a trace may have.
     TooLong,
@@ -31,7 +31,7 @@ impl TraceKind {
 }
 
 /// The first fault of a file. Lines count from 1; line 0 stands for the file as a whole.
-#[derive(Clone, Copy, Debug)]
+#[derive(Clone, Copy)]
 pub struct TraceFault {
     pub line: u32,
     pub kind: TraceKind,

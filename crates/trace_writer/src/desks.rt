@@ -15,7 +15,7 @@ use trace_judge::{Judge, Refusal};
 use trace_run::Witness;
 
 /// Why no more of a trace is written.
-#[derive(Debug, Drop, PartialEq, Eq)]
+#[derive(Drop)]
 pub enum TraceFault {
     /// The sink did not take it.
     Write,
