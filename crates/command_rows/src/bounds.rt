@@ -3,7 +3,7 @@
 use crate::cases::{Ended, FOUR_BYTES, Given, NOWHERE, run};
 use crate::programs::{Audit, Launcher, Program};
 use outcomes::Status;
-use std::alloc::{AllocError, Global};
+use std::alloc::Global;
 use std::process::Abort;
 use std::thread::Threads;
 
@@ -25,19 +25,20 @@ impl Row {
             && out.ends_with(self.back)
             && ended.err.bytes().is_empty()
     }
+
+    /// Whether it comes of its run.
+    fn comes<R: Threads + Sync, P: Program>(&self, rt: &R, alloc: Global, program: &P) -> bool {
+        match run(rt, alloc, program, &self.given, NOWHERE) {
+            Ok(ended) => self.is_told_by(&ended),
+            Err(_) => false,
+        }
+    }
 }
 
-fn expect<R: Threads + Sync + Abort, P: Program>(
-    rt: &R,
-    alloc: Global,
-    program: &P,
-    rows: &[Row],
-) -> Result<(), AllocError> {
+fn expect<R: Threads + Sync + Abort, P: Program>(rt: &R, alloc: Global, program: &P, rows: &[Row]) {
     for row in rows {
-        let ended = run(rt, alloc, program, &row.given, NOWHERE)?;
-        assert!(rt; row.is_told_by(&ended));
+        assert!(rt; row.comes(rt, alloc, program));
     }
-    Ok(())
 }
 
 /// The least that has something to tell.
@@ -53,8 +54,8 @@ const FOUR: &[Row] = &[Row {
 }];
 
 #[test]
-fn four_bytes_have_memory(rt: HostRuntime) -> Result<(), AllocError> {
-    expect(&rt, rt.alloc(), &Launcher, FOUR)
+fn four_bytes_have_memory(rt: HostRuntime) {
+    expect(&rt, rt.alloc(), &Launcher, FOUR);
 }
 
 /// One chunk, one byte more, and the most.
@@ -92,8 +93,8 @@ const MESSAGES: &[Row] = &[
 ];
 
 #[test]
-fn messages_of_many_bytes_arrive_whole(rt: HostRuntime) -> Result<(), AllocError> {
-    expect(&rt, rt.alloc(), &Launcher, MESSAGES)
+fn messages_of_many_bytes_arrive_whole(rt: HostRuntime) {
+    expect(&rt, rt.alloc(), &Launcher, MESSAGES);
 }
 
 /// One byte more than a chunk has by bit flags.
@@ -109,8 +110,8 @@ const BY_BIT_FLAGS: &[Row] = &[Row {
 }];
 
 #[test]
-fn messages_of_many_bytes_arrive_whole_by_bit_flags(rt: HostRuntime) -> Result<(), AllocError> {
-    expect(&rt, rt.alloc(), &Launcher, BY_BIT_FLAGS)
+fn messages_of_many_bytes_arrive_whole_by_bit_flags(rt: HostRuntime) {
+    expect(&rt, rt.alloc(), &Launcher, BY_BIT_FLAGS);
 }
 
 const MOST: &[Row] = &[
@@ -137,8 +138,8 @@ const MOST: &[Row] = &[
 ];
 
 #[test]
-fn the_most_operations_and_printed_bytes_finish(rt: HostRuntime) -> Result<(), AllocError> {
-    expect(&rt, rt.alloc(), &Launcher, MOST)
+fn the_most_operations_and_printed_bytes_finish(rt: HostRuntime) {
+    expect(&rt, rt.alloc(), &Launcher, MOST);
 }
 
 /// The most calls, and the most bytes.
@@ -166,6 +167,6 @@ const LOGS: &[Row] = &[
 ];
 
 #[test]
-fn as_much_as_a_log_may_have(rt: HostRuntime) -> Result<(), AllocError> {
-    expect(&rt, rt.alloc(), &Audit, LOGS)
+fn as_much_as_a_log_may_have(rt: HostRuntime) {
+    expect(&rt, rt.alloc(), &Audit, LOGS);
 }

@@ -12,21 +12,12 @@ use texts::number_in;
 /// A run of the program: its words, the call of each kind that fails, how it ends, and what it writes.
 ///
 /// The kinds are the calls that read files, the writes to `out` and those to `err`. Each is counted from 1: at 0 none fails.
-type Row = (
-    &'static [&'static str],
-    [u64; 3],
-    Status,
-    &'static str,
-    &'static str,
-);
-
-/// How a run ended, what it wrote, and how many calls read files.
-#[derive(Drop)]
-struct Ended {
+struct Row {
+    words: &'static [&'static str],
+    failing: [u64; 3],
     status: Status,
-    out: MemSink,
-    err: MemSink,
-    reads: u64,
+    out: &'static str,
+    err: &'static str,
 }
 
 /// Where `a` holds two lines and a half, `most` as many bytes as are read, and `long` one more.
@@ -46,126 +37,186 @@ fn sink(alloc: Global, failing: u64) -> Result<MemSink, AllocError> {
     Ok(sink)
 }
 
-/// Runs the program.
-fn run(alloc: Global, texts: &[&str], failing: [u64; 3]) -> Result<Ended, AllocError> {
-    let words = words_of(alloc, texts)?;
-    let mut files = three_files(alloc)?;
-    files.fail_at(failing[0]);
-    run_on(alloc, words.as_slice(), &mut files, failing)
-}
-
-fn run_on(
-    alloc: Global,
-    words: &[String],
-    files: &mut MemFiles,
-    failing: [u64; 3],
-) -> Result<Ended, AllocError> {
-    let mut out = sink(alloc, failing[1])?;
-    let mut err = sink(alloc, failing[2])?;
-    let status = line_count(alloc, words, files, &mut out, &mut err);
-    let reads = files.calls_made();
-    Ok(Ended {
-        status,
-        out,
-        err,
-        reads,
-    })
-}
-
 /// Whether the call that was to fail, if one was, is the last of those that were made.
 fn is_last(failing: u64, made: u64) -> bool {
     failing == 0 || failing == made
 }
 
-impl Ended {
-    /// Whether no call was made behind one that fails, and none that reads a file where the words are refused.
-    fn stops(&self, failing: [u64; 3]) -> bool {
-        is_last(failing[0], self.reads)
-            && is_last(failing[1], self.out.writes_made())
-            && is_last(failing[2], self.err.writes_made())
-            && (self.status != Words || self.reads == 0)
-    }
+/// Whether this stands on a sink, and no write was made behind one that fails.
+fn is_written(sink: &MemSink, failing: u64, text: &str) -> bool {
+    sink.bytes() == text.as_bytes() && is_last(failing, sink.writes_made())
+}
 
-    /// Whether it ended so, and this was written.
-    fn is(&self, status: Status, out: &str, err: &str) -> bool {
-        self.status == status
-            && self.out.bytes() == out.as_bytes()
-            && self.err.bytes() == err.as_bytes()
+/// Whether a run of this status ends as its row says. No call is made behind one that fails, and none that reads a file where the
+/// words are refused.
+fn is_end(status: Status, reads: u64, out: &MemSink, err: &MemSink, row: &'static Row) -> bool {
+    status == row.status
+        && is_written(out, row.failing[1], row.out)
+        && is_written(err, row.failing[2], row.err)
+        && is_last(row.failing[0], reads)
+        && (status != Words || reads == 0)
+}
+
+/// Whether a run on these files ends so.
+fn ends_so(
+    alloc: Global,
+    words: &[String],
+    files: &mut MemFiles,
+    row: &'static Row,
+) -> Result<bool, AllocError> {
+    let mut out = sink(alloc, row.failing[1])?;
+    let mut err = sink(alloc, row.failing[2])?;
+    let status = line_count(alloc, words, files, &mut out, &mut err);
+    Ok(is_end(status, files.calls_made(), &out, &err, row))
+}
+
+/// Whether the program runs so.
+fn runs_so(alloc: Global, row: &'static Row) -> Result<bool, AllocError> {
+    let words = words_of(alloc, row.words)?;
+    let mut files = three_files(alloc)?;
+    files.fail_at(row.failing[0]);
+    ends_so(alloc, words.as_slice(), &mut files, row)
+}
+
+fn expect<R: Abort>(rt: &R, alloc: Global, rows: &'static [Row]) {
+    for row in rows {
+        assert!(rt; matches!(runs_so(alloc, row), Ok(true)));
     }
 }
 
-fn expect<R: Abort>(rt: &R, alloc: Global, rows: &[Row]) -> Result<(), AllocError> {
-    for (words, failing, status, out, err) in rows {
-        let ended = run(alloc, words, *failing)?;
-        assert!(rt; ended.is(*status, out, err) && ended.stops(*failing));
-    }
-    Ok(())
-}
-
-const COUNTED: &[Row] = &[(&["a"], [0, 0, 0], Finished, "2\n", "")];
+const COUNTED: &[Row] = &[Row {
+    words: &["a"],
+    failing: [0, 0, 0],
+    status: Finished,
+    out: "2\n",
+    err: "",
+}];
 
 #[test]
-fn lines_are_counted(rt: HostRuntime) -> Result<(), AllocError> {
+fn lines_are_counted(rt: HostRuntime) {
     assert!(rt; Finished.number() == 0);
-    expect(&rt, rt.alloc(), COUNTED)
+    expect(&rt, rt.alloc(), COUNTED);
 }
 
 const REFUSED: &[Row] = &[
-    (&[], [0, 0, 0], Words, "", "lines: words refused\n"),
-    (&["-a"], [0, 0, 0], Words, "", "lines: words refused\n"),
-    (&["a", "a"], [0, 0, 0], Words, "", "lines: words refused\n"),
+    Row {
+        words: &[],
+        failing: [0, 0, 0],
+        status: Words,
+        out: "",
+        err: "lines: words refused\n",
+    },
+    Row {
+        words: &["-a"],
+        failing: [0, 0, 0],
+        status: Words,
+        out: "",
+        err: "lines: words refused\n",
+    },
+    Row {
+        words: &["a", "a"],
+        failing: [0, 0, 0],
+        status: Words,
+        out: "",
+        err: "lines: words refused\n",
+    },
 ];
 
 #[test]
-fn words_are_refused_before_a_file_is_asked_for(rt: HostRuntime) -> Result<(), AllocError> {
-    expect(&rt, rt.alloc(), REFUSED)
+fn words_are_refused_before_a_file_is_asked_for(rt: HostRuntime) {
+    expect(&rt, rt.alloc(), REFUSED);
 }
 
-const ABSENT: &[Row] = &[(&["b"], [0, 0, 0], Files, "", "lines: b: absent\n")];
+const ABSENT: &[Row] = &[Row {
+    words: &["b"],
+    failing: [0, 0, 0],
+    status: Files,
+    out: "",
+    err: "lines: b: absent\n",
+}];
 
 #[test]
-fn an_absent_file(rt: HostRuntime) -> Result<(), AllocError> {
-    expect(&rt, rt.alloc(), ABSENT)
+fn an_absent_file(rt: HostRuntime) {
+    expect(&rt, rt.alloc(), ABSENT);
 }
 
 const READ_FAULTS: &[Row] = &[
-    (&["a"], [1, 0, 0], Files, "", "lines: a: read fault\n"),
-    (&["a"], [2, 0, 0], Files, "", "lines: a: read fault\n"),
-    (&["a"], [3, 0, 0], Files, "", "lines: a: read fault\n"),
+    Row {
+        words: &["a"],
+        failing: [1, 0, 0],
+        status: Files,
+        out: "",
+        err: "lines: a: read fault\n",
+    },
+    Row {
+        words: &["a"],
+        failing: [2, 0, 0],
+        status: Files,
+        out: "",
+        err: "lines: a: read fault\n",
+    },
+    Row {
+        words: &["a"],
+        failing: [3, 0, 0],
+        status: Files,
+        out: "",
+        err: "lines: a: read fault\n",
+    },
 ];
 
 #[test]
-fn nothing_is_read_behind_a_read_fault(rt: HostRuntime) -> Result<(), AllocError> {
-    expect(&rt, rt.alloc(), READ_FAULTS)
+fn nothing_is_read_behind_a_read_fault(rt: HostRuntime) {
+    expect(&rt, rt.alloc(), READ_FAULTS);
 }
 
 const FAILED_WRITES: &[Row] = &[
-    (&["a"], [0, 2, 0], Write, "2", ""),
-    (&["b"], [0, 0, 3], Write, "", "line"),
+    Row {
+        words: &["a"],
+        failing: [0, 2, 0],
+        status: Write,
+        out: "2",
+        err: "",
+    },
+    Row {
+        words: &["b"],
+        failing: [0, 0, 3],
+        status: Write,
+        out: "",
+        err: "line",
+    },
 ];
 
 #[test]
-fn nothing_is_written_behind_a_failed_write(rt: HostRuntime) -> Result<(), AllocError> {
-    expect(&rt, rt.alloc(), FAILED_WRITES)
+fn nothing_is_written_behind_a_failed_write(rt: HostRuntime) {
+    expect(&rt, rt.alloc(), FAILED_WRITES);
 }
 
 const LONG: &[Row] = &[
-    (
-        &["long"],
-        [0, 0, 0],
-        Script,
-        "",
-        "lines: long line 0: TooLong\n",
-    ),
-    (&["most"], [0, 0, 0], Finished, "5000\n", ""),
+    Row {
+        words: &["long"],
+        failing: [0, 0, 0],
+        status: Script,
+        out: "",
+        err: "lines: long line 0: TooLong\n",
+    },
+    Row {
+        words: &["most"],
+        failing: [0, 0, 0],
+        status: Finished,
+        out: "5000\n",
+        err: "",
+    },
 ];
 
 #[test]
-fn a_longer_file_is_refused(rt: HostRuntime) -> Result<(), AllocError> {
-    expect(&rt, rt.alloc(), LONG)
+fn a_longer_file_is_refused(rt: HostRuntime) {
+    expect(&rt, rt.alloc(), LONG);
 }
 
-const COMPLAINTS: &[(Complaint<'static>, Status, &str)] = &[
+/// A complaint, its status, and its line.
+type Told = (Complaint<'static>, Status, &'static str);
+
+const COMPLAINTS: &[Told] = &[
     (
         Complaint::Words {
             fault: "bad number after ",
@@ -198,27 +249,33 @@ const COMPLAINTS: &[(Complaint<'static>, Status, &str)] = &[
     ),
 ];
 
-/// Whether a complaint writes this line.
-fn writes(alloc: Global, complaint: &Complaint, text: &str) -> Result<bool, AllocError> {
-    let mut sink = MemSink::new(alloc, 64, 64)?;
-    let written = complaint.write("rccerun", &mut sink).is_ok();
-    Ok(written && sink.bytes() == text.as_bytes())
+/// Whether a complaint has this status, and writes this line.
+fn is_told_on(sink: &mut MemSink, row: &'static Told) -> bool {
+    let (complaint, status, line) = row;
+    complaint.status() == *status
+        && complaint.write("rccerun", sink).is_ok()
+        && sink.bytes() == line.as_bytes()
 }
 
-fn expect_lines<R: Abort>(
-    rt: &R,
-    alloc: Global,
-    rows: &[(Complaint<'_>, Status, &str)],
-) -> Result<(), AllocError> {
-    for (complaint, status, text) in rows {
-        assert!(rt; writes(alloc, complaint, text)? && complaint.status() == *status);
+fn is_told(alloc: Global, row: &'static Told) -> bool {
+    match MemSink::new(alloc, 64, 64) {
+        Ok(mut sink) => is_told_on(&mut sink, row),
+        Err(_) => false,
     }
-    Ok(())
+}
+
+fn all_are_told(alloc: Global) -> bool {
+    for row in COMPLAINTS {
+        if !is_told(alloc, row) {
+            return false;
+        }
+    }
+    true
 }
 
 #[test]
-fn each_complaint_has_one_line(rt: HostRuntime) -> Result<(), AllocError> {
-    expect_lines(&rt, rt.alloc(), COMPLAINTS)
+fn each_complaint_has_one_line(rt: HostRuntime) {
+    assert!(rt; all_are_told(rt.alloc()));
 }
 
 const COUNTS: &[(&str, Option<u8>)] = &[
@@ -242,20 +299,25 @@ const NUMBERS: &[(&str, u32, u32, Option<u32>)] = &[
     ("1025", 0, 1_024, None),
 ];
 
-fn expect_counts<R: Abort>(rt: &R, rows: &[(&str, Option<u8>)]) {
-    for (word, count) in rows {
-        assert!(rt; ue_count(word) == *count);
+fn are_counts() -> bool {
+    for (word, count) in COUNTS {
+        if ue_count(word) != *count {
+            return false;
+        }
     }
+    true
 }
 
-fn expect_numbers<R: Abort>(rt: &R, rows: &[(&str, u32, u32, Option<u32>)]) {
-    for (word, least, most, number) in rows {
-        assert!(rt; number_in(word.as_bytes(), *least, *most) == *number);
+fn are_numbers() -> bool {
+    for (word, least, most, number) in NUMBERS {
+        if number_in(word.as_bytes(), *least, *most) != *number {
+            return false;
+        }
     }
+    true
 }
 
 #[test]
 fn numbers_have_one_to_ten_digits(rt: HostRuntime) {
-    expect_counts(&rt, COUNTS);
-    expect_numbers(&rt, NUMBERS);
+    assert!(rt; are_counts() && are_numbers());
 }

@@ -4,7 +4,6 @@ use crate::cases::{FOUR_BYTES, Given, Wanted};
 use crate::faults::{Case, expect};
 use crate::programs::{Audit, Collectives, Launcher, MeshLoad, WaitCheck};
 use outcomes::Status;
-use std::alloc::AllocError;
 
 /// Its second message is never received.
 const UNFINISHED: &[u8] = b"ue 0\nbytes x aa\nsend 1 x\nsend 1 x\nue 1\nrecv 0 y 1\n";
@@ -94,15 +93,16 @@ const NO_FILE: &Case = &Case {
     fault: b"",
 };
 
+const RUNS: &[&Case] = &[FOUR_ARRIVE, TWO_WAIT, A_SCRIPT_IS_REFUSED, HOSTS_ARE_READ];
+
 #[test]
-fn each_call_of_rccerun_fails_in_turn(rt: HostRuntime) -> Result<(), AllocError> {
-    let cases = [FOUR_ARRIVE, TWO_WAIT, A_SCRIPT_IS_REFUSED, HOSTS_ARE_READ];
-    expect(&rt, rt.alloc(), &Launcher, &cases)
+fn each_call_of_rccerun_fails_in_turn(rt: HostRuntime) {
+    expect(&rt, rt.alloc(), &Launcher, RUNS);
 }
 
 #[test]
-fn a_script_of_a_number_asks_for_no_file(rt: HostRuntime) -> Result<(), AllocError> {
-    expect(&rt, rt.alloc(), &Launcher, &[NO_FILE])
+fn a_script_of_a_number_asks_for_no_file(rt: HostRuntime) {
+    expect(&rt, rt.alloc(), &Launcher, &[NO_FILE]);
 }
 
 /// A log of no calls is legal.
@@ -156,14 +156,11 @@ const A_RUN_IS_LOGGED: &Case = &Case {
     fault: b"rcceaudit: s: read fault\n",
 };
 
+const LOGS: &[&Case] = &[NO_CALLS, ONE_MESSAGE, A_RUN_IS_LOGGED];
+
 #[test]
-fn each_call_of_rcceaudit_fails_in_turn(rt: HostRuntime) -> Result<(), AllocError> {
-    expect(
-        &rt,
-        rt.alloc(),
-        &Audit,
-        &[NO_CALLS, ONE_MESSAGE, A_RUN_IS_LOGGED],
-    )
+fn each_call_of_rcceaudit_fails_in_turn(rt: HostRuntime) {
+    expect(&rt, rt.alloc(), &Audit, LOGS);
 }
 
 /// Two ranks get a piece of each.
@@ -201,8 +198,8 @@ const NO_LENGTH: &Case = &Case {
 };
 
 #[test]
-fn each_write_of_rccecoll_fails_in_turn(rt: HostRuntime) -> Result<(), AllocError> {
-    expect(&rt, rt.alloc(), &Collectives, &[TWO_RANKS_GET, NO_LENGTH])
+fn each_write_of_rccecoll_fails_in_turn(rt: HostRuntime) {
+    expect(&rt, rt.alloc(), &Collectives, &[TWO_RANKS_GET, NO_LENGTH]);
 }
 
 /// A message goes over one link.
@@ -240,8 +237,8 @@ const NOT_FINISHED: &Case = &Case {
 };
 
 #[test]
-fn each_call_of_rccemesh_fails_in_turn(rt: HostRuntime) -> Result<(), AllocError> {
-    expect(&rt, rt.alloc(), &MeshLoad, &[ONE_LINK, NOT_FINISHED])
+fn each_call_of_rccemesh_fails_in_turn(rt: HostRuntime) {
+    expect(&rt, rt.alloc(), &MeshLoad, &[ONE_LINK, NOT_FINISHED]);
 }
 
 /// One message comes, and another is never received.
@@ -262,6 +259,6 @@ const ONE_WAITS: &Case = &Case {
 };
 
 #[test]
-fn each_call_of_rccecheck_fails_in_turn(rt: HostRuntime) -> Result<(), AllocError> {
-    expect(&rt, rt.alloc(), &WaitCheck, &[ONE_WAITS])
+fn each_call_of_rccecheck_fails_in_turn(rt: HostRuntime) {
+    expect(&rt, rt.alloc(), &WaitCheck, &[ONE_WAITS]);
 }

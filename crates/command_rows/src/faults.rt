@@ -3,7 +3,7 @@
 use crate::cases::{Failing, Given, NOWHERE, Wanted, comes};
 use crate::programs::Program;
 use outcomes::Status;
-use std::alloc::{AllocError, Global};
+use std::alloc::Global;
 use std::process::Abort;
 use std::thread::Threads;
 
@@ -43,7 +43,7 @@ fn expect_read_faults<R: Threads + Sync + Abort, P: Program>(
     alloc: Global,
     program: &P,
     case: &Case,
-) -> Result<(), AllocError> {
+) {
     for read in 1..case.wanted.reads.saturating_add(1) {
         let failing = Failing { read, ..NOWHERE };
         assert!(rt;
@@ -54,10 +54,9 @@ fn expect_read_faults<R: Threads + Sync + Abort, P: Program>(
                 &case.given,
                 failing,
                 &case.read_fault(read)
-            )?
+            )
         );
     }
-    Ok(())
 }
 
 /// Each failing write ends the text of out right there, and nothing is written to err.
@@ -66,7 +65,7 @@ fn expect_out_faults<R: Threads + Sync + Abort, P: Program>(
     alloc: Global,
     program: &P,
     case: &Case,
-) -> Result<(), AllocError> {
+) {
     for taken in 0..case.wanted.out.len() {
         let failing = Failing {
             out: (taken as u64).saturating_add(1),
@@ -78,9 +77,8 @@ fn expect_out_faults<R: Threads + Sync + Abort, P: Program>(
             err: b"",
             ..case.wanted
         };
-        assert!(rt; comes(rt, alloc, program, &case.given, failing, &wanted)?);
+        assert!(rt; comes(rt, alloc, program, &case.given, failing, &wanted));
     }
-    Ok(())
 }
 
 /// Each failing write ends the text of err right there, behind the whole text of out. A call that reads a file fails too, if its
@@ -92,7 +90,7 @@ fn expect_err_faults<R: Threads + Sync + Abort, P: Program>(
     given: &Given,
     read: u64,
     whole: &Wanted,
-) -> Result<(), AllocError> {
+) {
     for taken in 0..whole.err.len() {
         let failing = Failing {
             read,
@@ -104,9 +102,8 @@ fn expect_err_faults<R: Threads + Sync + Abort, P: Program>(
             err: &whole.err[..taken],
             ..*whole
         };
-        assert!(rt; comes(rt, alloc, program, given, failing, &wanted)?);
+        assert!(rt; comes(rt, alloc, program, given, failing, &wanted));
     }
-    Ok(())
 }
 
 /// The same of a case, and of what it tells where its first call that reads a file fails.
@@ -115,11 +112,11 @@ fn expect_untold<R: Threads + Sync + Abort, P: Program>(
     alloc: Global,
     program: &P,
     case: &Case,
-) -> Result<(), AllocError> {
+) {
     if case.wanted.reads > 0 {
-        expect_err_faults(rt, alloc, program, &case.given, 1, &case.read_fault(1))?;
+        expect_err_faults(rt, alloc, program, &case.given, 1, &case.read_fault(1));
     }
-    expect_err_faults(rt, alloc, program, &case.given, 0, &case.wanted)
+    expect_err_faults(rt, alloc, program, &case.given, 0, &case.wanted);
 }
 
 /// Nothing changes where calls past the last of each kind are to fail.
@@ -128,15 +125,14 @@ fn expect_whole<R: Threads + Sync + Abort, P: Program>(
     alloc: Global,
     program: &P,
     case: &Case,
-) -> Result<(), AllocError> {
-    assert!(rt; comes(rt, alloc, program, &case.given, NOWHERE, &case.wanted)?);
+) {
+    assert!(rt; comes(rt, alloc, program, &case.given, NOWHERE, &case.wanted));
     let past = Failing {
         read: case.wanted.reads.saturating_add(1),
         out: (case.wanted.out.len() as u64).saturating_add(1),
         err: (case.wanted.err.len() as u64).saturating_add(1),
     };
-    assert!(rt; comes(rt, alloc, program, &case.given, past, &case.wanted)?);
-    Ok(())
+    assert!(rt; comes(rt, alloc, program, &case.given, past, &case.wanted));
 }
 
 /// Runs each case whole, and then with each of its calls failing in turn.
@@ -145,12 +141,11 @@ pub fn expect<R: Threads + Sync + Abort, P: Program>(
     alloc: Global,
     program: &P,
     cases: &[&Case],
-) -> Result<(), AllocError> {
+) {
     for case in cases {
-        expect_whole(rt, alloc, program, case)?;
-        expect_read_faults(rt, alloc, program, case)?;
-        expect_out_faults(rt, alloc, program, case)?;
-        expect_untold(rt, alloc, program, case)?;
+        expect_whole(rt, alloc, program, case);
+        expect_read_faults(rt, alloc, program, case);
+        expect_out_faults(rt, alloc, program, case);
+        expect_untold(rt, alloc, program, case);
     }
-    Ok(())
 }

@@ -4,7 +4,6 @@ use crate::cases::{Given, Wanted};
 use crate::faults::{Case, expect};
 use crate::programs::Laboratory;
 use outcomes::Status;
-use std::alloc::AllocError;
 
 /// What is told where the lab cannot be read.
 const LAB_FAULT: &[u8] = b"rccelab: s: read fault\n";
@@ -103,8 +102,9 @@ const TWO_NAMES: &Case = &Case {
     fault: b"",
 };
 
+const LABS: &[&Case] = &[AN_OLD_COPY, A_REGISTER, NO_SUCH_CORE, TWO_NAMES];
+
 #[test]
-fn each_call_of_rccelab_fails_in_turn(rt: HostRuntime) -> Result<(), AllocError> {
-    let cases = [AN_OLD_COPY, A_REGISTER, NO_SUCH_CORE, TWO_NAMES];
-    expect(&rt, rt.alloc(), &Laboratory, &cases)
+fn each_call_of_rccelab_fails_in_turn(rt: HostRuntime) {
+    expect(&rt, rt.alloc(), &Laboratory, LABS);
 }

@@ -12,6 +12,8 @@ mod fault_rows;
 #[cfg(test)]
 mod faults;
 #[cfg(test)]
+mod gathered;
+#[cfg(test)]
 mod generated;
 #[cfg(test)]
 mod labs;

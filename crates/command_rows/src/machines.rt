@@ -5,10 +5,20 @@ use scc_base::Rank;
 use script_machine::Machine;
 use script_reader::read_script;
 use script_rules::Scripts;
-use std::alloc::{AllocError, Global};
+use std::alloc::Global;
 
-/// Whether a machine has printed these items.
-fn has_printed(machine: &Machine<'_>, wanted: &[&[u8]]) -> bool {
+/// Takes at most 100 steps of a machine, until it pauses.
+fn go_on(machine: &mut Machine<'_>) {
+    for _ in 0..100 {
+        if machine.is_going() {
+            machine.go();
+        }
+    }
+}
+
+/// Whether a machine goes on so that it has printed these items.
+fn goes_on_to(machine: &mut Machine<'_>, wanted: &[&[u8]]) -> bool {
+    go_on(machine);
     if machine.items() != wanted.len() {
         return false;
     }
@@ -20,26 +30,18 @@ fn has_printed(machine: &Machine<'_>, wanted: &[&[u8]]) -> bool {
     true
 }
 
-/// Takes at most 100 steps of a machine, until it pauses.
-fn go_on(machine: &mut Machine<'_>) {
-    for _ in 0..100 {
-        if machine.is_going() {
-            machine.go();
-        }
-    }
-}
-
 /// Whether the machine of rank 0 goes through a script by itself and prints these items.
-fn prints(alloc: Global, scripts: &Scripts, wanted: &[&[u8]]) -> Result<bool, AllocError> {
-    let mut machine = Machine::new(alloc, scripts, setup_of(scripts), Rank::of(0))?;
-    go_on(&mut machine);
-    Ok(has_printed(&machine, wanted))
+fn prints(alloc: Global, scripts: &Scripts, wanted: &[&[u8]]) -> bool {
+    match Machine::new(alloc, scripts, setup_of(scripts), Rank::of(0)) {
+        Ok(mut machine) => goes_on_to(&mut machine, wanted),
+        Err(_) => false,
+    }
 }
 
 /// Whether it does so with this script for one rank.
 fn text_prints(alloc: Global, text: &[u8], wanted: &[&[u8]]) -> bool {
     match read_script(alloc, text, 1) {
-        Ok(scripts) => matches!(prints(alloc, &scripts, wanted), Ok(true)),
+        Ok(scripts) => prints(alloc, &scripts, wanted),
         Err(_) => false,
     }
 }

@@ -5,8 +5,8 @@ use plain_run::{End, plain_run};
 use scc_base::{Call, Head, Rank};
 use script_machine::UeEnd;
 use script_reader::read_script;
+use script_rules::Scripts;
 use std::alloc::Global;
-use std::test::Fail;
 
 /// How a rank ends, and the items that it has printed.
 type Wanted<'a> = (UeEnd, &'a [&'a [u8]]);
@@ -30,23 +30,33 @@ fn is_at(end: &End, number: usize, wanted: &Wanted<'_>) -> bool {
         return false;
     }
     let rank = Rank::of(number as u8);
-    end.ue(rank) == wanted.0 && has_printed(end, rank, wanted.1)
+    let (ue, items) = wanted;
+    end.ue(rank) == *ue && has_printed(end, rank, items)
 }
 
-/// Whether the plain run of a script for two ranks comes to what is wanted of them.
-fn comes_to(alloc: Global, text: &[u8], wanted: &[Wanted<'_>]) -> bool {
-    let Ok(scripts) = read_script(alloc, text, 2) else {
-        return false;
-    };
-    let Ok(end) = plain_run(alloc, &scripts) else {
-        return false;
-    };
+/// Whether all ranks have.
+fn are_at(end: &End, wanted: &[Wanted<'_>]) -> bool {
     for at in 0..wanted.len() {
-        if !is_at(&end, at, &wanted[at]) {
+        if !is_at(end, at, &wanted[at]) {
             return false;
         }
     }
     end.nue() == wanted.len()
+}
+
+fn script_comes_to(alloc: Global, scripts: &Scripts, wanted: &[Wanted<'_>]) -> bool {
+    match plain_run(alloc, scripts) {
+        Ok(end) => are_at(&end, wanted),
+        Err(_) => false,
+    }
+}
+
+/// Whether the plain run of a script for two ranks comes to what is wanted of them.
+fn comes_to(alloc: Global, text: &[u8], wanted: &[Wanted<'_>]) -> bool {
+    match read_script(alloc, text, 2) {
+        Ok(scripts) => script_comes_to(alloc, &scripts, wanted),
+        Err(_) => false,
+    }
 }
 
 /// Whether the plain run of a script for two ranks ends them so, with nothing printed.
@@ -78,11 +88,15 @@ fn four_bytes_arrive_in_the_plain_run(rt: HostRuntime) {
 const OF_ANOTHER_LENGTH: &[u8] =
     b"ue 0\nbytes x 0001020304050607\nsend 1 x\nue 1\nrecv 0 y 4\nprint y\n";
 
-#[test]
-fn another_length_is_a_mismatch_in_the_plain_run(rt: HostRuntime) -> Result<(), Fail> {
+/// Whether the message is refused, with both lengths.
+fn is_refused(alloc: Global) -> bool {
     let (from, to) = (Rank::of(0), Rank::of(1));
-    let sent = Head::plain(8).ok_or("eight bytes")?;
-    let asked = Head::plain(4).ok_or("four bytes")?;
+    let Some(sent) = Head::plain(8) else {
+        return false;
+    };
+    let Some(asked) = Head::plain(4) else {
+        return false;
+    };
     let call = Call::Send { to, head: sent };
     let refused = UeEnd::Mismatch {
         line: 5,
@@ -91,6 +105,10 @@ fn another_length_is_a_mismatch_in_the_plain_run(rt: HostRuntime) -> Result<(), 
         asked,
     };
     let wanted = [UeEnd::Waits { line: 3, call }, refused];
-    assert!(rt; ends_silently(rt.alloc(), OF_ANOTHER_LENGTH, &wanted));
-    Ok(())
+    ends_silently(alloc, OF_ANOTHER_LENGTH, &wanted)
+}
+
+#[test]
+fn another_length_is_a_mismatch_in_the_plain_run(rt: HostRuntime) {
+    assert!(rt; is_refused(rt.alloc()));
 }

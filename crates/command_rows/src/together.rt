@@ -8,7 +8,7 @@ use rcce_io::{Files, Sink};
 use run_program::rccerun;
 use scc_base::Rank;
 use scc_mesh::Chip;
-use std::alloc::{AllocError, Global};
+use std::alloc::Global;
 use std::sync::atomic::{AtomicU64, Ordering};
 use std::thread::Threads;
 
@@ -104,53 +104,68 @@ impl Program for Passes {
     }
 }
 
-/// Whether four ranks finish, with these words behind their number, and what they print stands on out.
+/// Whether the ranks of a run finish, and what they print stands on out.
 fn finish<R: Threads + Sync>(
     rt: &R,
     alloc: Global,
     gate: &Passes,
-    words: &'static [&'static str],
-    script: &'static [u8],
+    given: &Given,
     out: &[u8],
-) -> Result<bool, AllocError> {
-    let given = Given {
-        words,
-        hosts: b"",
-        script,
-    };
-    let ended = run(rt, alloc, gate, &given, NOWHERE)?;
-    Ok(ended.status == Status::Finished && ended.out.bytes() == out)
+) -> bool {
+    match run(rt, alloc, gate, given, NOWHERE) {
+        Ok(ended) => ended.status == Status::Finished && ended.out.bytes() == out,
+        Err(_) => false,
+    }
 }
 
-const TWO_PAIRS: &[u8] = b"even\nbytes x 01020304\nsend +1 x\nodd\nrecv -1 y 4\nprint y\n";
+const TWO_PAIRS: &Given = &Given {
+    words: &["-nue", "4", "s"],
+    hosts: b"",
+    script: b"even\nbytes x 01020304\nsend +1 x\nodd\nrecv -1 y 4\nprint y\n",
+};
 
 const FOURS: &[u8] = b"ue 1 y 01020304\nue 3 y 01020304\n";
 
-#[test]
-fn four_ranks_wait_for_each_other_at_the_gate(rt: HostRuntime) -> Result<(), AllocError> {
+/// Whether two pairs finish at a gate where all wait for each other.
+fn wait_for_each_other<R: Threads + Sync>(rt: &R, alloc: Global) -> bool {
     let gate = Passes::new(true);
-    let words = &["-nue", "4", "s"];
-    assert!(rt; finish(&rt, rt.alloc(), &gate, words, TWO_PAIRS, FOURS)? && gate.was_held());
-    Ok(())
+    finish(rt, alloc, &gate, TWO_PAIRS, FOURS) && gate.was_held()
+}
+
+#[test]
+fn four_ranks_wait_for_each_other_at_the_gate(rt: HostRuntime) {
+    assert!(rt; wait_for_each_other(&rt, rt.alloc()));
 }
 
 /// It is over in one round.
 const NO_MESSAGES: &[u8] = b"all\nbytes x 07\nprint x\n";
 
+const IN_THREADS: &Given = &Given {
+    words: &["-nue", "4", "s"],
+    hosts: b"",
+    script: NO_MESSAGES,
+};
+
+const ON_ONE_THREAD: &Given = &Given {
+    words: &["-nue", "4", "-serial", "1", "s"],
+    hosts: b"",
+    script: NO_MESSAGES,
+};
+
 const SEVENS: &[u8] = b"ue 0 x 07\nue 1 x 07\nue 2 x 07\nue 3 x 07\n";
 
-#[test]
-fn each_rank_passes_the_gate_once_in_a_round(rt: HostRuntime) -> Result<(), AllocError> {
+/// Whether each rank passes the gate so often, and all finish.
+fn pass<R: Threads + Sync>(rt: &R, alloc: Global, given: &Given, wanted: u64) -> bool {
     let gate = Passes::new(false);
-    let words = &["-nue", "4", "s"];
-    assert!(rt; finish(&rt, rt.alloc(), &gate, words, NO_MESSAGES, SEVENS)? && gate.are_all(1));
-    Ok(())
+    finish(rt, alloc, &gate, given, SEVENS) && gate.are_all(wanted)
 }
 
 #[test]
-fn on_one_thread_no_rank_passes_the_gate(rt: HostRuntime) -> Result<(), AllocError> {
-    let gate = Passes::new(false);
-    let words = &["-nue", "4", "-serial", "1", "s"];
-    assert!(rt; finish(&rt, rt.alloc(), &gate, words, NO_MESSAGES, SEVENS)? && gate.are_all(0));
-    Ok(())
+fn each_rank_passes_the_gate_once_in_a_round(rt: HostRuntime) {
+    assert!(rt; pass(&rt, rt.alloc(), IN_THREADS, 1));
+}
+
+#[test]
+fn on_one_thread_no_rank_passes_the_gate(rt: HostRuntime) {
+    assert!(rt; pass(&rt, rt.alloc(), ON_ONE_THREAD, 0));
 }

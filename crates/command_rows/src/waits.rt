@@ -129,9 +129,16 @@ const ROWS: &[Row] = &[
     },
 ];
 
+fn all_are_so(alloc: Global) -> bool {
+    for row in ROWS {
+        if !row.is_so(alloc) {
+            return false;
+        }
+    }
+    true
+}
+
 #[test]
 fn each_rank_waits_for_a_rank_and_has_a_cause(rt: HostRuntime) {
-    for row in ROWS {
-        assert!(rt; row.is_so(rt.alloc()));
-    }
+    assert!(rt; all_are_so(rt.alloc()));
 }

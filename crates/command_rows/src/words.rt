@@ -1,24 +1,15 @@
 //! What no run of the launcher shows of its words and of the host file: the seeds, the layout, and which cores the hosts are.
 
+use crate::cases::words_of;
 use rcce_words::{HostFault, HostKind, Job, Work, parse_words, read_hosts};
-use std::alloc::{AllocError, Global};
-use std::process::Abort;
+use std::alloc::Global;
 
-/// The words of a line, between its blanks.
-fn words_of(alloc: Global, line: &str) -> Result<Vec<String>, AllocError> {
-    let mut words = Vec::new(alloc);
-    for word in line.split(' ') {
-        if !word.is_empty() {
-            words.push(String::from_str(alloc, word)?)?;
-        }
-    }
-    Ok(words)
-}
+/// Words, and what they ask for.
+type Asked = (&'static [&'static str], Job);
 
-/// Lines of words, and what they ask for.
-const JOBS: &[(&str, Job)] = &[
+const JOBS: &[Asked] = &[
     (
-        "-nue 2 s.rcce",
+        &["-nue", "2", "s.rcce"],
         Job {
             nue: 2,
             hosts: None,
@@ -29,7 +20,18 @@ const JOBS: &[(&str, Job)] = &[
         },
     ),
     (
-        "-bits -nue 2 -f -gen -evict 4294967295 -serial 00 s",
+        &[
+            "-bits",
+            "-nue",
+            "2",
+            "-f",
+            "-gen",
+            "-evict",
+            "4294967295",
+            "-serial",
+            "00",
+            "s",
+        ],
         Job {
             nue: 2,
             hosts: Some(4),
@@ -41,17 +43,27 @@ const JOBS: &[(&str, Job)] = &[
     ),
 ];
 
-fn expect_jobs<R: Abort>(rt: &R, alloc: Global, rows: &[(&str, Job)]) -> Result<(), AllocError> {
-    for (line, job) in rows {
-        let words = words_of(alloc, line)?;
-        assert!(rt; parse_words(words.as_slice()) == Ok(*job));
+/// Whether words ask for this.
+fn ask_for(alloc: Global, row: &'static Asked) -> bool {
+    let (texts, job) = row;
+    match words_of(alloc, texts) {
+        Ok(words) => parse_words(words.as_slice()) == Ok(*job),
+        Err(_) => false,
     }
-    Ok(())
+}
+
+fn all_ask(alloc: Global) -> bool {
+    for row in JOBS {
+        if !ask_for(alloc, row) {
+            return false;
+        }
+    }
+    true
 }
 
 #[test]
-fn what_the_words_ask_for(rt: HostRuntime) -> Result<(), AllocError> {
-    expect_jobs(&rt, rt.alloc(), JOBS)
+fn what_the_words_ask_for(rt: HostRuntime) {
+    assert!(rt; all_ask(rt.alloc()));
 }
 
 /// Host files for two ranks, and their cores.
@@ -76,21 +88,18 @@ fn are_hosts(bytes: &[u8], first: u8, second: u8) -> bool {
     }
 }
 
-fn expect_hosts<R: Abort>(rt: &R, rows: &[(&[u8], u8, u8)]) {
-    for (bytes, first, second) in rows {
-        assert!(rt; are_hosts(bytes, *first, *second));
+fn all_are_hosts() -> bool {
+    for (bytes, first, second) in HOSTS {
+        if !are_hosts(bytes, *first, *second) {
+            return false;
+        }
     }
+    true
 }
 
 #[test]
 fn host_files(rt: HostRuntime) {
-    expect_hosts(&rt, HOSTS);
-}
-
-/// The fault of a host file for one rank that is one byte over and over.
-fn fault_of(alloc: Global, byte: u8, len: usize) -> Result<Option<HostFault>, AllocError> {
-    let bytes = vec![in alloc; byte; len]?;
-    Ok(read_hosts(&bytes, 1).err())
+    assert!(rt; all_are_hosts());
 }
 
 const TOO_FEW: HostFault = HostFault {
@@ -103,14 +112,21 @@ const TOO_LONG: HostFault = HostFault {
     kind: HostKind::TooLong,
 };
 
-fn expect_faults<R: Abort>(rt: &R, alloc: Global) -> Result<(), AllocError> {
-    assert!(rt; fault_of(alloc, b'\n', 65_536)? == Some(TOO_FEW));
-    assert!(rt; fault_of(alloc, b'\xff', 65_537)? == Some(TOO_LONG));
-    assert!(rt; TOO_LONG.kind.name() == "TooLong");
-    Ok(())
+/// Whether a host file for one rank that is one byte over and over has this fault.
+fn is_fault(alloc: Global, byte: u8, len: usize, wanted: &HostFault) -> bool {
+    match vec![in alloc; byte; len] {
+        Ok(bytes) => read_hosts(&bytes, 1).err() == Some(*wanted),
+        Err(_) => false,
+    }
+}
+
+fn are_faults(alloc: Global) -> bool {
+    is_fault(alloc, b'\n', 65_536, &TOO_FEW)
+        && is_fault(alloc, b'\xff', 65_537, &TOO_LONG)
+        && TOO_LONG.kind.name() == "TooLong"
 }
 
 #[test]
-fn the_longest_host_file(rt: HostRuntime) -> Result<(), AllocError> {
-    expect_faults(&rt, rt.alloc())
+fn the_longest_host_file(rt: HostRuntime) {
+    assert!(rt; are_faults(rt.alloc()));
 }
