@@ -1,9 +1,12 @@
-# Completion in bash of the command rcce and of the programs. Sourced, or found in share/bash-completion/completions.
+# Completion in bash of the commands. Sourced, or found in share/bash-completion/completions.
 
+# _rcce_files WORD [ENDING]: files, or folders and files that end so
 _rcce_files() {
-  local IFS=$'\n'
+  local IFS=$'\n' only=()
   compopt -o filenames 2>/dev/null
-  COMPREPLY+=($(compgen -f -- "$1"))
+  [ -z "${2-}" ] || only=(-X "!*$2")
+  COMPREPLY+=($(compgen -f ${only[@]+"${only[@]}"} -- "$1"))
+  [ -z "${2-}" ] || COMPREPLY+=($(compgen -d -- "$1"))
 }
 
 _rcce_words() { COMPREPLY+=($(compgen -W "$1" -- "$2")); }
@@ -36,13 +39,16 @@ _rcce() {
     at=2
   fi
   case $program:$command in
-    rccerun:) options='-nue -f -evict -serial -bits -gen' ;;
-    rccecheck:) options='-nue' ;;
-    rccemesh:) options='-nue -at' ;;
-    rcceaudit:) options='-log -nue' ;;
-    rccelab:) options= ;;
-    rccetrace:) options='-calls -nue -f -evict -serial -bits -gen' ;;
+    rccerun:) options='-nue -f -evict -serial -bits -gen --help --version' ;;
+    rccecheck:) options='-nue --help --version' ;;
+    rccemesh:) options='-nue -at --help --version' ;;
+    rcceaudit:) options='-log -nue --help --version' ;;
+    rccelab:) options='--help --version' ;;
+    rcce-trace:) options='--help --version -o --calls' ;;
+    rcce-page:) options='--help --version -o' ;;
+    rccetrace:) options='-calls -nue -f -evict -serial -bits -gen --help --version' ;;
     rccecoll:)
+      [ "$COMP_CWORD" -ne 1 ] || _rcce_words '--help --version' "$word"
       [ "$COMP_CWORD" -ne 2 ] || _rcce_words 'gather scatter allgather alltoall' "$word"
       return
       ;;
@@ -59,7 +65,9 @@ _rcce() {
       if [ "$command" = draw ] && [ "$COMP_CWORD" -eq "$at" ]; then
         _rcce_words 'waits messages mesh' "$word"
       elif [ "$command" = explain ]; then
-        _rcce_words "$(rcce explain --json 2>/dev/null | grep -o '"kind": *"[A-Za-z]*"' | sed 's/.*: *"//; s/"//')" "$word"
+        _rcce_words "$("${COMP_WORDS[0]/#\~/$HOME}" explain --json 2>/dev/null | grep -o '"kind": *"[A-Za-z]*"' | sed 's/.*: *"//; s/"//')" "$word"
+      elif [ "$program" = rccelab ]; then
+        _rcce_files "$word" .lab
       else
         _rcce_files "$word"
       fi
@@ -67,4 +75,4 @@ _rcce() {
   esac
 }
 
-complete -F _rcce rcce rccerun rccecheck rccemesh rcceaudit rccecoll rccelab rccetrace
+complete -F _rcce rcce rcce-trace rcce-page rccerun rccecheck rccemesh rcceaudit rccecoll rccelab rccetrace

@@ -1,4 +1,4 @@
-"""rcce draw: who waits for whom, the messages of a run, and the load of the mesh, as SVG, as text and (waits) as DOT."""
+"""rcce draw: who waits for whom, and the load of the mesh, as SVG, as text and (waits) as DOT."""
 from __future__ import annotations
 
 import math
@@ -6,13 +6,10 @@ import os
 from typing import Any
 
 from rcce_lib import mesh
-from rcce_lib.joined import Told
+from rcce_lib.picture import Picture, base
 from rcce_lib.shown import Paint, counted
-from rcce_lib.stops import Failure
 from rcce_lib.svg import Svg
 
-# how many messages a picture has at most: more can't be read
-MOST = 200
 NO_PAINT = Paint(open(os.devnull, "w", encoding="ascii"))
 
 
@@ -23,35 +20,19 @@ def form_of(file: str | None, terminal: bool) -> str:
     return "text" if terminal else "svg"
 
 
-class Picture:
-    """A picture in its forms."""
-
-    status = 0
-
-    def svg(self) -> str:
-        """The picture for a browser."""
-        raise NotImplementedError
-
-    def text(self) -> str:
-        """The picture for a terminal."""
-        raise NotImplementedError
-
-    def dot(self) -> str:
-        """The picture for Graphviz."""
-        raise Failure("this picture has no form for Graphviz")
-
-
 class Waits(Picture):
     """Who waits for whom: an arrow goes from a rank to the one that it waits for."""
 
     def __init__(self, found: dict[str, Any]) -> None:
         self.found = found
         self.status = found["status"]
-        self.title = f"{found['script']}: {found['verdict']}"
+        self.title = f"{base(found['script'])}: {found['verdict']}"
         self.waiting = {rank["ue"]: rank for cause in found["causes"] for rank in cause["waiting"]}
         self.ring = {rank for cause in found["causes"] for rank in cause["ring"]}
         ranks = [rank for cause in found["causes"] for rank in [*(it["ue"] for it in cause["waiting"]), cause["root"]]]
         self.ranks = list(dict.fromkeys(ranks))
+        # where all finish, each rank has a box of its own
+        self.ranks = self.ranks or list(range(found["ues"]))
         self.arrows = [(ue, rank["waits_for"]) for ue, rank in self.waiting.items() if rank["waits_for"] is not None]
 
     def label(self, rank: int) -> str:
@@ -65,7 +46,9 @@ class Waits(Picture):
         return 4.5 * len(self.label(rank)) + 8
 
     def lines(self) -> list[str]:
-        """A line for each rank that has not finished."""
+        """A line for each rank that has not finished, or that all have."""
+        if not self.waiting:
+            return [f"all UEs finish: {counted(self.found['messages'], 'message')} came, and nobody waits"]
         return [f"ue {ue}, line {rank['line']}: {rank['statement']}" for ue, rank in self.waiting.items()]
 
     def svg(self) -> str:
@@ -128,52 +111,6 @@ def _bow(picture: Svg, start: tuple[float, float], end: tuple[float, float], hal
     picture.curve(start, by, tip, wide)
 
 
-class Messages(Picture):
-    """The messages that came, in the order in which rccecheck tells them: a line down for each UE, an arrow for each message."""
-
-    def __init__(self, told: Told) -> None:
-        self.told = told
-        self.status = told.status
-        self.shown = told.messages[:MOST]
-        self.title = f"{told.script.name}: {counted(len(told.messages), 'message')} of {counted(told.ues, 'UE')}"
-        if len(self.shown) < len(told.messages):
-            self.title += f", the first {MOST}"
-        if told.troubles:
-            self.title += f"; {len(told.troubles)} of the UEs do not finish"
-
-    def svg(self) -> str:
-        """The picture for a browser."""
-        apart = 90 if self.told.ues <= 16 else 44
-        wide = max(140 + apart * self.told.ues, 30 + 8.5 * len(self.title))
-        picture = Svg(wide, 106 + 30 * len(self.shown), self.title)
-        picture.text(12, 24, self.title, 14, bold=True)
-        foot = 76 + 30 * len(self.shown)
-        for rank in range(self.told.ues):
-            x = 110 + apart * rank
-            for y in (54, foot + 18):
-                picture.text(x, y, f"ue {rank}", at="middle", bold=True)
-            picture.line((x, 60), (x, foot), 1, dashed=True)
-        for number, it in enumerate(self.shown):
-            y = 88 + 30 * number
-            start, end = 110 + apart * it.sender, 110 + apart * it.receiver
-            picture.text(8, y + 4, f"{it.sent_at} > {it.taken_at}", 11)
-            picture.line((start, y), (end, y), 1.2, arrow=True)
-            picture.text((start + end) / 2, y - 5, f"{it.head}", 11, "middle", ground=True)
-        return str(picture)
-
-    def text(self) -> str:
-        """The picture for a terminal."""
-        lines = [self.title, "", " " * 14 + "".join(f"{rank:4}" for rank in range(self.told.ues)) + "  ue"]
-        for it in self.shown:
-            row = list("   |" * self.told.ues)
-            left, right = sorted((4 * it.sender + 3, 4 * it.receiver + 3))
-            row[left : right + 1] = "-" * (right - left + 1)
-            row[4 * it.sender + 3] = "o"
-            row[4 * it.receiver + 3] = ">" if it.sender < it.receiver else "<"
-            lines.append(f"{f'{it.sent_at} > {it.taken_at}':>14}{''.join(row)}  {it.head}")
-        return "\n".join(lines) + "\n"
-
-
 class Mesh(Picture):
     """The load of the mesh: the tiles with their ranks, and the links that carry lines, the wider the more."""
 
@@ -181,7 +118,12 @@ class Mesh(Picture):
         self.found = found
         self.status = found["status"]
         heaviest = f", at most {found['heaviest']['lines']:,} on one" if found["heaviest"] else ""
-        self.title = f"{found['script']}: {counted(found['total'], 'line')} on {counted(len(found['links']), 'link')}{heaviest}"
+        self.title = f"{base(found['script'])}: {counted(found['total'], 'line')} on {counted(len(found['links']), 'link')}{heaviest}"
+
+    def stayed(self) -> str:
+        """How many messages no link carries."""
+        number = self.found["inside_a_tile"]
+        return f"{counted(number, 'message')} stayed in {'its tile' if number == 1 else 'their tiles'}"
 
     @staticmethod
     def middle(place: tuple[int, int]) -> tuple[float, float]:
@@ -190,7 +132,7 @@ class Mesh(Picture):
 
     def svg(self) -> str:
         """The picture for a browser."""
-        picture = Svg(max(940, 30 + 8.5 * len(self.title)), 540, self.title)
+        picture = Svg(max(940, 30 + 8.5 * len(self.title)), 558, self.title)
         picture.text(12, 26, self.title, 14, bold=True)
         most = max([it["lines"] for it in self.found["links"]], default=1)
         on = mesh.ranks_on(self.found)
@@ -205,7 +147,8 @@ class Mesh(Picture):
         for it in self.found["links"]:
             self._link(picture, it, most)
         note = "Ranks in bold on their tiles (column,row); lines of 32 bytes on each link, the wider the more; the heaviest in bold."
-        picture.text(12, 524, note, 12)
+        for number, line in enumerate([note, self.stayed()]):
+            picture.text(12, 524 + 18 * number, line, 12)
         return str(picture)
 
     def _link(self, picture: Svg, it: dict[str, Any], most: int) -> None:
@@ -226,4 +169,4 @@ class Mesh(Picture):
 
     def text(self) -> str:
         """The picture for a terminal."""
-        return mesh.text_of(self.found, NO_PAINT) + "\n"
+        return mesh.text_of({**self.found, "script": base(self.found["script"])}, NO_PAINT) + f"\n  {self.stayed()}\n"

@@ -9,9 +9,10 @@ import threading
 from dataclasses import dataclass, field
 from typing import IO, Any
 
-from rcce_lib.kinds import NO_LOG, SCRIPT, wanted
+from rcce_lib.faults import MOST_BYTES, Source, fault_of
+from rcce_lib.kinds import NO_LOG, SCRIPT
 from rcce_lib.progress import Progress
-from rcce_lib.stops import Failure, Fault, Refused, Stop
+from rcce_lib.stops import Failure, Refused, Stop
 from rcce_lib.texts import strange
 
 HERE = os.path.dirname(os.path.dirname(os.path.realpath(__file__)))
@@ -75,26 +76,29 @@ class Programs:
             raise Failure(f"{path} does not start: {error.strerror}") from error
         self.progress.doing = f"reading what {program} says"
         if status not in ANSWERS:
-            raise self._stop(program, status, lines)
+            raise self._stop(program, words, status, lines)
         # rccerun alone tells more of a run there
         told = ["rccemesh: not finished"] if (program, status) == ("rccemesh", 3) else []
         if program != "rccerun" and lines != told:
             raise strange(program, " ".join(lines))
         return Ran(program, out, lines, status)
 
-    def _stop(self, program: str, status: int, lines: list[str]) -> Stop:
+    def _stop(self, program: str, words: tuple[str, ...], status: int, lines: list[str]) -> Stop:
         """What a status that is no answer comes to."""
         last = lines[-1] if lines else ""
         told = last.startswith(f"{program}: ")
         said = last.removeprefix(f"{program}: ")
         if status == 2 and told and (found := re.fullmatch(r"(.*) line (\d+): (\w+)", said)):
             name, source = self.files.get(found[1], (found[1], SCRIPT))
+            with open(found[1], "rb") as file:
+                it = Source(name, source, file.read(), int(words[words.index("-nue") + 1]) if "-nue" in words else 0)
             # a script that is too long for a log is refused at its line 0, as one that is too long for a file
-            what = NO_LOG if (program, source, found[2]) == ("rcceaudit", SCRIPT, "0") else wanted(found[3], source)
-            return Refused(Fault(name, int(found[2]), found[3], what))
+            no_log = (program, source, found[2]) == ("rcceaudit", SCRIPT, "0") and len(it.data) <= MOST_BYTES[SCRIPT]
+            return Refused(fault_of(it, int(found[2]), found[3], NO_LOG if no_log else None))
         if status == 5 and told and (found := re.fullmatch(r"(.*): (absent|read fault)", said)):
             return Stop(f"{self.name(found[1])}: {found[2]}", 5)
-        if status in (1, 4) and told:
+        # (127: there is no build of it, and nothing to make one with)
+        if status in (1, 4, 127) and told:
             return Stop(last, status)
         if status == 6:
             return Stop(f"{program}: a write failed", 6)

@@ -1,4 +1,4 @@
-"""The kinds of faults of each source with their rules, in the order of the tables of docs/, and the limits: made by scripts/kinds."""
+"""The kinds of faults of each source with their rules and the forms, in the order of the tables of docs/, and the limits: made by scripts/kinds."""
 from __future__ import annotations
 
 RULES: dict[str, list[tuple[str, str]]] = {
@@ -33,7 +33,7 @@ RULES: dict[str, list[tuple[str, str]]] = {
     "lab": [
         ("TooLong", "the file has more than 1,048,576 bytes; said of line 0"),
         ("NotText", "a byte outside a comment is no blank and no printable character"),
-        ("BadCore", "the line does not begin with core C"),
+        ("BadCore", "the line does not begin with core C, and is no first line rcce lab 1"),
         ("BadStep", "what follows core C is none of the forms of a step"),
     ],
     "trace": [
@@ -41,6 +41,52 @@ RULES: dict[str, list[tuple[str, str]]] = {
         ("BadHead", "line 1 is not of its form"),
         ("BadComm", "a line that begins with comm is no split of its form, or stands out of its place"),
         ("BadEvent", "the line is none of an event, lacks its line feed, or has more than 255 bytes"),
+    ],
+}
+FORMS: dict[str, list[str]] = {
+    "script": [
+        "all",
+        "even",
+        "odd",
+        "ue A",
+        "ue A-B",
+        "bytes NAME HEX",
+        "ints NAME V ..",
+        "longs NAME V ..",
+        "fill NAME LEN START",
+        "rank NAME TYPE",
+        "apply OP TYPE DST SRC",
+        "print NAME",
+        "print TYPE NAME",
+        "send PEER NAME",
+        "recv PEER NAME LEN",
+        "post PEER NAME",
+        "split COMM mod K",
+        "split COMM div K",
+        "split COMM of PARENT mod K",
+        "split COMM of PARENT div K",
+        "barrier",
+        "barrier COMM",
+        "bcast COMM ROOT NAME LEN",
+        "reduce COMM ROOT OP TYPE DST SRC",
+        "allreduce COMM OP TYPE DST SRC",
+        "repeat N",
+        "end",
+        "rcce 1",
+        "rcce 2",
+    ],
+    "lab": [
+        "core C write WORD HEX",
+        "core C write LINE HEX4",
+        "core C read WORD",
+        "core C read LINE",
+        "core C flush",
+        "core C invalidate",
+        "core C put LINE HEX4",
+        "core C get LINE",
+        "core C take K",
+        "core C free K",
+        "core C print",
     ],
 }
 LIMITS: dict[str, int] = {

@@ -47,6 +47,15 @@ class Svg:
         size = f"x='{short(x)}' y='{short(y)}' width='{short(width)}' height='{short(height)}'"
         self.parts.append(f"<rect {size}{bent} fill='white' stroke='black' stroke-width='{short(wide)}'{dash}/>")
 
+    def dot(self, x: float, y: float, size: float = 3) -> None:
+        """A black dot."""
+        self.parts.append(f"<circle cx='{short(x)}' cy='{short(y)}' r='{short(size)}' fill='black'/>")
+
+    def cross(self, x: float, y: float, size: float = 5) -> None:
+        """A cross."""
+        for way in (1, -1):
+            self.line((x - size, y - way * size), (x + size, y + way * size), 2)
+
     def text(self, x: float, y: float, text: str, size: int = 13, at: str = "start", bold: bool = False, ground: bool = False) -> None:
         """A text, with a white ground where it stands over lines."""
         weight = " font-weight='bold'" if bold else ""

@@ -5,7 +5,7 @@ import argparse
 import os
 import sys
 import traceback
-from typing import Callable, NoReturn
+from typing import Any, Callable, NoReturn, Sequence
 
 from rcce_lib.inputs import Given, Scratch, read
 from rcce_lib.progress import Progress
@@ -14,10 +14,10 @@ from rcce_lib.shown import Paint, say, say_object
 from rcce_lib.stops import OWN_FAILURE, Refused, Stop
 
 EPILOG = """FILE - is standard input. Where -nue is left out, the number of UEs is the one that the first line of the script
-names, as those of examples/ do: # rccerun -nue 2 hello.rcce. A fault is told as FILE:LINE: KIND: what is wanted, and rcce
+names, as those of examples/ do: # rccerun -nue 2 hello.rcce. A fault is told as FILE:LINE: KIND: what is wrong, and rcce
 explain KIND has an example. Status: 0 all is well; 1 wrong words of a program, or rcce grade finds a difference; 2 a file is
 refused, or wrong words of rcce; 3 a UE does not finish, or a log is not legal; 4 no memory; 5 a file is absent or can't be
-read; 6 a write failed; 70 rcce itself failed."""
+read; 6 a write failed; 70 rcce itself failed; 127 python3, or rt where a program is not built, is missing."""
 
 
 def number(least: int, most: int) -> Callable[[str], int]:
@@ -32,8 +32,31 @@ def number(least: int, most: int) -> Callable[[str], int]:
     return read_number
 
 
+# what other launchers call the number of UEs
+COUNTS = ("n", "np", "nue", "nues", "nprocs", "ntasks", "procs", "ranks", "ues")
+
+
 class Parser(argparse.ArgumentParser):
-    """A parser that tells wrong words in one line."""
+    """A parser that tells wrong words in one line: which option it does not know, and which is given twice."""
+
+    def parse_known_args(self, args: Sequence[str] | None = None, namespace: Any = None) -> Any:
+        """Looks at the options first: argparse would take the value of one that it does not know for a file, and the last of two."""
+        words, at, seen = list(sys.argv[1:] if args is None else args), 0, set()
+        known = {} if self._subparsers else self._option_string_actions
+        if self._subparsers and words and words[0].startswith("-") and words[0] not in self._option_string_actions:
+            self.error(f"unknown word: {words[0]}: a command comes first")
+        while known and at < len(words) and words[at] != "--":
+            name, equals, _ = words[at].partition("=")
+            at += 1
+            if name.startswith("-") and name != "-":
+                if name not in known:
+                    counts = name.strip("-").lower() in COUNTS and "-nue" in known
+                    self.error(f"unknown word: {name}" + (": the number of UEs is -nue N" if counts else ""))
+                if name in seen:
+                    self.error(f"given twice: {name}")
+                seen.add(name)
+                at += known[name].nargs is None and not equals
+        return super().parse_known_args(args, namespace)  # type: ignore[call-overload]
 
     def error(self, message: str) -> NoReturn:
         """Ends with the status of wrong words."""
@@ -79,7 +102,7 @@ def do_run(work: Work) -> int:
     if asked.gen is not None:
         if asked.script or asked.f or asked.bits or asked.evict is not None or asked.serial is not None:
             work.parser.error("-gen takes no script and no option but -nue")
-        ues, words, name = asked.nue or work.parser.error("-nue N is missing"), ["-gen", str(asked.gen)], None
+        script, ues, words, name = None, asked.nue or work.parser.error("-nue N is missing"), ["-gen", str(asked.gen)], None
     else:
         if not asked.script:
             work.parser.error("a script is missing")
@@ -88,7 +111,7 @@ def do_run(work: Work) -> int:
     words = ["-nue", str(ues), *words]
     if asked.json:
         return work.answer(running.run_object(work.programs, words, name, ues), lambda found, paint: "")
-    return running.run(work.programs, words)
+    return running.run(work.programs, words, script)
 
 
 def _run_words(work: Work, script: Given) -> list[str]:
@@ -142,14 +165,14 @@ def mesh_load(work: Work) -> dict[str, object]:
 
 def do_draw(work: Work) -> int:
     """Draws a picture."""
-    from rcce_lib import drawing, joined, why
+    from rcce_lib import drawing, joined, sequence, why
 
     asked = work.words
     if asked.picture == "mesh":
         picture = drawing.Mesh(mesh_load(work))
     else:
         told = joined.ask(work.programs, *work.script())
-        picture = drawing.Waits(why.explain(told)) if asked.picture == "waits" else drawing.Messages(told)
+        picture = drawing.Waits(why.explain(told)) if asked.picture == "waits" else sequence.Messages(told)
     form = asked.form or drawing.form_of(asked.o, sys.stdout.isatty())
     if form == "dot" and asked.picture != "waits":
         work.parser.error("dot is a form of waits alone")
@@ -287,12 +310,7 @@ def add_run(sub: argparse.ArgumentParser) -> None:
 
 def main(argv: list[str]) -> int:
     """Does what the words ask, and gives the status."""
-    parser = build_parser()
-    for word in argv:
-        # argparse would read it as -f with a file's name
-        if word.startswith("-f") and word != "-f":
-            parser.error(f"unrecognized arguments: {word}")
-    words = parser.parse_args(argv)
+    words = build_parser().parse_args(argv)
     scratch = Scratch()
     try:
         with Progress(words.quiet) as progress:
@@ -321,9 +339,9 @@ def stopped(stop: Stop, words: argparse.Namespace) -> int:
     if words.json:
         found: dict[str, object] = {"status": stop.status, "error": stop.line}
         if isinstance(stop, Refused):
-            found["fault"] = vars(stop.fault)
+            found["fault"] = stop.fault.as_object()
         say_object(found)
-    print(Paint(sys.stderr)("bad", stop.line), file=sys.stderr)
+    print("\n".join([Paint(sys.stderr)("bad", stop.line), *stop.below]), file=sys.stderr)
     return stop.status
 
 

@@ -1,4 +1,5 @@
-"""Checks the help of each command beside the product, and how trace and page end: a full device, a reader that goes away, no program there."""
+"""Checks the help of each command beside the product, and how trace and page end: a full device, a reader that goes away, no program there;
+and what is said without python3, and without a build and a toolchain."""
 from __future__ import annotations
 
 import os
@@ -10,6 +11,7 @@ from typing import Any
 TOP = pathlib.Path(__file__).resolve().parents[2]
 # what is called by others alone, or has no words but those of the gate
 NO_WORDS = ("scripts/run_program", "scripts/installed_command", ".ci/run")
+NO_TOOLCHAIN = "rcceaudit: the command rt of the Rattle toolchain is not on the PATH, and nothing is built of these sources yet"
 TRACE = "rcce trace 1 nue 1 layout words hosts 0\n" + "0 load 0.225.0 0000000000000000\n" * 2000
 
 
@@ -36,8 +38,17 @@ def check_commands(called: Any, write: bool) -> tuple[int, list[str]]:
             wrong += [] if made.returncode == 0 and not made.stdout and same else [f"{name} -o"]
         gone: subprocess.CompletedProcess[bytes] = called(["trace", "a.log"], folder, env={**os.environ, "RCCE_PROGRAMS": f"{folder}/none"})
         wrong += [] if gone.returncode == 70 and gone.stderr.startswith(b"rcce: the program rcceaudit is not in ") else [f"no rcceaudit: {gone}"]
+        pathlib.Path(folder, "rcceaudit").write_text(f"#!/bin/sh\necho '{NO_TOOLCHAIN}' >&2\nexit 127\n", encoding="ascii")
+        os.chmod(f"{folder}/rcceaudit", 0o755)
+        for words in (["trace", "a.log"], ["audit", "a.log"]):
+            ran = called(words, folder, env={**os.environ, "RCCE_PROGRAMS": folder})
+            wrong += [] if (ran.returncode, ran.stderr.decode()) == (127, f"{NO_TOOLCHAIN}\n") else [f"{words} without a build and a toolchain: {ran}"]
+        for name in ("rcce", "trace", "page"):
+            ran = called([name, "--version"], folder, env={"PATH": folder})
+            said = f"{name}: it needs the command python3, which is not on the PATH\n".encode()
+            wrong += [] if (ran.returncode, ran.stderr) == (127, said) else [f"{name} without python3: {ran}"]
     helped, unhelped = check_help()
-    return 11 + helped, wrong + unhelped
+    return 16 + helped, wrong + unhelped
 
 
 def check_help() -> tuple[int, list[str]]:

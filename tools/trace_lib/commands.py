@@ -20,9 +20,9 @@ from trace_lib import pages, viewers
 from trace_lib.labs import Lab
 from trace_lib.texts import read_trace
 
-ENDS = """FILE - is standard input. A fault is told as FILE:LINE: KIND: what is wanted. Status: 0 all is well; 2 the file is refused, or
+ENDS = """FILE - is standard input. A fault is told as FILE:LINE: KIND: what is wrong. Status: 0 all is well; 2 the file is refused, or
 wrong words; 3 a log is not legal; 5 the file is absent or can't be read; 6 a write failed; 70 the command itself failed, or a program
-that it asks is not there; 130 it was interrupted."""
+that it asks is not there; 127 python3, or rt where a program is not built, is missing; 130 it was interrupted."""
 TRACE = """Writes a trace of accesses (docs/TRACE.md), or a log of calls (docs/LOGS.md), as the JSON of trace events that chrome://tracing and
 ui.perfetto.dev open: a track a rank, a span a call from its first event to its last, an arrow from each chunk's raise to its take, and
 in the spans of a trace its events. The time is a count, one microsecond each, and no measured time: in a trace the number of the event,
@@ -95,7 +95,7 @@ def _command(words: argparse.Namespace, text_of: Callable[[argparse.Namespace, G
         return 0
     except Stop as stop:
         if stop.line:
-            print(stop.line, file=sys.stderr)
+            print("\n".join([stop.line, *stop.below]), file=sys.stderr)
         return stop.status
     except KeyboardInterrupt:
         return 130

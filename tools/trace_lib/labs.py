@@ -5,35 +5,66 @@ from __future__ import annotations
 
 import re
 from dataclasses import dataclass, field
+from typing import NamedTuple
 
 from rcce_lib.stops import Fault, Refused
 
 FIRST_HEAP, CACHE_LINES = 225, 512
 WANTED = "what rccelab prints of a lab: line N: STEP, and below it the accesses and answers of the step"
-STEP = re.compile(r"line (\d+): (.*)", re.S)
-LOAD_STORE = re.compile(r"(\d+) (load|store) (\d+)\.(\d+)\.([0-3]) ([0-9a-f]{16}) # heap")
-REGISTER = re.compile(r"(\d+) (take|free) (\d+)\.register 0{15}([01]) # register")
-ANSWER = re.compile(r"answer (?:(took|taken)|(\d+):(\d+)\.([0-3]) ([0-9a-f]{16}) from (cache|buffer line|words))")
-EVICTED = re.compile(r"evicted (\d+):(\d+)")
-HOLDS = re.compile(r"core (\d+) (caches|buffers) (?:(nothing)|(\d+):(\d+)((?: (?:[0-9a-f]{16}|-)){4}))")
+STEP = re.compile(r"line (\d+): (.*)", re.A | re.S)
+LOAD_STORE = re.compile(r"(\d+) (load|store) (\d+)\.(\d+)\.([0-3]) ([0-9a-f]{16}) # heap", re.A)
+REGISTER = re.compile(r"(\d+) (take|free) (\d+)\.register 0{15}([01]) # register", re.A)
+ANSWER = re.compile(r"answer (?:(took|taken)|(\d+):(\d+)\.([0-3]) ([0-9a-f]{16}) from (cache|buffer line|words))", re.A)
+EVICTED = re.compile(r"evicted (\d+):(\d+)", re.A)
+HOLDS = re.compile(r"core (\d+) (caches|buffers) (?:(nothing)|(\d+):(\d+)((?: (?:[0-9a-f]{16}|-)){4}))", re.A)
 STOP = re.compile(r"line (\d+): (?:\d+:\d+\.[0-3] is [0-9a-f]{16}, expected [0-9a-f]{16}|answer (?:took|taken), expected (?:took|taken)"
-                  r"|core \d+ (?:holds|does not hold) register \d+)")
+                  r"|core \d+ (?:holds|does not hold) register \d+)", re.A)
 VERBS = ("write", "read", "flush", "invalidate", "put", "get", "take", "free", "print")
 # a line of a buffer, by its core and its number on the heap
 Line = tuple[int, int]
+# the line in a write-combining buffer, with the words that were written
+Buffer = tuple[Line, list["int | None"]]
+
+
+class Fill(NamedTuple):
+    """A change of a cache: a line is brought in, behind the others."""
+
+    line: Line
+    words: list[int]
+
+
+class Write(NamedTuple):
+    """A change of a cache: a word of a line that is there."""
+
+    line: Line
+    word: int
+    value: int
+
+
+class Drop(NamedTuple):
+    """A change of a cache: a line leaves, or all of them."""
+
+    line: Line | None
 
 
 @dataclass
 class Core:
-    """What a core holds: its cached lines in the order in which they were brought in, and the line in its write-combining buffer."""
+    """What a core holds: its cached lines in the order in which they were brought in, and the line in its write-combining buffer. `changes` has what
+    became of the cache since it was taken last."""
 
     cache: dict[Line, list[int]] = field(default_factory=dict)
-    buffer: tuple[Line, list[int | None]] | None = None
+    buffer: Buffer | None = None
+    changes: list[Fill | Write | Drop] = field(default_factory=list)
+
+    def copy(self, line: Line, word: int, value: int) -> None:
+        """A word is written into a copy that is cached."""
+        if line in self.cache:
+            self.cache[line][word] = value
+            self.changes.append(Write(line, word, value))
 
     def write(self, line: Line, word: int, value: int) -> None:
         """A word is written: into a copy that is cached, and into the write-combining buffer."""
-        if line in self.cache:
-            self.cache[line][word] = value
+        self.copy(line, word, value)
         if self.buffer is None or self.buffer[0] != line:
             self.buffer = line, [None] * 4
         self.buffer[1][word] = value
@@ -41,13 +72,29 @@ class Core:
     def fill(self, line: Line, words: list[int]) -> None:
         """A line is brought in, behind the others; where the cache is full the oldest leaves."""
         self.cache[line] = words
+        self.changes.append(Fill(line, list(words)))
         if len(self.cache) > CACHE_LINES:
-            del self.cache[next(iter(self.cache))]
+            self.drop(next(iter(self.cache)))
+
+    def drop(self, line: Line) -> None:
+        """A line leaves the cache, if it is there."""
+        if self.cache.pop(line, None) is not None:
+            self.changes.append(Drop(line))
+
+    def clear(self) -> None:
+        """All lines leave the cache."""
+        self.cache = {}
+        self.changes.append(Drop(None))
+
+    def take_changes(self) -> list[Fill | Write | Drop]:
+        """What became of the cache since this was called last."""
+        taken, self.changes = self.changes, []
+        return taken
 
 
 @dataclass
 class Step:
-    """A step: its line in the lab, the core, the verb, its accesses as lines, what it changed, and what each core holds behind it."""
+    """A step: its line in the lab, the core, the verb, its accesses as lines, what it changed, and what is in its core's write-combining buffer then."""
 
     line: int
     text: str
@@ -57,7 +104,8 @@ class Step:
     stored: list[tuple[Line, int, int]] = field(default_factory=list)
     loaded: list[tuple[Line, int]] = field(default_factory=list)
     registers: list[tuple[int, str]] = field(default_factory=list)
-    holds: Core = field(default_factory=Core)
+    changes: list[Fill | Write | Drop] = field(default_factory=list)
+    buffer: Buffer | None = None
 
 
 class Lab:
@@ -68,7 +116,8 @@ class Lab:
         self.steps: list[Step] = []
         self.words: dict[tuple[Line, int], int] = {}
         self.cores: dict[int, Core] = {}
-        lines = data.decode("latin-1").split("\n")
+        # a comment may have any byte; what is no UTF-8 is shown as a sign that stands for it
+        lines = data.decode("utf-8", "replace").split("\n")
         if lines.pop():
             self.at = len(lines) + 1
             raise self.refuse()
@@ -96,7 +145,7 @@ class Lab:
     def _begin(self, number: int, text: str) -> None:
         """A step begins: what it does to what its core holds follows from its words, but for what a fill brings in."""
         words = text.split("#")[0].split()
-        if len(words) < 3 or words[0] != "core" or not words[1].isdecimal() or words[2] not in VERBS:
+        if len(words) < 3 or words[0] != "core" or not re.fullmatch(r"\d+", words[1], re.A) or words[2] not in VERBS:
             raise self.refuse()
         self.steps.append(Step(number, text, int(words[1]), words[2]))
         core = self.cores.setdefault(int(words[1]), Core())
@@ -109,10 +158,10 @@ class Lab:
                 core.buffer = None
             if words[2] == "put":
                 line, _ = self._place(words[3], int(words[1]))
-                if line in core.cache:
-                    core.cache[line] = [int(value, 16) for value in words[4:8]]
+                for at, value in enumerate(words[4:8]):
+                    core.copy(line, at, int(value, 16))
             elif words[2] in ("invalidate", "get"):
-                core.cache = {}
+                core.clear()
         except (ValueError, IndexError) as error:
             raise self.refuse() from error
 
@@ -136,7 +185,7 @@ class Lab:
             if place and found[6] == "words" and step.loaded[-4:] and place[0] == step.loaded[-1][0]:
                 self.cores[step.core].fill(place[0], [self.words.get((place[0], word), 0) for word in range(4)])
         elif found := EVICTED.fullmatch(line):
-            self.cores[step.core].cache.pop((int(found[1]), int(found[2])), None)
+            self.cores[step.core].drop((int(found[1]), int(found[2])))
         elif not HOLDS.fullmatch(line) or line not in self._holdings(step.core):
             raise self.refuse()
 
@@ -164,9 +213,9 @@ class Lab:
         return [*lines, f"core {core} buffers {owner}:{at}" + "".join(" -" if value is None else f" {value:016x}" for value in words)]
 
     def _close(self) -> None:
-        """A step is over: what its core holds then is kept."""
+        """A step is over: what it changed is kept."""
         if self.steps:
             step = self.steps[-1]
             core = self.cores[step.core]
-            buffer = core.buffer and (core.buffer[0], list(core.buffer[1]))
-            step.holds = Core({line: list(words) for line, words in core.cache.items()}, buffer)
+            step.changes = core.take_changes()
+            step.buffer = core.buffer and (core.buffer[0], list(core.buffer[1]))

@@ -4,11 +4,13 @@ from __future__ import annotations
 import html
 import json
 import os
+import re
+import shlex
 from typing import Any, Iterator
 
 from rcce_lib.stops import Fault, Refused
 from trace_lib.calls import calls_of
-from trace_lib.labs import FIRST_HEAP, Lab, Line, Step
+from trace_lib.labs import FIRST_HEAP, Drop, Fill, Lab, Line, Step, Write
 from trace_lib.texts import Event, Trace
 from trace_lib.viewers import chunks_of
 from trace_lib.words import Role
@@ -23,15 +25,16 @@ LAB_LETTERS = {"write": "w", "read": "r", "flush": "f", "invalidate": "i", "put"
 def page_of(name: str, about: str, data: Object) -> Iterator[str]:
     """The document of a page with its data."""
     if len(data["steps"]) > MOST_STEPS:
-        raise Refused(Fault(name, 1, "TooLong", f"at most {MOST_STEPS:,} steps, and here are {len(data['steps']):,}"))
+        way = f"a page of the first ones: head -n {MOST_STEPS} {'' if name == '-' else shlex.quote(name) + ' '}| page -"
+        raise Refused(Fault(name, 1, "TooLong", f"at most {MOST_STEPS:,} steps, and here are {len(data['steps']):,}; {way}"))
     with open(f"{HERE}/page.html", encoding="utf-8") as file:
         page = file.read()
     # in a script's text only its end and comments could be read as more than data
     embedded = json.dumps(data, separators=(",", ":")).replace("<", "\\u003c")
-    parts = {"@TITLE@": html.escape(os.path.basename(name)), "@ABOUT@": html.escape(about), "@DATA@": embedded}
-    for mark, text in parts.items():
-        page = page.replace(mark, text)
-    yield page
+    # a file's name may have bytes that are no UTF-8
+    title = os.path.basename(name).encode("utf-8", "surrogateescape").decode("utf-8", "replace")
+    parts = {"TITLE": html.escape(title), "ABOUT": html.escape(about), "DATA": embedded}
+    yield re.sub("@(TITLE|ABOUT|DATA)@", lambda found: parts[found[1]], page)
 
 
 def _letters(letters: dict[str, str]) -> str:
@@ -113,8 +116,17 @@ def _name(line: Line) -> str:
 
 
 def _held_lines(step: Step) -> list[Line]:
-    """The lines that the core of a step holds behind it."""
-    return [*step.holds.cache, *([step.holds.buffer[0]] if step.holds.buffer else [])]
+    """The lines that come into the cache or the write-combining buffer of a step's core."""
+    return [*(it.line for it in step.changes if isinstance(it, Fill)), *([step.buffer[0]] if step.buffer else [])]
+
+
+def _change(it: Fill | Write | Drop) -> list[Any]:
+    """A change of a cache: a line with four words is brought in, a line with a word and a value is written, a line alone leaves, and nothing is all lines."""
+    if isinstance(it, Fill):
+        return [_name(it.line), [f"{value:x}" for value in it.words]]
+    if isinstance(it, Write):
+        return [_name(it.line), it.word, f"{it.value:x}"]
+    return [_name(it.line)] if it.line else []
 
 
 def _arrows(lab: Lab, cores: list[int]) -> Iterator[list[int]]:
@@ -135,7 +147,7 @@ def _lab_step(number: int, step: Step, cores: list[int]) -> Object:
     """The step of a line of a lab."""
     stored = [[f"{_name(line)}.{word}", f"{value:x}"] for line, word, value in step.stored]
     places = {line[0] for line, *_ in [*step.stored, *step.loaded]} | {core for core, _ in step.registers}
-    buffer = step.holds.buffer and [_name(step.holds.buffer[0]), [None if value is None else f"{value:x}" for value in step.holds.buffer[1]]]
+    buffer = step.buffer and [_name(step.buffer[0]), [None if value is None else f"{value:x}" for value in step.buffer[1]]]
     return {
         "line": number,
         "who": cores.index(step.core),
@@ -144,7 +156,7 @@ def _lab_step(number: int, step: Step, cores: list[int]) -> Object:
         "words": stored,
         "loads": [f"{_name(line)}.{word}" for line, word in step.loaded],
         "registers": step.registers,
-        "caches": [[step.core, [[_name(line), [f"{value:x}" for value in words]] for line, words in step.holds.cache.items()]]],
+        "caches": [[step.core, [_change(it) for it in step.changes]]] if step.changes else [],
         "buffers": [[step.core, buffer]],
         "cores": sorted(places),
     }

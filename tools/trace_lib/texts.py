@@ -5,8 +5,9 @@ import re
 from dataclasses import dataclass
 from typing import NamedTuple
 
-from rcce_lib.kinds import TRACE, wanted
-from rcce_lib.stops import Fault, Refused
+from rcce_lib.faults import Source, fault_of
+from rcce_lib.kinds import TRACE
+from rcce_lib.stops import Refused
 from trace_lib.words import REGISTER, Role, Setup
 
 LONGEST_LINE, MOST_LINES, MOST_BYTES = 255, 16_777_216, 1_073_741_824
@@ -48,12 +49,13 @@ class Trace:
 
 def read_trace(name: str, data: bytes) -> Trace:
     """The trace of a file."""
+    # a byte is one character here, since a line's length is told in bytes; its comment is skipped, and what is shown is made from the place
     lines = data.decode("latin-1").split("\n")
     whole = lines.pop() == ""
 
     def refuse(at: int, kind: str) -> Refused:
         """The refusal of a line."""
-        return Refused(Fault(name, at, kind, wanted(kind, TRACE)))
+        return Refused(fault_of(Source(name, TRACE, data, 0), at, kind))
 
     if len(data) > MOST_BYTES or len(lines) > MOST_LINES:
         raise refuse(0, "TooLong")

@@ -15,3 +15,4 @@ pub mod RunLaws
 pub mod RestLaws
 pub mod Offers
 pub mod CrewGrowth
+pub mod VainLaws

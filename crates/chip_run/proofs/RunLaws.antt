@@ -9,7 +9,8 @@ use Rattle.chip_run.specs.declared.runs.Mode.TheVariants as mode
 use Rattle.chip_run.specs.declared.runs.Rounds.{Rounds}
 use Rattle.chip_run.specs.declared.runs.Rounds.TheVariants as rounds
 use Rattle.chip_run.specs.Orders.{TurnsOf, generator_after, drawn_in, named_ranks, ranks_by}
-use Rattle.chip_run.specs.Runs.{InOrder, NextRound, RoundsTo, RowsTo, TookRows, rounds_of}
+use Rattle.chip_run.specs.Marks.{ThreadsAfter, AsksNext, MarkFacts, threads_of}
+use Rattle.chip_run.specs.Runs.{InOrder, IsInThreads, NextRound, RoundsTo, RowsTo, TookRows, rounds_of}
 use Rattle.chip_run.specs.Conducts.{Conduct}
 use Rattle.chip_run.proofs.OrderLaws.{turns_then}
 
@@ -76,3 +77,14 @@ module _ {A : Type 0} (c : Conduct A) where
   pub ran_in_order : (way : Mode) (n : ℕ) (new : Rounds) (chip last : ChipView) (crew later : List A) → RoundsTo c (rounds_of way) n new chip crew last later → InOrder c way chip crew last later
   ran_in_order mode.Threads n new chip last crew later (at, rows) = (n, rows)
   ran_in_order (mode.Serial seed) n new chip last crew later (at, turns) = (n, turns)
+
+  -- rounds that begin in threads stay in threads
+  pub threads_yet : (way new : Rounds) (n : ℕ) (chip last : ChipView) (crew later : List A) → RoundsTo c way n new chip crew last later → IsInThreads way → IsInThreads new
+  threads_yet rounds.InThreads new n chip last crew later (at, rows) so = subst IsInThreads (sym at) so
+  threads_yet (rounds.Picked picks) new n chip last crew later (at, turns) so = absurd so
+
+-- one more round, and how many threads the next one asks for
+pub asks_on : (m : MarkFacts) (ranks now n before threads : ℕ) → now ≡ ranks → ThreadsAfter m ranks n before → AsksNext m (threads_of now before) threads → ThreadsAfter m ranks (n + 1) threads
+asks_on m ranks now n before threads same so asks =
+    let next : suc n ≡ n + 1 = omega arith in
+    subst (λ (k : ℕ). ThreadsAfter m ranks k threads) next (before, so, subst (λ (r : ℕ). AsksNext m (threads_of r before) threads) same asks)

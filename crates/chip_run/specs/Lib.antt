@@ -6,3 +6,4 @@ pub mod Crews
 pub mod Away
 pub mod Orders
 pub mod Runs
+pub mod Marks

@@ -18,6 +18,11 @@ abbrev pub rounds_of : Mode → Rounds
 rounds_of mode.Threads = rounds.InThreads
 rounds_of (mode.Serial seed) = rounds.Picked (pcg32_of_seed (pcg32_seed 16 seed))
 
+-- the rounds are in threads
+abbrev pub IsInThreads : Rounds → Type 0
+IsInThreads rounds.InThreads = Unit {0}
+IsInThreads (rounds.Picked picks) = ⊥
+
 -- a round in threads: each worker took a row of turns, and the crew is tied to the chip again
 pub record TookRows {A : Type 0} (c : Conduct A)
     (chip : ChipView) (crew : List A) (now : ChipView) (later : List A) : Type 0 where

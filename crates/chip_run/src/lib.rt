@@ -5,6 +5,7 @@ mod crews;
 mod ends;
 mod gates;
 mod laws;
+mod marks;
 mod members;
 mod rests;
 mod rolls;

@@ -28,6 +28,13 @@ impl<W: Worker> Member<W> {
             vain: 0,
         }
     }
+
+    /// Its worker. A member of a run of scripts is a rank's unit of execution (UE).
+    pub fn ue(&self) -> &W
+        ensures shows { result.now ≡ self.now.worker }
+    {
+        &self.worker
+    }
 }
 
 impl<W: Worker> Worker for Member<W> {

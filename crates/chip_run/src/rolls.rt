@@ -1,8 +1,9 @@
 //! The roll of a round in threads: how many of its threads have begun.
 
-ghost use Rattle.std.specs.Prelude.{◌<◌};
+ghost use Rattle.std.specs.Prelude.{◌≡◌, ◌<◌, ◌≤◌, ◌⊎◌, ℕ, Bool, true, false, Option};
+ghost use Rattle.chip_run.specs.Marks.{AsksNext, FoundShort, GaveWay, MarksShort, patience_by};
 
-use std::sync::atomic::{AtomicU64, Ordering};
+use crate::marks::Marks;
 use std::thread;
 use std::thread::Threads;
 
@@ -18,70 +19,95 @@ const LAST: usize = 999;
 /// How many of the threads that a round asks for have begun. Where the system refuses one, its rows wait until those of another
 /// thread are over.
 #[derive(Drop)]
-pub(crate) struct Roll {
+pub(crate) struct Roll<M> {
     asked: usize,
     patience: usize,
-    begun: AtomicU64,
-    /// How many had begun where a rank was the first to give up before all had; 0 where none was.
-    short: AtomicU64,
+    marks: M,
 }
 
-impl Roll {
+impl<M: Marks> Roll<M> {
     /// The roll of a round that asks for this number of threads.
-    pub(crate) fn new<R: Threads>(rt: &R, asked: usize) -> Roll {
+    pub(crate) fn new<R: Threads>(rt: &R, asked: usize) -> Roll<M>
+        ensures asked { result.asked ≡ asked }
+        ensures patience { (processors : Option ℕ) × (result.patience ≡ patience_by asked processors) }
+    {
         Roll {
             asked,
             patience: patience(rt, asked),
-            begun: AtomicU64::new(0),
-            short: AtomicU64::new(0),
+            marks: M::new(),
         }
     }
 
-    /// Notes that one more thread of the round has begun.
-    pub(crate) fn begin(&self) {
-        self.begun.fetch_add(1, Ordering::SeqCst);
+    /// Notes that one more thread of the round has begun, whose first row is that of this rank.
+    pub(crate) fn begin(&self, rank: usize)
+        ensures began { M.shown.began rank }
+    {
+        self.marks.begin(rank);
     }
 
     /// Lets another thread run behind a vain turn, once several were vain: the rank that is waited for may have no processor.
     /// Where threads are missing it need not: that rank may have to wait until this row is over.
-    pub(crate) fn give_way(&self, vain: usize) {
-        if vain >= self.patience && self.asked > 1 && !self.is_short() {
-            thread::yield_now();
-            if vain == LAST {
-                self.give_up();
-            }
+    pub(crate) fn give_way(&self, vain: usize)
+        ensures gives_way { GaveWay M.shown self.now.asked self.now.patience vain }
+    {
+        if vain < self.patience || self.asked < 2 {
+            return;
+        }
+        if self.is_short() {
+            return;
+        }
+        self.marks.let_others_run();
+        if vain == LAST {
+            self.give_up();
         }
     }
 
     /// How many threads the next round asks for: as many as had begun, where some were missing.
     pub(crate) fn next(&self) -> usize
         ensures some { 0 < result }
+        ensures next { AsksNext M.shown self.now.asked result }
     {
-        let short = self.short.load(Ordering::SeqCst) as usize;
+        let short = self.marks.short() as usize;
         let threads = if short > 0 { short } else { self.asked };
         threads.max(1)
     }
 
     /// Notes how many threads have begun, where some have not.
-    fn give_up(&self) {
-        let begun = self.begun.load(Ordering::SeqCst);
+    fn give_up(&self)
+        ensures marks { MarksShort M.shown self.now.asked }
+    {
+        let begun = self.marks.begun();
         if begun < self.asked as u64 {
-            let _ = self
-                .short
-                .compare_exchange(0, begun, Ordering::SeqCst, Ordering::SeqCst);
+            self.marks.mark_short(begun);
         }
     }
 
     /// Whether some threads were missing where a rank gave up.
-    fn is_short(&self) -> bool {
-        self.short.load(Ordering::SeqCst) > 0
+    fn is_short(&self) -> bool
+        ensures short { result ≡ true → FoundShort M.shown }
+        ensures full { result ≡ false → M.shown.found 0 }
+    {
+        self.marks.short() > 0
     }
 }
 
 /// How many vain turns in a row a thread takes before another runs, where a round asks for this number of threads.
-fn patience<R: Threads>(rt: &R, asked: usize) -> usize {
-    match thread::available_parallelism(rt) {
-        Ok(processors) if asked <= processors.get() => LONG_PATIENCE,
-        Ok(_) | Err(_) => PATIENCE,
+fn patience<R: Threads>(rt: &R, asked: usize) -> usize
+    ensures gives { (processors : Option ℕ) × (result ≡ patience_by asked processors) }
+{
+    let processors = match thread::available_parallelism(rt) {
+        Ok(processors) => Some(processors.get()),
+        Err(_) => None,
+    };
+    patience_for(asked, processors)
+}
+
+/// The same on a machine with this number of processors; None where it is not known.
+fn patience_for(asked: usize, processors: Option<usize>) -> usize
+    ensures gives { result ≡ patience_by asked processors }
+{
+    match processors {
+        Some(processors) if asked <= processors => LONG_PATIENCE,
+        Some(_) | None => PATIENCE,
     }
 }

@@ -1,8 +1,10 @@
 //! A row of turns of one worker, in the thread that makes its rank's events.
 
-ghost use Rattle.std.specs.Prelude.{◌≡◌, ◌<◌};
+ghost use Rattle.std.specs.Prelude.{◌≡◌, ℕ, ◌<◌, ◌≤◌};
 ghost use Rattle.chip_run.specs.Away.{RowOfTurns, TookRow, vain_by};
+ghost use Rattle.chip_run.specs.Marks.{GaveWay};
 
+use crate::marks::Marks;
 use crate::rolls::Roll;
 use crate::workers::Worker;
 use scc_base::Turn;
@@ -25,10 +27,12 @@ pub(crate) fn vain_after(answer: &Turn, vain: usize) -> usize
 }
 
 /// Turns of a worker, until it is over or has waited in a thousand turns in a row.
-pub(crate) fn row<W: Worker, P: Port>(worker: &mut W, port: P, roll: &Roll) -> P
+pub(crate) fn row<W: Worker, P: Port, M: Marks>(worker: &mut W, port: P, roll: &Roll<M>) -> P
     requires ties { W.conduct.tied worker.old (P.sight port).seat.setup (P.sight port).seat.rank (P.sight port).events }
     ensures ties { W.conduct.tied worker.new (P.sight result).seat.setup (P.sight result).seat.rank (P.sight result).events }
     ensures row { RowOfTurns W.conduct (P.stepped (P.sight port).seat) worker.old (P.sight port) worker.new (P.sight result) }
+    // It gave way behind its last turn, as behind each one.
+    ensures gave_way { (vain : ℕ) × (1000 ≤ vain) × GaveWay M.shown roll.now.asked roll.now.patience vain }
 {
     let mut port = port;
     let mut vain = 0;
@@ -43,11 +47,11 @@ pub(crate) fn row<W: Worker, P: Port>(worker: &mut W, port: P, roll: &Roll) -> P
 
 /// Turns of a member whose rank is away, through a port of its own, until it is over or has waited in a thousand turns
 /// in a row.
-pub(crate) fn row_away<W: Worker>(
+pub(crate) fn row_away<W: Worker, M: Marks>(
     words: Words<'_>,
     token: Token,
     worker: &mut W,
-    roll: &Roll,
+    roll: &Roll<M>,
 ) -> Token
     requires of_chip { token.table ≡ words.space.now.table }
     requires ties { W.conduct.tied worker.old words.space.now.about token.rank token.events }

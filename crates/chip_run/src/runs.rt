@@ -1,15 +1,17 @@
 //! A run: rounds and sweeps, until a sweep in which no worker moves.
 
-ghost use Rattle.std.specs.Prelude.{◌≡◌, ◌<◌, length};
+ghost use Rattle.std.specs.Prelude.{◌≡◌, ℕ, ◌<◌, length};
 ghost use Rattle.chip_run.specs.Away.{conduct_of_members};
 ghost use Rattle.chip_run.specs.Crews.{AllRest, CrewStands, RunEndedAs, IsCrew};
-ghost use Rattle.chip_run.specs.Runs.{InOrder, NextRound, rounds_of};
+ghost use Rattle.chip_run.specs.Marks.{ThreadsAfter, AsksNext, threads_of};
+ghost use Rattle.chip_run.specs.Runs.{InOrder, IsInThreads, NextRound, RoundsTo, rounds_of};
 ghost use Rattle.chip_run.specs.Waiting.{NoneDrafts};
 ghost use Rattle.scc_mesh.specs.Scenes.{about_in, records_in};
 
 use crate::crews::{round, sweep};
 use crate::ends::RunEnd;
 use crate::gates::Gate;
+use crate::marks::{Counters, Marks};
 use crate::members::Member;
 use crate::threads::round_in_threads;
 use crate::workers::Worker;
@@ -47,7 +49,7 @@ impl Rounds {
 }
 
 /// The next round. In threads it asks for `threads` of them, and tells how many the round behind it asks for.
-fn next_round<W: Worker + Send, G: Gate + Sync, R: Threads + Sync>(
+fn next_round<W: Worker + Send, G: Gate + Sync, R: Threads + Sync, M: Marks + Drop + Sync>(
     rt: &R,
     chip: &mut Chip,
     crew: &mut [Member<W>],
@@ -59,12 +61,51 @@ fn next_round<W: Worker + Send, G: Gate + Sync, R: Threads + Sync>(
     requires some { 0 < length crew.old }
     requires threads { 0 < threads.old }
     ensures threads { 0 < threads.new }
+    // In threads each member passed the gate, and the round asked for as many threads as it was told.
+    ensures passed { IsInThreads rounds.old → (k : ℕ) → k < length crew.old → G.passed gate.now k }
+    ensures asks { IsInThreads rounds.old → AsksNext M.shown (threads_of (length crew.old) threads.old) threads.new }
     ensures stands { CrewStands (conduct_of_members W.conduct) chip.old crew.old chip.new crew.new }
     ensures next { NextRound (conduct_of_members W.conduct) rounds.old rounds.new chip.old crew.old chip.new crew.new }
 {
     match rounds {
-        Rounds::InThreads => *threads = round_in_threads(rt, chip, crew, gate, *threads),
+        Rounds::InThreads => *threads = round_in_threads::<W, G, R, M>(
+            rt, chip, crew, gate, *threads,
+        ),
         Rounds::Picked(picks) => round(chip, crew, picks),
+    }
+}
+
+/// The same with marks of this kind.
+fn run_on<W: Worker + Send, G: Gate + Sync, R: Threads + Sync, M: Marks + Drop + Sync>(
+    rt: &R,
+    chip: &mut Chip,
+    crew: &mut [Member<W>],
+    mode: Mode,
+    gate: &G,
+) -> RunEnd
+    requires crew { IsCrew (conduct_of_members W.conduct) chip.old crew.old }
+    requires some { 0 < length crew.old }
+    ensures stands { CrewStands (conduct_of_members W.conduct) chip.old crew.old chip.new crew.new }
+    ensures rests { AllRest (conduct_of_members W.conduct) chip.new crew.new (length crew.new) }
+    ensures answer { RunEndedAs (conduct_of_members W.conduct) result chip.new crew.new }
+    ensures no_draft { NoneDrafts (about_in chip.new) (records_in chip.new) }
+    ensures order { InOrder (conduct_of_members W.conduct) mode chip.old crew.old chip.new crew.new }
+    // In threads each member passed the gate.
+    ensures passed { IsInThreads (rounds_of mode) → (k : ℕ) → k < length crew.old → G.passed gate.now k }
+    // The first round asks for a thread for each member, and each later one for as many as the one before it, or as had begun
+    // there where some were missing.
+    ensures rounds { (n : ℕ) × (last : _)
+        × RoundsTo (conduct_of_members W.conduct) (rounds_of mode) n last chip.old crew.old chip.new crew.new
+        × (IsInThreads (rounds_of mode) → (threads : ℕ) × ThreadsAfter M.shown (length crew.old) n threads) }
+{
+    let mut rounds = Rounds::of(mode);
+    let mut threads = crew.len();
+    loop {
+        next_round::<W, G, R, M>(rt, chip, crew, &mut rounds, gate, &mut threads);
+        let came = sweep(chip, crew);
+        if let Some(end) = came.end() {
+            return end;
+        }
     }
 }
 
@@ -90,14 +131,8 @@ pub fn run<W: Worker + Send, G: Gate + Sync, R: Threads + Sync>(
     // Under Serial the turns were those of the ranks that the seed's generator names, and in threads each worker took a row of
     // turns in each round; with a sweep behind each round.
     ensures order { InOrder (conduct_of_members W.conduct) mode chip.old crew.old chip.new crew.new }
+    // In threads each member passed the gate.
+    ensures passed { IsInThreads (rounds_of mode) → (k : ℕ) → k < length crew.old → G.passed gate.now k }
 {
-    let mut rounds = Rounds::of(mode);
-    let mut threads = crew.len();
-    loop {
-        next_round(rt, chip, crew, &mut rounds, gate, &mut threads);
-        let came = sweep(chip, crew);
-        if let Some(end) = came.end() {
-            return end;
-        }
-    }
+    run_on::<W, G, R, Counters>(rt, chip, crew, mode, gate)
 }

@@ -1,12 +1,15 @@
 //! A round in threads: each worker takes a row of turns, in a thread of its own where the system grants one for each.
 
 ghost use Rattle.std.specs.Prelude.{◌≡◌, ◌≢◌, ℕ, ◌+◌, ◌^◌, ◌<◌, length, slice_index_or};
+ghost use Rattle.std.specs.Int.{div_ceil};
 ghost use Rattle.chip_run.specs.Away.{IsAtHome, IsAway, Served, TookRow, conduct_of_members};
 ghost use Rattle.chip_run.specs.Crews.{IsCrew};
+ghost use Rattle.chip_run.specs.Marks.{AsksNext, BeganFor, threads_of};
 ghost use Rattle.chip_run.specs.Runs.{TookRows};
 ghost use Rattle.scc_mesh.specs.Scenes.{IsHomeBelow, IsHomeFrom, IsWhole, about_in, events_in, table_in};
 
 use crate::gates::Gate;
+use crate::marks::Marks;
 use crate::members::Member;
 use crate::rolls::Roll;
 use crate::rows::row_away;
@@ -50,21 +53,24 @@ fn bring<W: Worker>(chip: &mut Chip, at: usize, member: &mut Member<W>)
 }
 
 /// One member's row of turns, in its thread.
-fn go<W: Worker, G: Gate>(
+fn go<W: Worker, G: Gate, M: Marks>(
     words: Words<'_>,
     gate: &G,
-    roll: &Roll,
+    roll: &Roll<M>,
     at: usize,
     member: &mut Member<W>,
 )
     requires away { IsAway (W.conduct.tied member.old.worker) words.space.now.about words.space.now.table at member.old.token }
     ensures away { IsAway (W.conduct.tied member.new.worker) words.entry.space.now.about words.entry.space.now.table at member.new.token }
     ensures row { TookRow W.conduct words.entry.space.now.about at member.old.worker member.new.worker }
+    // Its thread marked that it began, and it passed the gate.
+    ensures began { M.shown.began at }
+    ensures passed { G.passed gate.now at }
 {
     let Some(token) = member.token.take() else {
         unreachable!()
     };
-    roll.begin();
+    roll.begin(at);
     gate.pass(token.rank());
     member.token = Some(row_away(words, token, &mut member.worker, roll));
 }
@@ -84,11 +90,11 @@ fn hand_out<W: Worker>(chip: &mut Chip, crew: &mut [Member<W>])
 }
 
 /// All members' rows of turns, each in a thread of its own.
-fn in_threads<W: Worker + Send, G: Gate + Sync, R: Threads + Sync>(
+fn in_threads<W: Worker + Send, G: Gate + Sync, R: Threads + Sync, M: Marks + Sync>(
     rt: &R,
     words: Words<'_>,
     gate: &G,
-    roll: &Roll,
+    roll: &Roll<M>,
     crew: &mut [Member<W>],
 )
     requires some { 0 < length crew.old }
@@ -99,6 +105,8 @@ fn in_threads<W: Worker + Send, G: Gate + Sync, R: Threads + Sync>(
         words.entry.space.now.table i m.token }
     ensures rows { (i : ℕ) (d : _) → i < length crew.old
         → TookRow W.conduct words.entry.space.now.about i (slice_index_or crew.old i d).worker (slice_index_or crew.new i d).worker }
+    ensures began { (i : ℕ) → i < length crew.old → M.shown.began i }
+    ensures passed { (i : ℕ) → i < length crew.old → G.passed gate.now i }
 {
     let threads = crew.len();
     thread::for_each_mut(
@@ -108,17 +116,18 @@ fn in_threads<W: Worker + Send, G: Gate + Sync, R: Threads + Sync>(
         &|at: usize, member: &mut Member<W>|
             requires { IsAway (W.conduct.tied member.old.worker) words.space.now.about words.space.now.table at member.old.token }
             ensures { IsAway (W.conduct.tied member.new.worker) words.entry.space.now.about words.entry.space.now.table at member.new.token
-                × TookRow W.conduct words.entry.space.now.about at member.old.worker member.new.worker }
+                × TookRow W.conduct words.entry.space.now.about at member.old.worker member.new.worker
+                × M.shown.began at × G.passed gate.entry.now at }
         { go(words, gate, roll, at, member) },
     );
 }
 
 /// All members' rows of turns, where `each` of them share a thread.
-fn in_few_threads<W: Worker + Send, G: Gate + Sync, R: Threads + Sync>(
+fn in_few_threads<W: Worker + Send, G: Gate + Sync, R: Threads + Sync, M: Marks + Sync>(
     rt: &R,
     words: Words<'_>,
     gate: &G,
-    roll: &Roll,
+    roll: &Roll<M>,
     crew: &mut [Member<W>],
     each: usize,
 )
@@ -130,6 +139,8 @@ fn in_few_threads<W: Worker + Send, G: Gate + Sync, R: Threads + Sync>(
         words.entry.space.now.table i m.token }
     ensures rows { (i : ℕ) (d : _) → i < length crew.old
         → TookRow W.conduct words.entry.space.now.about i (slice_index_or crew.old i d).worker (slice_index_or crew.new i d).worker }
+    ensures began { (i : ℕ) → i < length crew.old → BeganFor M.shown each i }
+    ensures passed { (i : ℕ) → i < length crew.old → G.passed gate.now i }
 {
     thread::for_each_chunk_mut(
         rt,
@@ -142,17 +153,18 @@ fn in_few_threads<W: Worker + Send, G: Gate + Sync, R: Threads + Sync>(
             ensures { (k : ℕ) (d : _) → k < length members.old
                 → let m = slice_index_or members.new k d in IsAway (W.conduct.tied m.worker) words.entry.space.now.about
                 words.entry.space.now.table (start + k) m.token
-                × TookRow W.conduct words.entry.space.now.about (start + k) (slice_index_or members.old k d).worker m.worker }
+                × TookRow W.conduct words.entry.space.now.about (start + k) (slice_index_or members.old k d).worker m.worker
+                × M.shown.began start × G.passed gate.entry.now (start + k) }
         { rows_together(words, gate, roll, start, members) },
     );
 }
 
 /// All members' rows of turns, at most `each` of them in a thread.
-fn all_rows<W: Worker + Send, G: Gate + Sync, R: Threads + Sync>(
+fn all_rows<W: Worker + Send, G: Gate + Sync, R: Threads + Sync, M: Marks + Sync>(
     rt: &R,
     words: Words<'_>,
     gate: &G,
-    roll: &Roll,
+    roll: &Roll<M>,
     crew: &mut [Member<W>],
     each: usize,
 )
@@ -165,6 +177,8 @@ fn all_rows<W: Worker + Send, G: Gate + Sync, R: Threads + Sync>(
         words.entry.space.now.table i m.token }
     ensures rows { (i : ℕ) (d : _) → i < length crew.old
         → TookRow W.conduct words.entry.space.now.about i (slice_index_or crew.old i d).worker (slice_index_or crew.new i d).worker }
+    ensures began { (i : ℕ) → i < length crew.old → BeganFor M.shown each i }
+    ensures passed { (i : ℕ) → i < length crew.old → G.passed gate.now i }
 {
     if each > 1 {
         in_few_threads(rt, words, gate, roll, crew, each);
@@ -192,22 +206,26 @@ fn take_home<W: Worker>(chip: &mut Chip, crew: &mut [Member<W>])
 
 /// A round in threads: every rank is away while its worker takes turns, and at home again afterwards. It asks for
 /// `threads` threads, one for each rank at the most, and tells how many the next round asks for.
-pub(crate) fn round_in_threads<W: Worker + Send, G: Gate + Sync, R: Threads + Sync>(
-    rt: &R,
-    chip: &mut Chip,
-    crew: &mut [Member<W>],
-    gate: &G,
-    threads: usize,
-) -> usize
+pub(crate) fn round_in_threads<
+    W: Worker + Send,
+    G: Gate + Sync,
+    R: Threads + Sync,
+    M: Marks + Drop + Sync,
+>(rt: &R, chip: &mut Chip, crew: &mut [Member<W>], gate: &G, threads: usize) -> usize
     requires crew { IsCrew (conduct_of_members W.conduct) chip.old crew.old }
     requires some { 0 < length crew.old }
     requires threads { 0 < threads }
     // Each worker took a row of turns.
     ensures took { TookRows (conduct_of_members W.conduct) chip.old crew.old chip.new crew.new }
+    // The thread of each row marked that it began, and each member passed the gate.
+    ensures began { (k : ℕ) → k < length crew.old → BeganFor M.shown (div_ceil (length crew.old) threads) k }
+    ensures passed { (k : ℕ) → k < length crew.old → G.passed gate.now k }
+    // The next round asks for as many threads, unless some were missing.
+    ensures asks { AsksNext M.shown (threads_of (length crew.old) threads) result }
     ensures next { 0 < result }
 {
     let each = crew.len().div_ceil(threads);
-    let roll = Roll::new(rt, crew.len().div_ceil(each));
+    let roll: Roll<M> = Roll::new(rt, crew.len().div_ceil(each));
     hand_out(chip, crew);
     all_rows(rt, chip.words(), gate, &roll, crew, each);
     take_home(chip, crew);

@@ -2,8 +2,10 @@
 
 ghost use Rattle.std.specs.Prelude.{◌≡◌, ℕ, Bool, true, false, ◌+◌, ◌<◌, ◌≤◌, ◌^◌, length, slice_index_or};
 ghost use Rattle.chip_run.specs.Away.{IsAway, Served, Stretches, TookRow, row_left, rows_left};
+ghost use Rattle.chip_run.specs.Marks.{GaveWay, least_vain};
 
 use crate::gates::Gate;
+use crate::marks::Marks;
 use crate::members::Member;
 use crate::rolls::Roll;
 use crate::rows::{VAIN, vain_after};
@@ -14,6 +16,7 @@ use scc_mesh::Words;
 fn begin<W: Worker, G: Gate>(words: Words<'_>, gate: &G, at: usize, member: &mut Member<W>)
     requires away { IsAway (W.conduct.tied member.old.worker) words.space.now.about words.space.now.table at member.old.token }
     ensures begins { member.new ≡ record member.old { vain = 0 } }
+    ensures passed { G.passed gate.now at }
 {
     let Some(token) = &member.token else {
         unreachable!()
@@ -45,8 +48,24 @@ fn go_on<W: Worker>(words: Words<'_>, at: usize, member: &mut Member<W>) -> bool
     true
 }
 
+/// The fewest vain turns in a row of these members.
+fn fewest_vain<W: Worker>(members: &[Member<W>]) -> usize
+    ensures gives { result ≡ least_vain members.now }
+{
+    let mut least = VAIN;
+    for at in 0..members.len() {
+        least = least.min(members[at].vain);
+    }
+    least
+}
+
 /// The next stretch of each row that is not over; tells whether there was one.
-fn pass<W: Worker>(words: Words<'_>, roll: &Roll, start: usize, members: &mut [Member<W>]) -> bool
+fn pass<W: Worker, M: Marks>(
+    words: Words<'_>,
+    roll: &Roll<M>,
+    start: usize,
+    members: &mut [Member<W>],
+) -> bool
     requires room { start + length members.old < 2 ^ 64 }
     requires away { (k : ℕ) (d : _) → k < length members.old
         → let m = slice_index_or members.old k d in IsAway (W.conduct.tied m.worker) words.space.now.about words.space.now.table
@@ -59,14 +78,13 @@ fn pass<W: Worker>(words: Words<'_>, roll: &Roll, start: usize, members: &mut [M
         → rows_left W.conduct words.entry.space.now.about start members.new
         < rows_left W.conduct words.entry.space.now.about start members.old }
     ensures over { result ≡ false → (k : ℕ) (d : _) → k < length members.new → 1000 ≤ (slice_index_or members.new k d).vain }
+    ensures gave_way { GaveWay M.shown roll.now.asked roll.now.patience (least_vain members.new) }
 {
     let mut goes = false;
-    let mut least = VAIN;
     for at in 0..members.len() {
         goes |= go_on(words, start + at, &mut members[at]);
-        least = least.min(members[at].vain);
     }
-    roll.give_way(least);
+    roll.give_way(fewest_vain(members));
     goes
 }
 
@@ -81,7 +99,8 @@ fn begin_all<W: Worker, G: Gate>(
     requires away { (k : ℕ) (d : _) → k < length members.old
         → let m = slice_index_or members.old k d in IsAway (W.conduct.tied m.worker) words.space.now.about words.space.now.table
         (start + k) m.token }
-    ensures served { Served (λ k m n. n ≡ record m { vain = 0 }) (length members.old) members.old members.new }
+    ensures served { Served (λ k m n. (n ≡ record m { vain = 0 }) × G.passed gate.now (start + k)) (length members.old) members.old
+        members.new }
 {
     for at in 0..members.len() {
         begin(words, gate, start + at, &mut members[at]);
@@ -89,10 +108,10 @@ fn begin_all<W: Worker, G: Gate>(
 }
 
 /// The rows of all these members.
-pub(crate) fn rows_together<W: Worker, G: Gate>(
+pub(crate) fn rows_together<W: Worker, G: Gate, M: Marks>(
     words: Words<'_>,
     gate: &G,
-    roll: &Roll,
+    roll: &Roll<M>,
     start: usize,
     members: &mut [Member<W>],
 )
@@ -107,8 +126,11 @@ pub(crate) fn rows_together<W: Worker, G: Gate>(
     ensures rows { (k : ℕ) (d : _) → k < length members.old
         → TookRow W.conduct words.entry.space.now.about (start + k) (slice_index_or members.old k d).worker
         (slice_index_or members.new k d).worker }
+    // Their thread marked that it began, and each passed the gate.
+    ensures began { M.shown.began start }
+    ensures passed { (k : ℕ) → k < length members.old → G.passed gate.now (start + k) }
 {
-    roll.begin();
+    roll.begin(start);
     begin_all(words, gate, start, members);
     loop {
         if !pass(words, roll, start, members) {

@@ -1,6 +1,7 @@
 -- What a call of `rccelab` leaves (this project's profile).
 use Rattle.std.specs.Prelude.{◌≡◌, ◌≤◌, ℕ, List, length, Option, Some, None, Ok}
-use Rattle.rcce_io.specs.Files.{NamedFile}
+use Rattle.rcce_io.specs.Files.{FilesView}
+use Rattle.rcce_io.specs.Reading.{ReadsAll}
 use Rattle.outcomes.specs.Coming.{ByTest, FileHolds}
 use Rattle.outcomes.specs.Outcomes.{Outcome, run_outcome}
 use Rattle.outcomes.specs.Statuses.{is_quiet}
@@ -11,21 +12,23 @@ use Rattle.lab_run.specs.declared.run.LabLeft.{LabLeft}
 use Rattle.lab_run.specs.Stands.{IsLeftBy}
 use Rattle.lab_program.specs.Program.{steps_ran}
 
--- these are the steps of the lab that stands in a file, where files are told
-abbrev pub StepsIn : List ℕ → Option (List NamedFile) → List Step → Type 0
-StepsIn file told steps = (bytes : List ℕ) × (length bytes ≤ most_lab_bytes) × FileHolds told file bytes × (lab_of bytes ≡ Ok steps)
+-- These are the steps of the lab that the reading of a file gave, with no fault: its contents, where files are told. The files are
+-- given before and after the reading.
+abbrev pub StepsIn : List ℕ → FilesView → FilesView → List Step → Type 0
+StepsIn file before after steps = (bytes : List ℕ) × ReadsAll file most_lab_bytes before after (Ok bytes) × (length bytes ≤ most_lab_bytes)
+    × FileHolds before.told file bytes × (lab_of bytes ≡ Ok steps)
 
--- The outcome is that of the steps of the lab in a file, and a chip and its cores are left that have made them.
-pub record WasMadeBy (told : Option (List NamedFile)) (file : List ℕ) (left : Option LabLeft) (o : Outcome) : Type 0 where
+-- The outcome is that of the steps of the lab that was read, and a chip and its cores are left that have made them.
+pub record WasMadeBy (before after : FilesView) (file : List ℕ) (left : Option LabLeft) (o : Outcome) : Type 0 where
   pub steps : List Step
-  pub stand : StepsIn file told steps
+  pub stand : StepsIn file before after steps
   pub comes : o ≡ run_outcome (steps_ran steps)
   pub by : LabLeft
   pub is : left ≡ Some by
   pub made : IsLeftBy (lab_done steps) by
 
 -- Where the run of a lab is the outcome, it was made by the chip and the cores that are left: it is that of the file which was asked
--- for. Else nothing is left.
-abbrev pub LabTells : Option (List NamedFile) → Option (List ℕ) → Option LabLeft → Outcome → Type 0
-LabTells told None left o = left ≡ None
-LabTells told (Some file) left o = ByTest (is_quiet o.status) (left ≡ None) (WasMadeBy told file left o)
+-- for, as it was read. Else nothing is left.
+abbrev pub LabTells : FilesView → FilesView → Option (List ℕ) → Option LabLeft → Outcome → Type 0
+LabTells before after None left o = left ≡ None
+LabTells before after (Some file) left o = ByTest (is_quiet o.status) (left ≡ None) (WasMadeBy before after file left o)

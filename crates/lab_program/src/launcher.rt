@@ -2,10 +2,11 @@
 //! statuses and what is written at the end, `lab_reader` the grammar, and `lab_run` the run of the steps, by the cores of `put_get` and
 //! the chip of `lab_chip`.
 
-ghost use Rattle.std.specs.Prelude.{◌≡◌, ◌≤◌, codes, length, List, map, string_bytes, Option, Some, None};
+ghost use Rattle.std.specs.Prelude.{◌≡◌, ◌≤◌, codes, length, map, string_bytes, Some, None, Ok};
 ghost use Rattle.std.specs.Option.{option_copied};
-ghost use Rattle.rcce_io.specs.Files.{FilesView, NamedFile};
-ghost use Rattle.outcomes.specs.Coming.{Comes, FileHolds, IsMeant};
+ghost use Rattle.rcce_io.specs.Files.{FilesView};
+ghost use Rattle.rcce_io.specs.Reading.{ReadsAll};
+ghost use Rattle.outcomes.specs.Coming.{Comes, IsMeant};
 ghost use Rattle.outcomes.specs.Complaints.{outcome_of};
 ghost use Rattle.outcomes.specs.Delivery.{sinks};
 ghost use Rattle.outcomes.specs.Promises.{EndsWith, Promises};
@@ -41,9 +42,10 @@ pub fn rccelab<F: Files, O: Sink, E: Sink>(
     ensures promises { Promises rccelab (map string_bytes words.now) (F.seen files.old) (F.seen files.new)
         (sinks (O.seen out.old) (E.seen err.old)) (sinks (O.seen out.new) (E.seen err.new)) result }
     // With the statuses 0 and 3 each access that is printed was made by the chip that is left, once and in this order, and no other;
-    // each was a step of its words and permitted by its rank's record; and its cores hold what the lab's hold at the end. With 1, 2,
-    // 4 and 5 nothing is left. Where a write failed, it is as the outcome says that was to be written.
-    ensures history { EndsWith (LabTells (F.seen files.old).told (lab_file_named (map string_bytes words.now)) left.new)
+    // each was a step of its words and permitted by its rank's record; and its cores hold what the lab's hold at the end. The lab is
+    // that of the bytes which were read, with no fault; if the files tell their contents, it is the file's. With 1, 2, 4 and 5
+    // nothing is left. Where a write failed, it is as the outcome says that was to be written.
+    ensures history { EndsWith (LabTells (F.seen files.old) (F.seen files.new) (lab_file_named (map string_bytes words.now)) left.new)
         rccelab (map string_bytes words.now) (F.seen files.old) (F.seen files.new)
         (sinks (O.seen out.old) (E.seen err.old)) (sinks (O.seen out.new) (E.seen err.new)) result }
 {
@@ -70,7 +72,7 @@ fn run_words<'a, F: Files>(
     requires blank { left.old ≡ None }
     ensures meant { IsMeant (codes "rccelab") (plan_of lab_file_plan (lab_file_named (map string_bytes words.now)))
         (F.seen files.old) (F.seen files.new) (outcome_of (codes "rccelab") lab_ran result) }
-    ensures tells { LabTells (F.seen files.old).told (lab_file_named (map string_bytes words.now)) left.new
+    ensures tells { LabTells (F.seen files.old) (F.seen files.new) (lab_file_named (map string_bytes words.now)) left.new
         (outcome_of (codes "rccelab") lab_ran result) }
 {
     match file_named(words) {
@@ -88,7 +90,8 @@ fn run_file<'a, F: Files>(
     requires blank { left.old ≡ None }
     ensures comes { Comes (codes "rccelab") (lab_file_plan file.now) (F.seen files.old) (F.seen files.new)
         (outcome_of (codes "rccelab") lab_ran result) }
-    ensures tells { LabTells (F.seen files.old).told (Some file.now) left.new (outcome_of (codes "rccelab") lab_ran result) }
+    ensures tells { LabTells (F.seen files.old) (F.seen files.new) (Some file.now) left.new
+        (outcome_of (codes "rccelab") lab_ran result) }
 {
     match read_file(alloc, files, file, MOST_LAB_BYTES) {
         Ok(bytes) => run_bytes(alloc, file, bytes.as_slice(), left),
@@ -106,8 +109,8 @@ fn run_bytes<'a>(
     requires few { length bytes.now ≤ most_lab_bytes }
     ensures comes { (files : FilesView) → Comes (codes "rccelab") (lab_bytes_plan file.now bytes.now) files files
         (outcome_of (codes "rccelab") lab_ran result) }
-    ensures tells { (told : Option (List NamedFile)) → FileHolds told file.now bytes.now
-        → LabTells told (Some file.now) left.new (outcome_of (codes "rccelab") lab_ran result) }
+    ensures tells { (before after : FilesView) → ReadsAll file.now most_lab_bytes before after (Ok bytes.now)
+        → LabTells before after (Some file.now) left.new (outcome_of (codes "rccelab") lab_ran result) }
 {
     match read_lab(alloc, bytes) {
         Ok(steps) => match run_lab(alloc, steps.as_slice()) {

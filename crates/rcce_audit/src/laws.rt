@@ -2,7 +2,7 @@
 
 ghost use Rattle.std.specs.Prelude.{◌≡◌, ◌≤◌, ℕ, List, Ok, []};
 ghost use Rattle.rcce_audit.specs.Grammar.{log_of};
-ghost use Rattle.rcce_audit.specs.Logs.{IsLog, LogView, calls_at_rank};
+ghost use Rattle.rcce_audit.specs.Logs.{IsLog, LogView, calls_at_rank, most_log_bytes};
 ghost use Rattle.rcce_audit.specs.Sizes.{AreFew};
 ghost use Rattle.rcce_audit.specs.Texts.{IsFileLog, log_text};
 ghost use Rattle.rcce_audit.specs.declared.verdicts.Verdict.{Verdict};
@@ -27,4 +27,9 @@ pub fn verdict_law()
     ensures once { (log : LogView) (v w : Verdict) → IsVerdict log v → IsVerdict log w → v ≡ w }
     ensures found { (log : LogView) → ((k : ℕ) → 48 ≤ k → calls_at_rank log.lists k ≡ []) → (v : Verdict) × IsVerdict log v }
     ensures judge { (judge : LogView → Verdict) × IsJudge judge }
+{}
+
+/// The number of bytes that a log's text may have.
+pub fn numbers_law()
+    ensures bytes { most_log_bytes ≡ 67108864 }
 {}

@@ -19,7 +19,7 @@ mod writing;
 pub use faults::{LogFault, LogKind, LogStop};
 pub use held::{CallList, HeldLog};
 pub use judging::audit;
-pub use laws::{size_law, text_law, verdict_law};
+pub use laws::{numbers_law, size_law, text_law, verdict_law};
 pub use lines::{CommSplit, begins_comm, comm_said, rank_said};
 pub use lists::{no_calls, push_call};
 pub use logs::{Log, LogCall};

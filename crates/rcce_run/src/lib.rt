@@ -5,5 +5,6 @@ pub mod examples;
 mod laws;
 mod ue_runs;
 
+pub use chip_run::{Gate, Mode, Open, RunEnd};
 pub use laws::sweep_law;
 pub use ue_runs::{Crew, run};

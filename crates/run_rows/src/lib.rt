@@ -30,6 +30,8 @@ mod runs;
 #[cfg(test)]
 mod scripts;
 #[cfg(test)]
+mod second_meetings;
+#[cfg(test)]
 mod ue_apart;
 #[cfg(test)]
 mod ue_ends;

@@ -3,7 +3,7 @@
 ghost use Rattle.std.specs.Prelude.{None, []};
 
 use crate::evictors::PerRank;
-use crate::runs::{NO_MESSAGES, Row, TWO_PAIRS, comes_to};
+use crate::runs::{ALL_IDLE, NO_MESSAGES, ONE_TO_FIVE, Row, THREE_PAIRS, TWO_PAIRS, comes_to};
 use chip_run::{Gate, Mode, Open};
 use line_cache::{Evict, Never};
 use scc_base::{Layout, Rank};
@@ -15,18 +15,20 @@ use std::thread::Threads;
 const RANKS: usize = 4;
 
 /// How often a rank looks for the other ones.
-const LOOKS: u64 = 5_000_000_000;
+pub(crate) const LOOKS: u64 = 5_000_000_000;
 
-/// A place where the threads of all ranks meet: how many have come to it, and how many waited there in vain.
+/// A place where the threads of so many ranks meet: how many have come to it, and how many waited there in vain.
 #[derive(Drop)]
-struct Meeting {
+pub(crate) struct Meeting {
+    wanted: u64,
     came: AtomicU64,
     missed: AtomicU64,
 }
 
 impl Meeting {
-    fn new() -> Meeting {
+    pub(crate) fn of(wanted: u64) -> Meeting {
         Meeting {
+            wanted,
             came: AtomicU64::new(0),
             missed: AtomicU64::new(0),
         }
@@ -34,11 +36,11 @@ impl Meeting {
 
     /// Whether all have come.
     fn is_full(&self) -> bool {
-        self.came.load(Ordering::SeqCst) >= RANKS as u64
+        self.came.load(Ordering::SeqCst) >= self.wanted
     }
 
     /// Comes, and waits until all have come.
-    fn wait(&self) {
+    pub(crate) fn wait(&self) {
         self.came.fetch_add(1, Ordering::SeqCst);
         for _ in 0..LOOKS {
             if self.is_full() {
@@ -49,7 +51,7 @@ impl Meeting {
     }
 
     /// Whether all have come, and none waited in vain.
-    fn was_held(&self) -> bool {
+    pub(crate) fn was_held(&self) -> bool {
         self.is_full() && self.missed.load(Ordering::SeqCst) == 0
     }
 }
@@ -95,7 +97,7 @@ impl<'a> PerRank for Meets<'a> {
     }
 }
 
-/// Whether a script of four ranks comes to what its row says, with its ranks in threads.
+/// Whether a script comes to what its row says, with its ranks in threads.
 fn comes<V: PerRank + Send, G: Gate + Sync, R: Threads + Sync>(
     rt: &R,
     alloc: Global,
@@ -107,20 +109,45 @@ fn comes<V: PerRank + Send, G: Gate + Sync, R: Threads + Sync>(
     comes_to(rt, alloc, layout, row, like, Mode::Threads, gate)
 }
 
-#[test]
-fn four_ranks_wait_for_each_other_at_the_gate(rt: HostRuntime) {
-    let meeting = Meeting::new();
-    assert!(rt; comes(&rt, rt.alloc(), TWO_PAIRS, &Never, &meeting) && meeting.was_held());
+/// Whether so many ranks of a script wait for each other at the gate.
+fn meet_at_the_gate<R: Threads + Sync>(rt: &R, alloc: Global, row: &Row<'_>, wanted: u64) -> bool {
+    let meeting = Meeting::of(wanted);
+    comes(rt, alloc, row, &Never, &meeting) && meeting.was_held()
 }
 
-#[test]
-fn four_ranks_wait_for_each_other_inside_their_turns(rt: HostRuntime) {
-    let meeting = Meeting::new();
+/// Whether so many ranks of a script wait for each other inside their turns.
+fn meet_inside<R: Threads + Sync>(rt: &R, alloc: Global, row: &Row<'_>, wanted: u64) -> bool {
+    let meeting = Meeting::of(wanted);
     let meets = Meets {
         meeting: &meeting,
         was_asked: false,
     };
-    assert!(rt; comes(&rt, rt.alloc(), TWO_PAIRS, &meets, &Open) && meeting.was_held());
+    comes(rt, alloc, row, &meets, &Open) && meeting.was_held()
+}
+
+#[test]
+fn four_ranks_wait_for_each_other_at_the_gate(rt: HostRuntime) {
+    assert!(rt; meet_at_the_gate(&rt, rt.alloc(), TWO_PAIRS, 4));
+}
+
+#[test]
+fn six_ranks_wait_for_each_other_at_the_gate(rt: HostRuntime) {
+    assert!(rt; meet_at_the_gate(&rt, rt.alloc(), THREE_PAIRS, 6));
+}
+
+#[test]
+fn two_of_forty_eight_ranks_wait_for_each_other_at_the_gate(rt: HostRuntime) {
+    assert!(rt; meet_at_the_gate(&rt, rt.alloc(), ALL_IDLE, 2));
+}
+
+#[test]
+fn four_ranks_wait_for_each_other_inside_their_turns(rt: HostRuntime) {
+    assert!(rt; meet_inside(&rt, rt.alloc(), TWO_PAIRS, 4));
+}
+
+#[test]
+fn six_ranks_wait_for_each_other_inside_their_turns(rt: HostRuntime) {
+    assert!(rt; meet_inside(&rt, rt.alloc(), THREE_PAIRS, 6));
 }
 
 /// How often each rank has passed the gate, and how often one's evictor was asked before that.

@@ -45,6 +45,44 @@ pub(crate) const TWO_PAIRS: &Row<'static> = &Row {
     ],
 };
 
+/// The same by six ranks.
+pub(crate) const THREE_PAIRS: &Row<'static> = &Row {
+    script: b"even\nbytes x 01020304\nsend +1 x\nodd\nrecv -1 y 4\nprint y\n",
+    end: RunEnd::Finished,
+    ranks: &[
+        (End::Finished, &[]),
+        (End::Finished, &[&[1, 2, 3, 4]]),
+        (End::Finished, &[]),
+        (End::Finished, &[&[1, 2, 3, 4]]),
+        (End::Finished, &[]),
+        (End::Finished, &[&[1, 2, 3, 4]]),
+    ],
+};
+
+/// Rank 0 sends a byte to each of five others.
+pub(crate) const ONE_TO_FIVE: &Row<'static> = &Row {
+    script: b"ue 0\nbytes x 09\nsend 1 x\nsend 2 x\nsend 3 x\nsend 4 x\nsend 5 x\nue 1-5\nrecv 0 y 1\nprint y\n",
+    end: RunEnd::Finished,
+    ranks: &[
+        (End::Finished, &[]),
+        (End::Finished, &[&[9]]),
+        (End::Finished, &[&[9]]),
+        (End::Finished, &[&[9]]),
+        (End::Finished, &[&[9]]),
+        (End::Finished, &[&[9]]),
+    ],
+};
+
+/// A rank that finishes and prints nothing.
+const IDLE: (End, &[&[u8]]) = (End::Finished, &[]);
+
+/// Forty-eight ranks do nothing.
+pub(crate) const ALL_IDLE: &Row<'static> = &Row {
+    script: b"",
+    end: RunEnd::Finished,
+    ranks: &[IDLE; 48],
+};
+
 /// Four ranks print.
 pub(crate) const NO_MESSAGES: &Row<'static> = &Row {
     script: b"all\nbytes x 07\nprint x\n",

@@ -44,6 +44,7 @@ pub(crate) fn chip_with(alloc: Global, setup: &Setup) -> Result<Chip, AllocError
 }
 
 /// How a rank ends, and at which line.
+#[derive(Clone, Copy)]
 pub(crate) enum End {
     Finished,
     Waits(u32),

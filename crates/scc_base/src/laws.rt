@@ -1,9 +1,14 @@
-//! The laws of groups: what their definitions come to, in the words of their users.
+//! The laws of groups, in the words of their users, and the numbers that this crate's definitions stand for.
 
 ghost use Rattle.std.specs.Prelude.{◌≡◌, ◌<◌, ◌≤◌, ◌↔◌, ℕ, List, length, slice_get, Some};
 ghost use Rattle.scc_base.specs.Groups.{members_in, place_in, root_in, size_in};
 ghost use Rattle.scc_base.specs.Communicators.{AreRules, IsGrouped, key_of, rule_of};
 ghost use Rattle.scc_base.specs.declared.communicators.CommRule.{CommRule};
+ghost use Rattle.scc_base.specs.declared.layouts.Layout.TheVariants.{LineFlags, BitFlags};
+ghost use Rattle.scc_base.specs.Heads.{most_message, most_post};
+ghost use Rattle.scc_base.specs.Layouts.{chunk_size};
+ghost use Rattle.scc_base.specs.Numbers.{number_count, register_number};
+ghost use Rattle.scc_base.specs.Places.{first_heap};
 
 /// The places of a group are its own numbers from 0 on, in rank order, and the list of members has each
 /// member at its place.
@@ -31,4 +36,16 @@ pub fn root_law()
 pub fn groups_law()
     ensures law { (comms : List CommRule) → AreRules comms → (comm : ℕ) → comm < 16 → (r q : ℕ) → r < 48 → q < 48
         → (key_of comms comm r ≡ key_of comms comm q) ↔ IsGrouped (rule_of comms comm) (key_of comms) r q }
+{}
+
+/// The numbers of the chip's profile: bytes of the longest message, of the longest post and of a chunk in each layout, the
+/// first heap line, and the words and registers of the chip.
+pub fn numbers_law()
+    ensures message { most_message ≡ 65536 }
+    ensures post { most_post ≡ 3584 }
+    ensures line_chunk { chunk_size LineFlags ≡ 3584 }
+    ensures bit_chunk { chunk_size BitFlags ≡ 6624 }
+    ensures heap { first_heap ≡ 225 }
+    ensures words { number_count ≡ 49200 }
+    ensures register { register_number 47 ≡ 49199 }
 {}

@@ -26,6 +26,7 @@ pub enum Layout {
 impl Layout {
     ghost use Rattle.std.specs.Prelude.{◌≡◌, ◌<◌, ◌↔◌, IsTrue};
     ghost use Rattle.scc_base.specs.declared.layouts.Layout.TheVariants.{LineFlags, BitFlags};
+    ghost use Rattle.scc_base.specs.declared.signals.Signal.TheVariants.{Sent, Ready};
     ghost use Rattle.scc_base.specs.Layouts.{chunk_size, first_chunk, signal_at, gather_at, release_at};
 
     /// The bytes of a chunk with line flags.
@@ -85,6 +86,20 @@ impl Layout {
             Layout::LineFlags => FlagAt::new(signal.first_line() + by.number(), 0, None),
             Layout::BitFlags => FlagAt::new(1, signal.word(), Some(by.number())),
         }
+    }
+
+    /// The flag that a sender raises at the receiver's core when a chunk is in the sender's buffer.
+    pub fn sent(self, from: Rank) -> FlagAt
+        ensures gives { result ≡ signal_at self Sent from }
+    {
+        self.signal(Signal::Sent, from)
+    }
+
+    /// The flag that a receiver raises at the sender's core when it has taken the chunk.
+    pub fn ready(self, by: Rank) -> FlagAt
+        ensures gives { result ≡ signal_at self Ready by }
+    {
+        self.signal(Signal::Ready, by)
     }
 
     /// The gather flag of a communicator, at a member's core: it tells that the member has entered a barrier.

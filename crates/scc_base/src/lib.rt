@@ -24,7 +24,7 @@ pub use communicators::CommRule;
 pub use events::{Access, Event, Spot, Stalled, Turn};
 pub use heads::{Head, PostHead};
 pub use kinds::Kind;
-pub use laws::{groups_law, places_law, root_law};
+pub use laws::{groups_law, numbers_law, places_law, root_law};
 pub use layouts::Layout;
 pub use names::{CoreId, Rank};
 pub use numbers::{NUMBERS, number_of_register, number_of_word, zeros};

@@ -147,7 +147,7 @@ impl Place {
     }
 }
 
-/// Where a flag lies at whichever core holds it: a word of a line, or one bit of such a word.
+/// A flag at any core: a word of a line (a line flag), or one bit of such a word (a bit flag).
 #[derive(Clone, Copy, PartialEq, Eq)]
 pub struct FlagAt {
     line: u8,
@@ -169,8 +169,8 @@ impl Model for FlagAt {
 }
 
 impl FlagAt {
-    ghost use Rattle.std.specs.Prelude.{◌≡◌, ◌<◌, IfSome};
-    ghost use Rattle.scc_base.specs.Places.{IsFlagPlace, flag_word};
+    ghost use Rattle.std.specs.Prelude.{◌≡◌, ◌<◌, ◌≤◌, Some, None, IfSome};
+    ghost use Rattle.scc_base.specs.Places.{IsFlagPlace, first_heap, flag_word};
 
     pub fn new(line: u8, word: u8, bit: Option<u8>) -> FlagAt
         requires word_below { word < 4 }
@@ -180,13 +180,32 @@ impl FlagAt {
         FlagAt { line, word, bit }
     }
 
-    pub fn line(self) -> u8
+    /// The flag that has the buffer's first line for itself: word 0 of that line.
+    pub fn line(buffer: &Buf) -> FlagAt
+        ensures gives { result ≡ record { line = buffer.now.first; word = 0; bit = None } }
+        ensures heap { first_heap ≤ result.line }
+    {
+        FlagAt::new(buffer.first(), 0, None)
+    }
+
+    /// One of the 64 flags that share word 0 of the buffer's first line.
+    pub fn bit(buffer: &Buf, i: u8) -> FlagAt
+        requires below { i < 64 }
+        ensures gives { result ≡ record { line = buffer.now.first; word = 0; bit = Some i } }
+        ensures heap { first_heap ≤ result.line }
+    {
+        FlagAt::new(buffer.first(), 0, Some(i))
+    }
+
+    /// The number of the line in which the flag lies.
+    pub fn line_number(self) -> u8
         ensures gives { result ≡ self.line }
         ensures valid { IsFlagPlace self }
     {
         self.line
     }
 
+    /// The number of its word in that line.
     pub fn word(self) -> u8
         ensures gives { result ≡ self.word }
         ensures valid { IsFlagPlace self }
@@ -194,8 +213,8 @@ impl FlagAt {
         self.word
     }
 
-    /// The bit of its word that the flag is, where it is one.
-    pub fn bit(self) -> Option<u8>
+    /// The number of its bit in that word; None for a flag that is the whole word.
+    pub fn bit_number(self) -> Option<u8>
         ensures gives { result ≡ self.bit }
         ensures below { IfSome result (λ b. b < 64) }
         ensures valid { IsFlagPlace self }

@@ -11,7 +11,7 @@ use scc_base::{Buf, CoreId, FlagAt, Layout, Place, Rank, Spot, Stalled};
 use scc_ports::CountingPort;
 use scc_proto::Port;
 use std::test::Fail;
-use sync_flags::{flag_read, flag_write, heap_bit, heap_flag, wait_until};
+use sync_flags::{Flag, flag_read, flag_write, wait_until};
 
 /// Writes a flag at a rank, by a rank with no message and no barrier under way.
 fn write<P: Port, V: Evict>(
@@ -83,7 +83,7 @@ impl Meeting for WordFlag {
         let Some(buffer) = Buf::new(230, 1) else {
             return false;
         };
-        is_seen(first, second, heap_flag(&buffer), 0)
+        is_seen(first, second, Flag::line(&buffer), 0)
     }
 }
 
@@ -95,7 +95,7 @@ impl Meeting for BitFlag {
         let Some(buffer) = Buf::new(230, 1) else {
             return false;
         };
-        is_seen(first, second, heap_bit(&buffer, 63), 63)
+        is_seen(first, second, Flag::bit(&buffer, 63), 63)
     }
 }
 
@@ -113,7 +113,7 @@ impl Meeting for HeldRegister {
         let Some(buffer) = Buf::new(255, 1) else {
             return false;
         };
-        let flag = heap_bit(&buffer, 5);
+        let flag = Flag::bit(&buffer, 5);
         let (root, register) = (Rank::of(0), CoreId::of(0));
         if !take(first, register) {
             return false;

@@ -73,7 +73,7 @@ fn kinds_have_their_numbers(rt: HostRuntime) {
 type FlagRow = (u8, u8, Option<u8>);
 
 fn stands_at(flag: FlagAt, row: FlagRow) -> bool {
-    flag.line() == row.0 && flag.word() == row.1 && flag.bit() == row.2
+    flag.line_number() == row.0 && flag.word() == row.1 && flag.bit_number() == row.2
 }
 
 // Whether a layout has the flags `sent` and `ready` of ranks in these lines, words and bits.

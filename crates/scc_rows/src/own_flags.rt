@@ -9,7 +9,7 @@ use mpb_alloc::{Heap, MallocFault};
 use put_get::Core;
 use scc_base::{Buf, CoreId, FlagAt, Place, Rank, Spot, Stalled};
 use std::process::Abort;
-use sync_flags::{flag_alloc, flag_free, flag_read, flag_write, heap_bit, heap_flag, wait_until};
+use sync_flags::{Flag, flag_alloc, flag_free, flag_read, flag_write, wait_until};
 
 fn write<R: Abort>(core: &mut Core<Never>, port: &mut ListedPort<'_, R>, f: FlagAt, set: bool)
     requires empty { core.old.out ≡ None }
@@ -54,7 +54,7 @@ fn write_bit<R: Abort>(
     ensures { core.new.out ≡ None }
 {
     let _ = port.setup.nue();
-    flag_write(core, port, Rank::of(0), heap_bit(buffer, bit), true, 2)
+    flag_write(core, port, Rank::of(0), Flag::bit(buffer, bit), true, 2)
 }
 
 // One bit after the other, both of one word.
@@ -72,8 +72,8 @@ fn write_two_bits<R: Abort>(
 {
     let _ = port.setup.nue();
     let me = Rank::of(0);
-    let one = flag_write(core, port, me, heap_bit(buffer, first), true, 2);
-    let other = flag_write(core, port, me, heap_bit(buffer, second), true, 2);
+    let one = flag_write(core, port, me, Flag::bit(buffer, first), true, 2);
+    let other = flag_write(core, port, me, Flag::bit(buffer, second), true, 2);
     one.is_ok() && other.is_ok()
 }
 
@@ -83,7 +83,7 @@ fn a_heap_flag_is_written_and_waited_for(rt: HostRuntime) {
     let mut core = Core::new(Never);
     let mut heap = Heap::new();
     let buffer = flag_alloc(&mut heap).expect(&rt, "a line");
-    let flag = heap_flag(&buffer);
+    let flag = Flag::line(&buffer);
     let set = is_seen(&mut core, &mut port, flag, true, 1, 5);
     let cleared = is_seen(&mut core, &mut port, flag, false, 6, 10);
     assert!(rt; set && cleared && heap.is_out(buffer));
@@ -96,7 +96,7 @@ fn a_wait_stalls_after_its_polls(rt: HostRuntime) {
     let mut port = listed_port(&rt, rt.alloc());
     let mut core = Core::new(Never);
     let buffer = Buf::new(230, 1).expect(&rt, "a line");
-    let stalled = wait_until(&mut core, &mut port, heap_bit(&buffer, 7), true, 3);
+    let stalled = wait_until(&mut core, &mut port, Flag::bit(&buffer, 7), true, 3);
     let place = Place::new(CoreId::of(0), 230, 0);
     assert!(rt; stalls(stalled, Spot::Flag { place, bit: 7 }, 3) && port.events.len() == 12);
 }
@@ -110,7 +110,7 @@ fn is_changed_alone<R: Abort>(port: &mut ListedPort<'_, R>, buffer: &Buf) -> boo
     let written = write_bit(&mut core, port, buffer, 5).is_ok();
     let alone = port.words[20] == 0b1010_0001 && port.events.len() == 7 && !port.taken[0];
     let _ = port.setup.nue();
-    let set = flag_read(&mut core, port, Rank::of(0), heap_bit(buffer, 5));
+    let set = flag_read(&mut core, port, Rank::of(0), Flag::bit(buffer, 5));
     written && alone && set && port.events.len() == 11
 }
 

@@ -117,7 +117,10 @@ pub(crate) fn answer_spot(layout: Layout) -> Spot {
     };
     Spot::Flag {
         place,
-        bit: layout.signal(Signal::Ready, Rank::of(1)).bit().unwrap_or(0),
+        bit: layout
+            .signal(Signal::Ready, Rank::of(1))
+            .bit_number()
+            .unwrap_or(0),
     }
 }
 

@@ -14,3 +14,4 @@ mod words;
 pub use fault::{ReadFault, ReadStop};
 pub use laws::{script_law, version_law};
 pub use reading::{MOST_SCRIPT_BYTES, read_script};
+pub use script_rules::{FaultKind, Form, Item, Peer, Scripts, Stmt, Who};

@@ -5,6 +5,7 @@ mod checks;
 mod effect;
 mod ends;
 mod fault;
+mod laws;
 mod name;
 mod repeats;
 mod run;
@@ -19,6 +20,7 @@ pub use effect::{
 };
 pub use ends::tell_ends;
 pub use fault::FaultKind;
+pub use laws::numbers_law;
 pub use name::Name;
 pub use repeats::{
     MOST_OPEN, Open, innermost, is_stray, is_too_deep, note_repeat, turns_in, turns_too_often,

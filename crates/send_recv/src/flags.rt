@@ -39,12 +39,12 @@ pub(crate) fn look_for<V: Evict, P: Port>(
 {
     let own = own_core(port);
     let flag = layout_of(port).signal(signal, by);
-    if look_flag(core, port, flag.place(own), flag.bit()) {
+    if look_flag(core, port, flag.place(own), flag.bit_number()) {
         None
     } else {
         Some(Spot::Flag {
             place: flag.place(own),
-            bit: flag.bit().unwrap_or(0),
+            bit: flag.bit_number().unwrap_or(0),
         })
     }
 }
@@ -65,7 +65,7 @@ pub(crate) fn lower<V: Evict, P: Port>(
 {
     let own = own_core(port);
     let flag = layout_of(port).signal(signal, by);
-    if change_flag(core, port, flag.place(own), flag.bit(), false) {
+    if change_flag(core, port, flag.place(own), flag.bit_number(), false) {
         None
     } else {
         Some(Spot::Register { core: own })
@@ -89,7 +89,7 @@ pub(crate) fn raise<V: Evict, P: Port>(
 {
     let other = core_of(port, at);
     let flag = layout_of(port).signal(signal, port.rank());
-    if change_flag(core, port, flag.place(other), flag.bit(), true) {
+    if change_flag(core, port, flag.place(other), flag.bit_number(), true) {
         None
     } else {
         Some(Spot::Register { core: other })

@@ -8,13 +8,14 @@ use Rattle.scc_base.specs.declared.kinds.Kind.TheVariants as kind
 use Rattle.scc_proto.specs.Ports.{Seat, Sight, record_in}
 use Rattle.groups.specs.Collectives.{fold_each, head_of_kind, other_steps, root_steps, send_each}
 use Rattle.groups.specs.Folds.{fold_of, fold_values}
+use Rattle.groups.specs.declared.collectives.Coll.{Coll}
 use Rattle.groups.specs.declared.collectives.Coll.TheVariants.{Bcast, Reduce, Allreduce}
 use Rattle.groups.specs.declared.collectives.Step.{Step}
 use Rattle.groups.specs.declared.collectives.Step.TheVariants.{Begin, Finish}
-use Rattle.station.specs.Groups.{HasRunGroup, in_group_call, new_group, part_in, start_at, steps_at}
+use Rattle.station.specs.Groups.{GroupRank, GroupStart, HasRunGroup, IsSameCall, in_group_call, new_group, part_in, start_at, steps_at}
 use Rattle.station.specs.Stations.{StationAt}
 use Rattle.station.specs.declared.steps.GroupOp.{GroupOp}
-use Rattle.station.specs.Reductions.{AllreduceBy, AllreduceDoes, GainsCalls, GroupCall, ReduceBy, ReduceDoes, bcast_by, bcast_calls, group_call, is_root_of, other_ranks, receives_from, root_rank, sends_to}
+use Rattle.station.specs.Reductions.{AllreduceBy, AllreduceDoes, GainsCalls, GainsSince, GroupCall, ReduceBy, ReduceDoes, bcast_by, bcast_calls, group_call, is_root_of, other_ranks, receives_from, root_rank, sends_to}
 use Rattle.station.specs.Steps.{Held, GroupPart, StepsDo, part_by}
 use Rattle.station.specs.declared.steps.Folding.{Folding}
 
@@ -78,15 +79,15 @@ folds_do how input head (x ∷ xs) old new calls did =
 abbrev steps_by : Bool → GroupCall → List Step
 steps_by root c = cond root (root_steps c.coll (other_ranks c)) (other_steps c.coll (root_rank c))
 
-pub bcast_does : (root : Bool) (seat : Seat) (comm place len : ℕ) (old new : Held) (calls : List DataCall)
-    → StepsDo (part_by root None []) (steps_by root (group_call seat (Bcast comm place len) [])) old new calls
+pub bcast_does : (root : Bool) (input : List ℕ) (seat : Seat) (comm place len : ℕ) (old new : Held) (calls : List DataCall)
+    → StepsDo (part_by root None input) (steps_by root (group_call seat (Bcast comm place len) [])) old new calls
     → (calls ≡ bcast_by root (group_call seat (Bcast comm place len) []) new.output) × (root ≡ true → new ≡ old)
-bcast_does true seat comm place len old new calls did =
+bcast_does true input seat comm place len old new calls did =
     let c = group_call seat (Bcast comm place len) [] in
     let head = head_of_kind kind.Bcast comm len in
-    let done = sends_do None [] head (other_ranks c) old new calls did in
+    let done = sends_do None input head (other_ranks c) old new calls did in
     (done.1 ∙ ap (λ (h : Held). sends_to head h.output (other_ranks c)) (sym done.0), λ is. done.0)
-bcast_does false seat comm place len old new calls did =
+bcast_does false input seat comm place len old new calls did =
     let c = group_call seat (Bcast comm place len) [] in
     let head = head_of_kind kind.Bcast comm len in
     let got = did.3 in
@@ -172,36 +173,76 @@ allreduce_does false how seat comm len input old new calls did =
 
 -- ---- at a rank
 
-module _ (s t : Sight) (b : StationAt) (input : List ℕ) (old new : Held) (seat : t.seat ≡ s.seat) where
-  run_at : (op : GroupOp) (run : HasRunGroup (start_at s old) (in_group_call t b op input new)) → StepsDo (part_in s.seat op input) (steps_at s.seat op) old new run.run.calls
-  run_at op run = subst (λ (x : Seat). StepsDo (part_in x op input) (steps_at x op) old new run.run.calls) seat run.run.did
+module _ (start : GroupStart) (r : GroupRank) where
+  run_by : (coll : Coll) (folding : Option Folding) → IsSameCall (new_group coll folding) r.op → (run : HasRunGroup start r)
+      → StepsDo (part_in r.sight.seat (new_group coll folding) r.input) (steps_at r.sight.seat (new_group coll folding)) start.held r.held run.run.calls
+  run_by coll folding same run =
+      let seat = r.sight.seat in
+      subst (λ (f : Option Folding). StepsDo (part_in seat (new_group coll f) r.input) (steps_at seat (new_group coll f)) start.held r.held run.run.calls) same.folding
+      (subst (λ (x : Coll). StepsDo (part_in seat (new_group x r.op.folding) r.input) (steps_at seat (new_group x r.op.folding)) start.held r.held run.run.calls) same.coll run.run.did)
 
-  pub reduced_at : (how : Folding) (comm place len : ℕ) → HasRunGroup (start_at s old) (in_group_call t b (new_group (Reduce comm place len) (Some how)) input new)
+  pub same_run : (op : GroupOp) → IsSameCall op r.op → HasRunGroup start r → HasRunGroup start (record r { op = op })
+  same_run op same run = record {
+    run = record {
+      calls = run.run.calls;
+      did = run_by op.coll op.folding (record { coll = same.coll; folding = same.folding }) run;
+      made = run.run.made;
+    };
+    free = run.free;
+  }
+
+  pub reduced_run : (how : Folding) (comm place len : ℕ) → IsSameCall (new_group (Reduce comm place len) (Some how)) r.op → HasRunGroup start r
+      → GainsSince start r.sight (λ calls. ReduceDoes how (group_call r.sight.seat (Reduce comm place len) r.input) start.held r.held calls)
+  reduced_run how comm place len same run = (
+    run.run.calls,
+    run.run.made,
+    reduce_does (is_root_of (group_call r.sight.seat (Reduce comm place len) r.input)) how r.sight.seat comm place len r.input start.held r.held run.run.calls
+        (run_by (Reduce comm place len) (Some how) same run),
+  )
+
+  pub allreduced_run : (how : Folding) (comm len : ℕ) → IsSameCall (new_group (Allreduce comm len) (Some how)) r.op → HasRunGroup start r
+      → GainsSince start r.sight (λ calls. AllreduceDoes how (group_call r.sight.seat (Allreduce comm len) r.input) start.held r.held calls)
+  allreduced_run how comm len same run = (
+    run.run.calls,
+    run.run.made,
+    allreduce_does (is_root_of (group_call r.sight.seat (Allreduce comm len) r.input)) how r.sight.seat comm len r.input start.held r.held run.run.calls
+        (run_by (Allreduce comm len) (Some how) same run),
+  )
+
+  module _ (comm place len : ℕ) (same : IsSameCall (new_group (Bcast comm place len) None) r.op) (run : HasRunGroup start r) where
+    bcast_run : (run.run.calls ≡ bcast_calls (group_call r.sight.seat (Bcast comm place len) []) r.held.output)
+        × (is_root_of (group_call r.sight.seat (Bcast comm place len) []) ≡ true → r.held ≡ start.held)
+    bcast_run = bcast_does (is_root_of (group_call r.sight.seat (Bcast comm place len) [])) r.input r.sight.seat comm place len start.held r.held run.run.calls
+        (run_by (Bcast comm place len) None same run)
+
+    pub bcast_calls_run : (record_in r.sight).calls ≡ start.calls ++ bcast_calls (group_call r.sight.seat (Bcast comm place len) []) r.held.output
+    bcast_calls_run = run.run.made ∙ ap (λ (l : List DataCall). start.calls ++ l) bcast_run.0
+
+    pub bcast_kept_run : is_root_of (group_call r.sight.seat (Bcast comm place len) []) ≡ true → r.held ≡ start.held
+    bcast_kept_run is = bcast_run.1 is
+
+-- ---- at a rank whose call ended at once
+
+module _ (s t : Sight) (b : StationAt) (old new : Held) (seat : t.seat ≡ s.seat) where
+  pub reduced_at : (input : List ℕ) (how : Folding) (comm place len : ℕ)
+      → HasRunGroup (start_at s old) (in_group_call t b (new_group (Reduce comm place len) (Some how)) input new)
       → GainsCalls s t (λ calls. ReduceDoes how (group_call s.seat (Reduce comm place len) input) old new calls)
-  reduced_at how comm place len run = (
-    run.run.calls,
-    run.run.made,
-    reduce_does (is_root_of (group_call s.seat (Reduce comm place len) input)) how s.seat comm place len input old new run.run.calls
-        (run_at (new_group (Reduce comm place len) (Some how)) run),
-  )
+  reduced_at input how comm place len run =
+      subst (λ (x : Seat). GainsCalls s t (λ calls. ReduceDoes how (group_call x (Reduce comm place len) input) old new calls)) seat
+      (reduced_run (start_at s old) _ how comm place len (record { coll = refl; folding = refl }) run)
 
-  pub allreduced_at : (how : Folding) (comm len : ℕ) → HasRunGroup (start_at s old) (in_group_call t b (new_group (Allreduce comm len) (Some how)) input new)
+  pub allreduced_at : (input : List ℕ) (how : Folding) (comm len : ℕ)
+      → HasRunGroup (start_at s old) (in_group_call t b (new_group (Allreduce comm len) (Some how)) input new)
       → GainsCalls s t (λ calls. AllreduceDoes how (group_call s.seat (Allreduce comm len) input) old new calls)
-  allreduced_at how comm len run = (
-    run.run.calls,
-    run.run.made,
-    allreduce_does (is_root_of (group_call s.seat (Allreduce comm len) input)) how s.seat comm len input old new run.run.calls
-        (run_at (new_group (Allreduce comm len) (Some how)) run),
-  )
+  allreduced_at input how comm len run =
+      subst (λ (x : Seat). GainsCalls s t (λ calls. AllreduceDoes how (group_call x (Allreduce comm len) input) old new calls)) seat
+      (allreduced_run (start_at s old) _ how comm len (record { coll = refl; folding = refl }) run)
 
-module _ (s t : Sight) (b : StationAt) (old new : Held) (comm place len : ℕ) (seat : t.seat ≡ s.seat)
-    (run : HasRunGroup (start_at s old) (in_group_call t b (new_group (Bcast comm place len) None) [] new)) where
-  bcast_at : (run.run.calls ≡ bcast_calls (group_call s.seat (Bcast comm place len) []) new.output) × (is_root_of (group_call s.seat (Bcast comm place len) []) ≡ true → new ≡ old)
-  bcast_at = bcast_does (is_root_of (group_call s.seat (Bcast comm place len) [])) s.seat comm place len old new run.run.calls
-      (run_at s t b [] old new seat (new_group (Bcast comm place len) None) run)
+  module _ (comm place len : ℕ) (run : HasRunGroup (start_at s old) (in_group_call t b (new_group (Bcast comm place len) None) [] new)) where
+    pub bcast_made : (record_in t).calls ≡ (record_in s).calls ++ bcast_calls (group_call s.seat (Bcast comm place len) []) new.output
+    bcast_made = subst (λ (x : Seat). (record_in t).calls ≡ (record_in s).calls ++ bcast_calls (group_call x (Bcast comm place len) []) new.output) seat
+        (bcast_calls_run (start_at s old) _ comm place len (record { coll = refl; folding = refl }) run)
 
-  pub bcast_made : (record_in t).calls ≡ (record_in s).calls ++ bcast_calls (group_call s.seat (Bcast comm place len) []) new.output
-  bcast_made = run.run.made ∙ ap (λ (l : List DataCall). (record_in s).calls ++ l) bcast_at.0
-
-  pub bcast_kept : is_root_of (group_call s.seat (Bcast comm place len) []) ≡ true → new.output ≡ old.output
-  bcast_kept is = ap (λ (h : Held). h.output) (bcast_at.1 is)
+    pub bcast_kept : is_root_of (group_call s.seat (Bcast comm place len) []) ≡ true → new.output ≡ old.output
+    bcast_kept = subst (λ (x : Seat). is_root_of (group_call x (Bcast comm place len) []) ≡ true → new.output ≡ old.output) seat
+        (λ is. ap (λ (h : Held). h.output) (bcast_kept_run (start_at s old) _ comm place len (record { coll = refl; folding = refl }) run is))

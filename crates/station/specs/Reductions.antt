@@ -10,6 +10,7 @@ use Rattle.scc_proto.specs.Ports.{Seat, Sight, record_in}
 use Rattle.groups.specs.Collectives.{comm_of, head_of_kind, len_of, others_of, root_place}
 use Rattle.groups.specs.Folds.{fold_of}
 use Rattle.groups.specs.declared.collectives.Coll.{Coll}
+use Rattle.station.specs.Groups.{GroupStart}
 use Rattle.station.specs.Steps.{Held}
 use Rattle.station.specs.declared.steps.Folding.{Folding}
 
@@ -48,6 +49,10 @@ receives_from head (r ∷ from) (bytes ∷ pieces) = CallRecv r head bytes ∷ r
 -- the record has gained calls of which this holds
 abbrev pub GainsCalls : Sight → Sight → (List DataCall → Type 0) → Type 0
 GainsCalls s t Holds = (calls : List DataCall) × ((record_in t).calls ≡ (record_in s).calls ++ calls) × Holds calls
+
+-- the record has gained calls since the call began, of which this holds
+abbrev pub GainsSince : GroupStart → Sight → (List DataCall → Type 0) → Type 0
+GainsSince start t Holds = (calls : List DataCall) × ((record_in t).calls ≡ start.calls ++ calls) × Holds calls
 
 -- the messages of a broadcast of these bytes, at the root and at another rank
 abbrev pub bcast_by : Bool → GroupCall → List ℕ → List DataCall

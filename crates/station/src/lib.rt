@@ -16,7 +16,7 @@ mod steps;
 mod stops;
 mod texts;
 
-pub use laws::{bcast_law, other_port_law};
+pub use laws::{bcast_law, group_law, other_port_law};
 pub use stations::Station;
 pub use steps::{Folding, GroupOp, Hand};
 pub use stops::{

@@ -47,6 +47,9 @@ impl<V: Evict> Station<V> {
         ensures free { (s : Sight) → s.events ≡ [] → NoCallOpen s result }
         ensures heap { result.heap ≡ all_free }
         ensures polls { result.polls ≡ 1000000 }
+        ensures evictor { result.core.answers ≡ V.answers evict }
+        ensures counts { (result.core.evictions ≡ V.count evict) × (result.core.asked ≡ V.asked evict) }
+        ensures empty { result.core.lines ≡ [] }
     {
         Station {
             core: Core::new(evict),

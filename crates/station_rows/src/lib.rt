@@ -1,5 +1,7 @@
-//! Tests of a station's broadcasts and reductions. There is no other code.
+//! Tests of a station's broadcasts and reductions, and of what its stops print. There is no other code.
 #![tactic(auto)]
 
 #[cfg(test)]
 mod groups_of_three;
+#[cfg(test)]
+mod stop_texts;

@@ -1,32 +1,14 @@
 //! Flags and their lines of the heap.
 
 ghost use Rattle.std.specs.Prelude.{◌≡◌, ◌<◌, ◌≤◌, ◌++◌, ◌↔◌, [], ◌∷◌, Some, None, IsErr, IfOk, IfSome, OnOk, OnErr, Contains};
-ghost use Rattle.scc_base.specs.Places.{first_heap};
 ghost use Rattle.mpb_alloc.specs.Heaps.{run_of_lines, answer_for, lines_in_runs, taken_from, given_back, without_buffer, IsHeap};
 ghost use Rattle.sync_flags.specs.Flags.{is_set_in, spot_of_flag};
 
 use mpb_alloc::{Heap, MallocFault};
-use scc_base::{Buf, FlagAt, Place, Spot};
+use scc_base::{Buf, Place, Spot};
 
 /// The bytes of the line that a flag takes.
 const FLAG_BYTES: usize = 32;
-
-/// The flag that has the buffer's first line for itself.
-pub fn heap_flag(buffer: &Buf) -> FlagAt
-    ensures gives { result ≡ record { line = buffer.now.first; word = 0; bit = None } }
-    ensures heap { first_heap ≤ result.line }
-{
-    FlagAt::new(buffer.first(), 0, None)
-}
-
-/// One of the 64 flags that share the buffer's first line.
-pub fn heap_bit(buffer: &Buf, i: u8) -> FlagAt
-    requires below { i < 64 }
-    ensures gives { result ≡ record { line = buffer.now.first; word = 0; bit = Some i } }
-    ensures heap { first_heap ≤ result.line }
-{
-    FlagAt::new(buffer.first(), 0, Some(i))
-}
 
 /// What a call waits at that waits for the flag that is this word, or this bit of it.
 pub(crate) fn spot_of_flag(place: Place, bit: Option<u8>) -> Spot

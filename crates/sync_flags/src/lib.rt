@@ -6,7 +6,8 @@ mod laws;
 mod looks;
 mod writes;
 
-pub use flags::{flag_alloc, flag_free, heap_bit, heap_flag};
+pub use flags::{flag_alloc, flag_free};
 pub use laws::{heap_law, tries_law};
 pub use looks::{flag_read, look_flag, look_word, wait_until};
+pub use scc_base::FlagAt as Flag;
 pub use writes::{change_flag, flag_write, store_word};

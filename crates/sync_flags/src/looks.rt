@@ -52,7 +52,7 @@ pub fn flag_read<V: Evict, P: Port>(core: &mut Core<V>, port: &mut P, at: Rank, 
     ensures steps { MadeSteps P.stepped (P.sight port.old) (P.sight port.new) }
 {
     let place = f.place(port.setup().core_of(at));
-    look_flag(core, port, place, f.bit())
+    look_flag(core, port, place, f.bit_number())
 }
 
 /// Looks at a flag of the own rank until it is as wanted, at most `polls` times.
@@ -80,7 +80,7 @@ pub fn wait_until<V: Evict, P: Port>(
         }
     }
     Err(Stalled {
-        spot: spot_of_flag(place, f.bit()),
+        spot: spot_of_flag(place, f.bit_number()),
         polls,
     })
 }

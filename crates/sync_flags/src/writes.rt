@@ -164,7 +164,7 @@ pub fn flag_write<V: Evict, P: Port>(
     ensures empty { core.new.out ≡ None }
 {
     let place = f.place(port.setup().core_of(at));
-    match f.bit() {
+    match f.bit_number() {
         None => {
             store_word(core, port, place, flag_value(set));
             Ok(())

@@ -36,9 +36,11 @@ pub fn rccetrace<F: Files, O: Sink, E: Sink>(
     ensures judges { length words.now ≤ 2 → JudgesWords (map string_bytes words.now) (F.seen files.old) (F.seen files.new)
         (sinks (O.seen out.old) (E.seen err.old)) (sinks (O.seen out.new) (E.seen err.new)) result }
     ensures none { length words.now ≤ 2 → chip.new ≡ None }
-    // And status 0: the file has the text of a legal trace. Each message that its chip delivered was whole, once and in order.
+    // And status 0: what was read of the file is the text of a legal trace, with no fault of the files, and its calls are printed.
+    // Each message that its chip delivered was whole, once and in order. (If the files tell their contents, the text is the file's.)
     ensures whole { length words.now ≤ 2 → result ≡ TraceEnd.Ended Finished
-        → NamesLegal (map string_bytes words.now) (F.seen files.old).told }
+        → NamesLegal (map string_bytes words.now) (F.seen files.old) (F.seen files.new)
+        (sinks (O.seen out.old) (E.seen err.old)) (sinks (O.seen out.new) (E.seen err.new)) }
     // More words: by rank the events written are exactly those of the chip's record, in order; all together are a run from the
     // blank memory, each permitted when it is made; err and the status are those of the launcher's definition.
     ensures traces { 2 < length words.now → ∥ TracesWords (map string_bytes words.now) (F.seen files.old) (F.seen files.new) chip.new

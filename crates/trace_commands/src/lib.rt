@@ -2,5 +2,7 @@
 #![tactic(auto)]
 
 mod launcher;
+mod laws;
 
 pub use launcher::rccetrace;
+pub use laws::refusal_law;

@@ -36,8 +36,11 @@ pub fn rccetrace<F: Files, O: Sink, E: Sink>(
 ) -> Status
     ensures promises { Promises rccetrace (map string_bytes words.now) (F.seen files.old) (F.seen files.new)
         (sinks (O.seen out.old) (E.seen err.old)) (sinks (O.seen out.new) (E.seen err.new)) result }
-    // Status 0: the file has the text of a legal trace. Each message that its chip delivered was whole, once and in order.
-    ensures legal { result ≡ Status.Finished → NamesLegal (map string_bytes words.now) (F.seen files.old).told }
+    // Status 0: what was read of the file is the text of a legal trace, with no fault of the files, and its calls are printed. Each
+    // message that its chip delivered was whole, once and in order. So it is whether the files tell their contents or not; if they
+    // do, the text is the file's.
+    ensures legal { result ≡ Status.Finished → NamesLegal (map string_bytes words.now) (F.seen files.old) (F.seen files.new)
+        (sinks (O.seen out.old) (E.seen err.old)) (sinks (O.seen out.new) (E.seen err.new)) }
 {
     let ending = run_words(alloc, words, files);
     deliver("rccetrace", ending, out, err)

@@ -1,6 +1,6 @@
 -- What a witness has seen, behind one event more, and from a chip to a port and back.
 use Rattle.std.proofs.Common.{◌≡◌, ◌≢◌, ℕ, ◌<◌, ◌==◌, None, Bool, true, false, if◌then◌else◌, List, [], ◌∷◌, ◌++◌, append-nil, refl, sym, ◌∙◌, ap, subst}
-use Rattle.std.proofs.Math.Logic.{∥∥₁_map}
+use Rattle.std.proofs.Math.Logic.{∥∥₁_elim, ∥∥₁_map, ∥∥₁_prop}
 use Rattle.scc_base.specs.Setups.{SetupView}
 use Rattle.scc_base.specs.declared.events.Event.{Event}
 use Rattle.scc_proto.specs.Histories.{events_of}
@@ -11,7 +11,7 @@ use Rattle.scc_mesh.specs.Scenes.{ChipView, about_in, events_in, home_in, sight_
 use Rattle.chip_run.specs.Conducts.{Conduct}
 use Rattle.scc_mesh.specs.SeatViews.{SeatView, list_at, list_or_none, without}
 use Rattle.scc_mesh.proofs.ViewLemmas.{known_there}
-use Rattle.trace_run.specs.Seen.{HasSeen, HasSeenAll, ToldAll, ToldAt}
+use Rattle.trace_run.specs.Seen.{HasSeen, HasSeenAll, StillWanted, ToldAll, ToldAt}
 
 -- ---- the events of one rank
 
@@ -117,3 +117,23 @@ pub tied_lent : {A : Type 0} (c : Conduct A) (chip old : ChipView) (r at : ℕ) 
 tied_lent c chip old r at w same here ties =
     subst (λ (y : ChipView). c.tied w (about_in y) at (events_in y at)) (sym same)
     (subst (λ (k : ℕ). c.tied w (about_in chip) k (events_in chip k)) (sym here) ties)
+
+-- ---- after which events a witness wanted to be told more
+
+pub still_first : (before : List RankEvent → Type 0) → StillWanted before before
+still_first before = ∣ (λ run was. was) ∣₁
+
+pub still_on : (before mid after : List RankEvent → Type 0) → StillWanted before mid → ((run : List RankEvent) → mid run → after run) → StillWanted before after
+still_on before mid after one two = ∥∥₁_map one (λ f run was. two run (f run was))
+
+pub still_both : (before mid after : List RankEvent → Type 0) → StillWanted before mid → StillWanted mid after → StillWanted before after
+still_both before mid after one two = ∥∥₁_elim two ∥∥₁_prop (λ f. still_on before mid after one f)
+
+-- a witness that wanted to be told more after the events of a chip still is said to have
+pub told_still : (before after : List RankEvent → Type 0) (chip : ChipView) → StillWanted before after → ∥ ToldAll before chip ∥₁ → ∥ ToldAll after chip ∥₁
+told_still before after chip still told =
+    ∥∥₁_elim still ∥∥₁_prop (λ f. ∥∥₁_map told (λ all. record { run = all.run; noted = f all.run all.noted; each = all.each }))
+
+-- one that listens wants more after all that it was told
+pub told_wanted : (noted wanted : List RankEvent → Type 0) (chip : ChipView) → ((run : List RankEvent) → noted run → wanted run) → ∥ ToldAll noted chip ∥₁ → ∥ ToldAll wanted chip ∥₁
+told_wanted noted wanted chip f told = ∥∥₁_map told (λ all. record { run = all.run; noted = f all.run all.noted; each = all.each })

@@ -1,5 +1,5 @@
 -- What a witness has seen of a run (this project's profile).
-use Rattle.std.specs.Prelude.{◌≡◌, ◌≢◌, ℕ, List}
+use Rattle.std.specs.Prelude.{◌≡◌, ◌≢◌, ℕ, List, []}
 use Rattle.scc_base.specs.Setups.{SetupView}
 use Rattle.scc_proto.specs.Histories.{events_of}
 use Rattle.scc_proto.specs.Ports.{Sight}
@@ -32,3 +32,11 @@ pub record HasSeenAll (s : SetupView) (told : List RankEvent → Type 0) (chip :
 pub record HasSeen (s : SetupView) (told : List RankEvent → Type 0) (sight : Sight) : Type 0 where
   pub setup_is : s ≡ sight.seat.setup
   pub seen : ∥ ToldAt told sight ∥₁
+
+-- nothing was told
+abbrev pub nothing_told : List RankEvent → Type 0
+nothing_told run = run ≡ []
+
+-- after each list of events after which more was wanted before, it still is said to have been
+abbrev pub StillWanted : (List RankEvent → Type 0) → (List RankEvent → Type 0) → Type 0
+StillWanted before after = ∥ ((run : List RankEvent) → before run → after run) ∥₁

@@ -5,7 +5,7 @@ ghost use Rattle.std.specs.List.{range_with_len};
 ghost use Rattle.rand_pcg.specs.Pcg.{pcg32};
 ghost use Rattle.chip_run.specs.Crews.{CrewStands, IsCrew, OneTurn, SweepStands};
 ghost use Rattle.chip_run.specs.Orders.{TurnsOf, generator_after, named_ranks};
-ghost use Rattle.trace_run.specs.Seen.{HasSeenAll};
+ghost use Rattle.trace_run.specs.Seen.{HasSeenAll, StillWanted};
 
 use crate::turns::turn_at_home;
 use crate::witnesses::Witness;
@@ -30,6 +30,7 @@ fn turn_at<W: Worker, N: Witness>(
     requires seen { HasSeenAll (N.setup witness) (N.noted witness) chip.old }
     ensures turned { OneTurn W.conduct chip.old crew.old at chip.new crew.new result.0 }
     ensures seen { HasSeenAll (N.setup result.1) (N.noted result.1) chip.new }
+    ensures wanted { StillWanted (N.wanted_after witness) (N.wanted_after result.1) }
 {
     chip.known();
     turn_at_home(chip, Rank::of(at as u8), &mut crew[at], witness)
@@ -42,6 +43,7 @@ pub(crate) fn sweep<W: Worker, N: Witness>(chip: &mut Chip, crew: &mut [W], witn
     ensures swept { SweepStands W.conduct result.0 (length crew.old) chip.old crew.old chip.new crew.new }
     ensures order { TurnsOf W.conduct (range_with_len 0 (length crew.old)) chip.old crew.old chip.new crew.new }
     ensures seen { HasSeenAll (N.setup result.1) (N.noted result.1) chip.new }
+    ensures wanted { StillWanted (N.wanted_after witness) (N.wanted_after result.1) }
 {
     let mut witness = witness;
     let mut so_far = Rest::Finished;
@@ -68,6 +70,7 @@ pub(crate) fn round<W: Worker, N: Witness>(
         chip.new crew.new }
     ensures stands { CrewStands W.conduct chip.old crew.old chip.new crew.new }
     ensures seen { HasSeenAll (N.setup result) (N.noted result) chip.new }
+    ensures wanted { StillWanted (N.wanted_after witness) (N.wanted_after result) }
 {
     let ranks = chip.setup().nue() as usize;
     let mut witness = witness;

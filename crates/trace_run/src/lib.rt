@@ -7,6 +7,6 @@ mod runs;
 mod turns;
 mod witnesses;
 
-pub use ports::WitnessedPort;
+pub use ports::{Before, WitnessedPort};
 pub use runs::{SeenRun, run_seen};
 pub use witnesses::Witness;

@@ -22,7 +22,7 @@ pub struct SeenRun<N: Drop> {
 }
 
 /// Runs the workers of a chip on one thread, in the order that a generator with this seed names, until a sweep in which none
-/// moves. The witness is told each event as it is made. Where it does not want to be told more, the run ends with the round.
+/// moves. The witness is told each event as it is made. Where it does not want to be told more, no round is begun.
 /// No memory is taken.
 pub fn run_seen<W: Worker, N: Witness + Drop>(
     chip: &mut Chip,
@@ -37,13 +37,16 @@ pub fn run_seen<W: Worker, N: Witness + Drop>(
     ensures stands { CrewStands W.conduct chip.old crew.old chip.new crew.new }
     // The witness was told the events of the chip: those of each rank in order, and all in one order.
     ensures seen { HasSeenAll (N.setup result.witness) (N.noted result.witness) chip.new }
-    // Each worker rests, as in any run on one thread; or the witness did not want to be told more.
-    ensures ends { RunsBy W.conduct (N.listens result.witness) seed result.end chip.old crew.old chip.new crew.new }
+    // Each worker rests, as in any run on one thread; or the witness did not want to be told more. At the start of each round
+    // it did.
+    ensures ends { RunsBy W.conduct (N.listens result.witness) (N.wanted_after result.witness) seed result.end chip.old crew.old
+        chip.new crew.new }
 {
     let mut witness = witness;
     let mut picks = Pcg32::seed_from_u64(seed);
     loop {
-        if !witness.listens() {
+        let listens = witness.listens();
+        if !listens {
             return SeenRun { witness, end: None };
         }
         witness = round(chip, crew, &mut picks, witness);

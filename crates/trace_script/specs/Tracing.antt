@@ -5,7 +5,7 @@ use Rattle.rcce_io.specs.Sending.{CutShort, Sends, SinkView, joined_texts, with_
 use Rattle.rcce_io.specs.declared.writing.WriteFault.{WriteFault}
 use Rattle.scc_proto.specs.Histories.{events_of}
 use Rattle.scc_proto.specs.Words.{RankEvent}
-use Rattle.scc_mesh.specs.Scenes.{ChipView, IsWhole, about_in, events_in}
+use Rattle.scc_mesh.specs.Scenes.{ChipView, IsNew, IsWhole, about_in, events_in}
 use Rattle.outcomes.specs.Coming.{IsMeant}
 use Rattle.outcomes.specs.Complaints.{complaint_outcome}
 use Rattle.outcomes.specs.Delivery.{Delivers, Sinks}
@@ -15,15 +15,20 @@ use Rattle.outcomes.specs.declared.status.Status.{Status}
 use Rattle.outcomes.specs.declared.status.Status.TheVariants as status
 use Rattle.rcce_words.specs.CommandLine.{parse_command}
 use Rattle.run_program.specs.Asking.{WordsAskFor, asked_ran}
+use Rattle.run_program.specs.Evictors.{HaveEvictors}
 use Rattle.run_program.specs.History.{Asked, HasRun}
 use Rattle.run_program.specs.Program.{rccerun}
 use Rattle.chip_run.specs.declared.ends.RunEnd.{RunEnd}
 use Rattle.chip_run.specs.declared.members.Member.{Member}
+use Rattle.chip_run.specs.declared.runs.Mode.TheVariants as mode
+use Rattle.chip_run.specs.Runs.{InOrder}
+use Rattle.rcce_run.specs.UeRuns.{AreFresh, ue_members}
 use Rattle.rcce_ue.specs.Ues.{UeView}
 use Rattle.run_program.specs.Runs.{IsOver}
 use Rattle.trace_judge.specs.declared.judge.Refusal.{Refusal}
 use Rattle.trace_writer.specs.Desks.{IsLegalRun, WasCutShort, WasRefused}
 use Rattle.trace_writer.specs.Lines.{trace_text}
+use Rattle.trace_writer.specs.Writing.{KeepsUp}
 use Rattle.trace_writer.specs.declared.desks.TraceFault.{TraceFault}
 use Rattle.trace_writer.specs.declared.desks.TraceFault.TheVariants as fault
 use Rattle.trace_script.specs.declared.endings.TraceEnd.{TraceEnd}
@@ -56,24 +61,44 @@ pub record WasTraced (asked : Asked) (chip : ChipView) (before after : Sinks) (s
   pub history : HasRun (one_thread asked) chip
   pub delivers : Delivers (run_outcome (traced_ran asked run)) before after s
 
--- out did not take the trace of a legal front of the chip's events whole, and nothing was written behind it
+-- Turns of a run on one thread left this chip, which need not have come to its end. The run began as any run does (`WasRun`): on a
+-- chip just opened, with members before their first turn, whose cores answered as the evictors of the job's seed do; and the turns
+-- of each round were those of the ranks that the seed named. Before each round, the last one included, no write had failed: the
+-- events that the chip had then are a front of those that were written.
+pub record WasRunInPart (asked : Asked) (chip : ChipView) (written : List RankEvent) : Type 0 where
+  pub first : ChipView
+  pub crew : List (Member UeView)
+  pub later : List (Member UeView)
+  pub new : IsNew asked.setup first
+  pub fresh : AreFresh asked.script asked.setup asked.setup.nue crew
+  pub evictors : HaveEvictors asked.job.evict crew
+  pub order : InOrder ue_members (mode.Serial (unwrap_or asked.job.serial 0)) first crew chip later
+  pub keeps : KeepsUp ue_members (unwrap_or asked.job.serial 0) first crew chip later written
+
+-- Out did not take the trace of a legal front of the chip's events whole, and nothing was written behind it. The chip is that of a
+-- part of the run, which ended with the round in which the write failed.
 pub record WasCutOff (asked : Asked) (chip : ChipView) (before after : Sinks) : Type 0 where
   pub run : List RankEvent
   pub events : AreChipEvents asked chip run
-  pub cut : WasCutShort asked.setup before.out after.out run
+  pub written : List RankEvent
+  pub cut : WasCutShort asked.setup before.out after.out written run
+  pub turns : WasRunInPart asked chip written
   pub none : after.err ≡ before.err
 
 -- the line of an event that the judge refused
 abbrev pub refused_line : ℕ → List ℕ
 refused_line rank = joined_texts (codes "rccetrace: an event of ue " ∷ decimal rank ∷ codes " is not legal\n" ∷ [])
 
--- the judge refused the event behind a legal front of the chip's events, whose trace was written
+-- The judge refused the event behind a legal front of the chip's events, whose trace was written. The chip is that of a part of the
+-- run, which ended with the round of this event.
 pub record WasBroken (asked : Asked) (chip : ChipView) (before after : Sinks) : Type 0 where
   pub run : List RankEvent
   pub events : AreChipEvents asked chip run
   pub rank : ℕ
   pub why : Refusal
-  pub refused : WasRefused asked.setup rank why before.out [] after.out run
+  pub written : List RankEvent
+  pub refused : WasRefused asked.setup rank why before.out [] after.out written run
+  pub turns : WasRunInPart asked chip written
   pub answer : Result (Unit {0}) WriteFault
   pub said : Sends (refused_line rank) before.err after.err answer
 

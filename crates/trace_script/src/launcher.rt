@@ -11,7 +11,7 @@ ghost use Rattle.run_program.specs.Evictors.{HaveEvictors};
 ghost use Rattle.run_program.specs.Loading.{asked_by};
 ghost use Rattle.run_program.specs.Runs.{HaveEnded, HaveSent, IsMadeOf};
 ghost use Rattle.trace_writer.specs.Writing.{HasTrace};
-ghost use Rattle.trace_script.specs.Tracing.{IsTracedOver, StandsTraced, TellsEnd, TellsFault, TracesLoaded, TracesRun, TracesWords, refused_line};
+ghost use Rattle.trace_script.specs.Tracing.{IsTracedOver, StandsTraced, TellsEnd, TellsFault, TracesLoaded, TracesRun, TracesWords, WasRunInPart, refused_line};
 
 use crate::endings::TraceEnd;
 use chip_run::RunEnd;
@@ -32,7 +32,7 @@ use trace_writer::{TraceFault, write_run};
 ///
 /// The checks go in the launcher's order. Memory is taken for the host file, the script, the units of execution, the judge, and
 /// last for the chip's words; none is taken once the run begins. A sink that fails is not written to again, nor is the other one,
-/// and the run ends with the round.
+/// and no round begins after that.
 pub fn trace_script<F: Files, O: Sink, E: Sink>(
     alloc: Global,
     words: &[String],
@@ -43,7 +43,8 @@ pub fn trace_script<F: Files, O: Sink, E: Sink>(
 ) -> TraceEnd
     requires blank { chip.old ≡ None }
     // By rank the events written are exactly those of the chip's record, in order; all together are a run from the blank memory,
-    // each permitted when it is made; err and the status are those of the launcher's definition for the same words.
+    // each permitted when it is made; err and the status are those of the launcher's definition for the same words. Where out
+    // fails, the chip's events are those of a part of the run, which ended with the round of the failed write.
     ensures traces { ∥ TracesWords (map string_bytes words.now) (F.seen files.old) (F.seen files.new) chip.new
         (sinks (O.seen out.old) (E.seen err.old)) (sinks (O.seen out.new) (E.seen err.new)) result ∥₁ }
     // The legality theorem, whatever the status. (A blank chip has no calls.)
@@ -127,7 +128,7 @@ fn run_traced<O: Sink>(
     requires evictors { HaveEvictors loaded.now.job.evict crew.old }
     requires judge { (judge.setup ≡ loaded.now.setup) × (judge.run ≡ []) }
     ensures stands { StandsTraced (asked_by loaded.now) chip.new }
-    ensures trace { HasTrace chip.new (O.seen out.old) (O.seen out.new) result }
+    ensures trace { HasTrace (WasRunInPart (asked_by loaded.now) chip.new) chip.new (O.seen out.old) (O.seen out.new) result }
     ensures over { IsTracedOver (asked_by loaded.now) chip.new crew.new result }
     ensures legal { AreLegal chip.new }
 {

@@ -3,6 +3,7 @@
 
 mod endings;
 mod launcher;
+pub mod laws;
 
 pub use endings::TraceEnd;
 pub use launcher::trace_script;

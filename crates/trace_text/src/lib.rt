@@ -12,6 +12,6 @@ mod walks;
 mod words;
 
 pub use faults::{TraceFault, TraceKind};
-pub use laws::said_law;
+pub use laws::{numbers_law, said_law};
 pub use traces::TraceEvent;
 pub use walks::{MOST_TRACE_BYTES, TraceWalk};

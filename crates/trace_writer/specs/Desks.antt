@@ -33,6 +33,11 @@ pub record IsLegalRun (s : SetupView) (run : List RankEvent) : Type 0 where
   pub steps : IsRun zeros run
   pub permitted : IsPermittedRun s (λ r. blank) run
 
+-- a list begins with these events
+pub record IsFrontOf (front run : List RankEvent) : Type 0 where
+  pub rest : List RankEvent
+  pub parts : run ≡ front ++ rest
+
 -- a front of a list is such a run, and the rest of the list was not looked at
 pub record HasLegalFront (s : SetupView) (written run : List RankEvent) : Type 0 where
   pub rest : List RankEvent
@@ -53,17 +58,16 @@ pub record IsWriting (before : SinkView) (judge : JudgeView) (waiting : List ℕ
   pub legal : IsLegalRun judge.setup run
   pub waits : RestWaits (trace_text judge.setup run) waiting before now
 
--- the text of a legal front was cut short by the sink
-pub record WasCutShort (s : SetupView) (before now : SinkView) (run : List RankEvent) : Type 0 where
-  pub written : List RankEvent
+-- the text of a legal front was cut short by the sink: that of the events up to the last one that was judged
+pub record WasCutShort (s : SetupView) (before now : SinkView) (written run : List RankEvent) : Type 0 where
   pub front : HasLegalFront s written run
   pub cut : CutShort (trace_text s written) before now
 
--- the event behind a legal front was refused, and what is not written of the front's text waits. Seven parameters: who was
--- refused and why (the setup, the rank, the cause), the sink before and now, what waits to be written, and the run so far.
+-- The event behind a legal front was refused, and what is not written of the front's text waits. Eight parameters: who was
+-- refused and why (the setup, the rank, the cause), the sink before and now, what waits to be written, the front, and the run so
+-- far.
 pub record WasRefused (s : SetupView) (rank : ℕ) (why : Refusal) (before : SinkView) (waiting : List ℕ) (now : SinkView)
-    (run : List RankEvent) : Type 0 where
-  pub written : List RankEvent
+    (written run : List RankEvent) : Type 0 where
   pub front : HasLegalFront s written run
   pub refuses : RefusesBehind s rank why written run
   pub waits : RestWaits (trace_text s written) waiting before now
@@ -71,12 +75,13 @@ pub record WasRefused (s : SetupView) (rank : ℕ) (why : Refusal) (before : Sin
 -- what has become of the events that a desk was told, by its fault
 abbrev pub HasWritten : SinkView → JudgeView → List ℕ → SinkView → Option TraceFault → List RankEvent → Type 0
 HasWritten before judge waiting now None run = IsWriting before judge waiting now run
-HasWritten before judge waiting now (Some fault.Write) run = WasCutShort judge.setup before now run
-HasWritten before judge waiting now (Some (fault.Refused rank why)) run = WasRefused judge.setup rank why before waiting now run
+HasWritten before judge waiting now (Some fault.Write) run = WasCutShort judge.setup before now judge.run run
+HasWritten before judge waiting now (Some (fault.Refused rank why)) run = WasRefused judge.setup rank why before waiting now judge.run run
 
--- how the trace of these events was written at last: whole, where all are legal; up to a failed write; or up to the event that
--- was refused
-abbrev pub TraceSent : SetupView → SinkView → SinkView → List RankEvent → Result (Unit {0}) TraceFault → Type 0
-TraceSent s before after run (Ok _) = IsLegalRun s run × (after ≡ with_text (trace_text s run) before)
-TraceSent s before after run (Err fault.Write) = WasCutShort s before after run
-TraceSent s before after run (Err (fault.Refused rank why)) = WasRefused s rank why before [] after run
+-- How the trace of these events was written at last: whole, where all are legal; a front of them up to a failed write; or a front
+-- up to the event that was refused. Six parameters: the setup, the sink before and after, the front, all events, and the answer.
+abbrev pub TraceSent : SetupView → SinkView → SinkView → List RankEvent → List RankEvent → Result (Unit {0}) TraceFault → Type 0
+TraceSent s before after written run (Ok _) =
+    IsLegalRun s run × (after ≡ with_text (trace_text s run) before) × (written ≡ run)
+TraceSent s before after written run (Err fault.Write) = WasCutShort s before after written run
+TraceSent s before after written run (Err (fault.Refused rank why)) = WasRefused s rank why before [] after written run

@@ -5,7 +5,7 @@ ghost use Rattle.rcce_io.specs.Sending.{SinkView};
 ghost use Rattle.scc_base.specs.Events.{IsEvent};
 ghost use Rattle.scc_proto.specs.Words.{RankEvent};
 ghost use Rattle.trace_judge.specs.Judged.{JudgeView};
-ghost use Rattle.trace_writer.specs.Desks.{HasGathered, SendsWaiting, HasWritten, TraceSent, no_sink};
+ghost use Rattle.trace_writer.specs.Desks.{HasGathered, IsFrontOf, SendsWaiting, HasWritten, TraceSent, no_sink};
 
 use crate::lines::{EventLine, FirstLines};
 use rcce_io::{Buffer, Sink, TextSource, WriteFault};
@@ -84,6 +84,7 @@ fn tell<S: Sink>(
     requires below { rank < judge.old.setup.nue }
     requires event { IsEvent event.now }
     ensures setup { judge.new.setup ≡ judge.old.setup }
+    ensures grows { IsFrontOf judge.old.run judge.new.run }
     ensures told { (before : SinkView) (run : List RankEvent) → HasWritten before judge.old buffer.old (S.seen sink.old) None run
         → HasWritten before judge.new buffer.new (S.seen sink.new) result (run ++ record { rank = rank; event = event.now } ∷ []) }
 {
@@ -115,7 +116,7 @@ fn send<S: Sink>(sink: &mut S, buffer: Buffer) -> Result<(), TraceFault>
 fn send_front<S: Sink>(sink: &mut S, buffer: Buffer, fault: TraceFault) -> Result<(), TraceFault>
     ensures sent { (before : SinkView) (judge : JudgeView) (run : List RankEvent)
         → HasWritten before judge buffer (S.seen sink.old) (Some fault) run
-        → TraceSent judge.setup before (S.seen sink.new) run result }
+        → TraceSent judge.setup before (S.seen sink.new) judge.run run result }
     ensures faulty { IsErr result }
 {
     match fault {
@@ -135,7 +136,7 @@ pub(crate) fn close<S: Sink>(
 ) -> Result<(), TraceFault>
     ensures sent { (before : SinkView) (judge : JudgeView) (run : List RankEvent)
         → HasWritten before judge buffer (S.seen sink.old) fault run
-        → TraceSent judge.setup before (S.seen sink.new) run result }
+        → TraceSent judge.setup before (S.seen sink.new) judge.run run result }
     ensures faulty { IsSome fault → IsErr result }
 {
     match fault {
@@ -146,13 +147,15 @@ pub(crate) fn close<S: Sink>(
 
 impl<'o, S: Sink, B: Origin> Witness for Desk<'o, S, B> {
     ghost use Rattle.std.specs.Prelude.{◌≡◌, is_none};
-    ghost use Rattle.trace_writer.specs.Desks.{HasWritten};
+    ghost use Rattle.trace_writer.specs.Desks.{HasWritten, IsFrontOf};
 
     ghost setup = { λ d. d.judge.setup };
 
     ghost noted = { λ d run. (d.sink.ghost_name ≡ B.name) × HasWritten B.before d.judge d.buffer (S.seen d.sink.now) d.fault run };
 
     ghost listens = { λ d. is_none d.fault };
+
+    ghost wanted_after = { λ d run. IsFrontOf run d.judge.run };
 
     fn note(&mut self, rank: Rank, event: Event) {
         match self.fault {

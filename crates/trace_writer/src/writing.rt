@@ -5,8 +5,8 @@ ghost use Rattle.chip_run.specs.Crews.{CrewStands, IsCrew};
 ghost use Rattle.scc_mesh.specs.Scenes.{about_in, events_in};
 ghost use Rattle.trace_run.specs.Runs.{RunsBy};
 ghost use Rattle.trace_run.specs.Seen.{HasSeenAll};
-ghost use Rattle.trace_writer.specs.Desks.{HasWritten};
-ghost use Rattle.trace_writer.specs.Writing.{HasTrace, RunsTraced};
+ghost use Rattle.trace_writer.specs.Desks.{HasWritten, IsFrontOf};
+ghost use Rattle.trace_writer.specs.Writing.{HasTrace, KeepsUp, RunsTraced};
 
 use crate::desks::{Desk, Origin, TraceFault, begin, close};
 use chip_run::{RunEnd, Worker};
@@ -17,7 +17,8 @@ use trace_judge::Judge;
 use trace_run::{SeenRun, run_seen};
 
 /// Runs the workers of a chip on one thread, in the order that a seed names, and writes the trace of the run while it goes: how
-/// the run ended, or why no more was written. A sink that fails ends the run with the round. No memory is taken.
+/// the run ended, or why no more was written. A sink that fails ends the run with the
+/// round: no other one is begun. No memory is taken.
 pub fn write_run<W: Worker, S: Sink>(
     chip: &mut Chip,
     crew: &mut [W],
@@ -31,9 +32,11 @@ pub fn write_run<W: Worker, S: Sink>(
     requires judge { (judge.setup ≡ about_in chip.old) × (judge.run ≡ []) }
     // It is the same chip, whole, with the same workers, each as it is after some turns and tied to its rank's events.
     ensures stands { CrewStands W.conduct chip.old crew.old chip.new crew.new }
-    // What was written is the trace of the chip's events: by rank they are the rank's own, in order, and all are legal.
-    ensures trace { HasTrace chip.new (S.seen out.old) (S.seen out.new) result }
-    // Where the trace is whole each worker rests, as in any run on one thread.
+    // What was written is the trace of the chip's events: by rank they are the rank's own, in order, and all are legal. It has all
+    // events that the chip had before its last round, so that no round begins after a failed write.
+    ensures trace { HasTrace (KeepsUp W.conduct seed chip.old crew.old chip.new crew.new) chip.new (S.seen out.old) (S.seen out.new)
+        result }
+    // Where the trace is whole each worker rests, as in any run on one thread; else the run is a part of one.
     ensures ends { RunsTraced W.conduct seed chip.old crew.old chip.new crew.new result }
 {
     let SeenRun { witness, end } = write_as::<W, S, Brand>(chip, crew, seed, out, judge);
@@ -73,7 +76,8 @@ fn write_as<'o, W: Worker, S: Sink, B: Origin>(
     ensures seen { HasSeenAll result.witness.judge.setup (λ run. (result.witness.sink.ghost_name ≡ B.name)
         × HasWritten B.before result.witness.judge result.witness.buffer (S.seen result.witness.sink.now) result.witness.fault
         run) chip.new }
-    ensures ends { RunsBy W.conduct (is_none result.witness.fault) seed result.end chip.old crew.old chip.new crew.new }
+    ensures ends { RunsBy W.conduct (is_none result.witness.fault) (λ run. IsFrontOf run result.witness.judge.run) seed result.end
+        chip.old crew.old chip.new crew.new }
 {
     let mut buffer = Buffer::new();
     let fault = begin(out, &mut buffer, &judge);

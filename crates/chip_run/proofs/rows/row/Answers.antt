@@ -1,4 +1,4 @@
-use Rattle.std.proofs.Common.{[]}
+use Rattle.std.proofs.Common.{inl, inr, ⊎_elim, [], refl, arith}
 use Rattle.scc_proto.proofs.PortLaws.{seat_kept}
 use Rattle.chip_run.proofs.RowLaws.{row_falls, row_goes, row_is, so_far_first, turns_first}
 use Rattle.chip_run.proofs.rows.row.Goals as goal
@@ -9,6 +9,7 @@ loop-vain-init g c = record {
   answers = [];
   turns = turns_first g.W.Worker.conduct (g.P.Port.stepped (g.P.Port.sight c.args.port).seat) c.args.worker.now (g.P.Port.sight c.args.port);
   so_far = so_far_first;
+  gave = inl refl;
 }
 
 pub loop-vain-preserved : goal.loop-vain-preserved
@@ -16,7 +17,7 @@ loop-vain-preserved g c =
     let on = row_goes g.W.Worker.conduct g.P.Port.stepped c.loop-vain.invariant.answers c.loop-vain.vain c.vain_after-vain.result c.args.worker.now c.loop-vain.worker c.stretch-answer.new.self
     (g.P.Port.sight c.args.port) (g.P.Port.sight c.loop-vain.port) (g.P.Port.sight c.stretch-answer.result.1) c.stretch-answer.result.0 c.loop-vain-test.true c.vain_after-vain.ensures.gives c.loop-vain.invariant.turns c.loop-vain.invariant.so_far
     c.stretch-answer.ensures.stretched in
-    record { ties = c.stretch-answer.ensures.ties; answers = on.answers; turns = on.turns; so_far = on.so_far }
+    record { ties = c.stretch-answer.ensures.ties; answers = on.answers; turns = on.turns; so_far = on.so_far; gave = inr c.give_way.ensures.gives_way }
 
 pub loop-vain-smaller : goal.loop-vain-smaller
 loop-vain-smaller g c =
@@ -31,3 +32,6 @@ returns-clause-row g c = record {
   is_row = row_is c.loop-vain.invariant.answers c.loop-vain.vain c.loop-vain-test.false c.loop-vain.invariant.so_far;
   turns = c.loop-vain.invariant.turns;
 }
+
+pub returns-clause-gave_way : goal.returns-clause-gave_way
+returns-clause-gave_way g c = ⊎_elim (λ none. absurd (omega (arith, none, c.loop-vain-test.false))) (λ gave. (c.loop-vain.vain, omega (arith, c.loop-vain-test.false), gave)) c.loop-vain.invariant.gave

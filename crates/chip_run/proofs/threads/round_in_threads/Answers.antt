@@ -4,6 +4,7 @@ use Rattle.std.proofs.lemmas.Grind.{div_ceil_times}
 use Rattle.scc_base.specs.Setups.{SetupView}
 use Rattle.scc_mesh.specs.Scenes.{about_in, events_in, table_in}
 use Rattle.chip_run.specs.Away.{IsAtHome, TookRow, conduct_of_members}
+use Rattle.chip_run.specs.Marks.{BeganFor}
 use Rattle.chip_run.proofs.MemberLaws.{member_took}
 use Rattle.chip_run.proofs.ThreadLaws.{round_stands, row_between, away_yet}
 use Rattle.chip_run.proofs.threads.round_in_threads.Goals as goal
@@ -32,14 +33,17 @@ all_rows-requires g c =
         (
           c.type_bounds.sync-R,
           (
-            subst (λ (n : ℕ). 0 < n) (sym handed.served.count) c.requires.some,
+            c.type_bounds.sync-M,
             (
-              each,
-              λ i d low.
-                  let within = subst (λ (n : ℕ). i < n) handed.served.count low in
-                  away_yet g.W.Worker.conduct.tied (about_in c.args.chip.now) c.words.result.space.now.about i
-                  (slice_index_or c.hand_out.new.crew i d) (slice_index_or c.hand_out.new.crew i d) (c.words.ensures.about ∙ handed.same.0) refl
-                  (table_in c.args.chip.now) c.words.result.space.now.table (c.words.ensures.table ∙ handed.same.1) (handed.served.done i d within within).1,
+              subst (λ (n : ℕ). 0 < n) (sym handed.served.count) c.requires.some,
+              (
+                each,
+                λ i d low.
+                    let within = subst (λ (n : ℕ). i < n) handed.served.count low in
+                    away_yet g.W.Worker.conduct.tied (about_in c.args.chip.now) c.words.result.space.now.about i
+                    (slice_index_or c.hand_out.new.crew i d) (slice_index_or c.hand_out.new.crew i d) (c.words.ensures.about ∙ handed.same.0) refl
+                    (table_in c.args.chip.now) c.words.result.space.now.table (c.words.ensures.table ∙ handed.same.1) (handed.served.done i d within within).1,
+              ),
             ),
           ),
         ),
@@ -84,3 +88,10 @@ returns-clause-took g c =
           rows;
       rows = rows;
     }
+
+pub returns-clause-began : goal.returns-clause-began
+returns-clause-began g c = λ k low.
+    subst (λ (n : ℕ). BeganFor g.M.Marks.shown n k) c.div_ceil-each.ensures (c.all_rows.ensures.began k (subst (λ (n : ℕ). k < n) (sym c.hand_out.ensures.served.count) low))
+
+pub returns-clause-passed : goal.returns-clause-passed
+returns-clause-passed g c = λ k low. c.all_rows.ensures.passed k (subst (λ (n : ℕ). k < n) (sym c.hand_out.ensures.served.count) low)

@@ -1,5 +1,4 @@
 use Rattle.std.proofs.Common.{ℕ, ◌+◌, ◌<◌, length, refl, ap, subst, arith, slice_index_or}
-use Rattle.std.proofs.lemmas.List.{length-set}
 use Rattle.chip_run.specs.Away.{IsAway, Stretches, row_left}
 use Rattle.chip_run.specs.declared.members.Member.{Member}
 use Rattle.chip_run.proofs.ServedLaws.{one_entry, sum_set}
@@ -18,12 +17,6 @@ go_on-goes-requires g c =
       away = away_yet g.W.Worker.conduct.tied about about (c.args.start + c.loop-at.at) (slice_index_or c.args.members.now c.loop-at.at d) (slice_index_or c.loop-at.members c.loop-at.at d) refl
           (c.loop-at.invariant.served.left c.loop-at.at d (omega arith)) table table refl (c.requires.away c.loop-at.at d c.loop-at-test.true);
     }
-
-pub bounds-members-at-in-loop-at : goal.bounds-members-at-in-loop-at
-bounds-members-at-in-loop-at g c = omega (arith, length-set c.loop-at.members c.loop-at.at c.go_on-goes.new.member)
-
-pub bounds-members-at-in-loop-at-2 : goal.bounds-members-at-in-loop-at-2
-bounds-members-at-in-loop-at-2 g c = bounds-members-at-in-loop-at g c
 
 pub loop-at-preserved : goal.loop-at-preserved
 loop-at-preserved g c =

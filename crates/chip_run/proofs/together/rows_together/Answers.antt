@@ -1,5 +1,6 @@
 use Rattle.std.proofs.Common.{rules, ℕ, ◌+◌, ◌<◌, sym, ◌∙◌, subst, arith, slice_index_or}
 use Rattle.chip_run.specs.Away.{IsAway, NoStretch, Stretches}
+use Rattle.chip_run.proofs.ServedLaws.{some_worker}
 use Rattle.chip_run.proofs.TogetherLaws.{stretches_both, took_row}
 use Rattle.chip_run.proofs.together.rows_together.Goals as goal
 
@@ -12,9 +13,9 @@ loop-start-init g c = record {
   done = λ k d low within.
       subst
       (λ n. IsAway (g.W.Worker.conduct.tied n.worker) c.args.words.space.now.about c.args.words.space.now.table (c.args.start + k) n.token
-      × Stretches g.W.Worker.conduct c.args.words.space.now.about (slice_index_or c.args.members.now k d).worker (slice_index_or c.args.members.now k d).token 0 n.worker n.token n.vain)
-      (sym (c.begin_all.ensures.served.done k d low within))
-      (c.requires.away k d within, NoStretch);
+      × Stretches g.W.Worker.conduct c.args.words.space.now.about (slice_index_or c.args.members.now k d).worker (slice_index_or c.args.members.now k d).token 0 n.worker n.token n.vain × g.G.Gate.passed c.args.gate.now (c.args.start + k))
+      (sym (c.begin_all.ensures.served.done k d low within).0)
+      (c.requires.away k d within, NoStretch, (c.begin_all.ensures.served.done k d low within).1);
   left = c.begin_all.ensures.served.left;
 }
 
@@ -35,7 +36,7 @@ loop-start-preserved g c =
           let before = so.done k d low within in
           let inside = subst (λ (n : ℕ). k < n) (sym so.count) within in
           let step = on.done k d inside inside in
-          (step.0, stretches_both g.W.Worker.conduct c.args.words.space.now.about _ _ _ _ 0 _ before.1 _ _ _ step.1);
+          (step.0, stretches_both g.W.Worker.conduct c.args.words.space.now.about _ _ _ _ 0 _ before.1 _ _ _ step.1, before.2);
       left = λ k d past. on.left k d (omega (arith, past, so.count)) ∙ so.left k d past;
     }
 
@@ -58,3 +59,6 @@ returns-then-not-pass-clause-rows g c = λ k d within.
     _ _ (slice_index_or c.args.members.now k d).token (slice_index_or c.pass.new.members k d).token (slice_index_or c.pass.new.members k d).vain (c.requires.away k d within)
     (stretches_both g.W.Worker.conduct c.args.words.space.now.about _ _ _ _ 0 _ before.1 _ _ _ step.1)
     (c.pass.ensures.over (search rules) k d (subst (λ (n : ℕ). k < n) (sym on.count) inside))
+
+pub returns-then-not-pass-clause-passed : goal.returns-then-not-pass-clause-passed
+returns-then-not-pass-clause-passed g c = λ k within. (c.loop-start.invariant.done k (some_worker c.args.members.now (omega (arith, within))) within within).2

@@ -5,7 +5,8 @@ use Rattle.chip_run.proofs.together.rows_together.Given as goal
 abbrev pub invariant-loop-start : goal.invariant-loop-start
 invariant-loop-start g l =
     Served (λ k m n. IsAway (g.W.Worker.conduct.tied n.worker) l.fn.words.space.now.about l.fn.words.space.now.table (l.fn.start + k) n.token
-    × Stretches g.W.Worker.conduct l.fn.words.space.now.about m.worker m.token 0 n.worker n.token n.vain) (length l.fn.members) l.fn.members l.members
+    × Stretches g.W.Worker.conduct l.fn.words.space.now.about m.worker m.token 0 n.worker n.token n.vain
+    × g.G.Gate.passed l.fn.gate (l.fn.start + k)) (length l.fn.members) l.fn.members l.members
 
 abbrev pub decreases-loop-start : goal.decreases-loop-start
 decreases-loop-start g l = rows_left g.W.Worker.conduct l.fn.words.space.now.about l.fn.start l.members

@@ -13,7 +13,7 @@ returns-in-Ok-run_lab c =
     let done : HasDoneLab (lab_done steps) run = subst (λ (l : List Step). HasDoneLab (lab_done l) run) c.as_slice.ensures.value c.in-Ok-run_lab.ensures in
     record {
       comes = λ files. comes_done (codes "rccelab") c.args.file.now (lab_of c.args.bytes.now) steps run files c.in-Ok.ensures done;
-      tells = λ told holds. tells_done told c.args.file.now c.args.bytes.now steps run _ c.in-Ok.ensures c.requires.few holds done refl;
+      tells = λ before after read. tells_done before after c.args.file.now c.args.bytes.now steps run _ c.in-Ok.ensures c.requires.few read done refl;
     }
 
 pub returns-in-Err-Fault : goal.returns-in-Err-Fault
@@ -24,5 +24,5 @@ returns-in-Err-Fault c =
           rw c.in-Err-Fault.fault-is
           (comes_refused (codes "rccelab") c.args.file.now (lab_of c.args.bytes.now) fault c.name.result.now files (rw c.in-Err-Fault.field-0-is at c.in-Err-Fault.ensures)
           (rw c.in-Err-Fault.fault-is at c.name.ensures));
-      tells = λ told holds. c.requires.blank;
+      tells = λ before after read. c.requires.blank;
     }

@@ -10,9 +10,9 @@ returns-in-Some g c =
     let named = lab_file_named (map string_bytes c.args.words.now) in
     record {
       meant = meant_by (codes "rccelab") lab_file_plan file named _ _ _ c.in-Some.ensures c.run_file.ensures.comes;
-      tells = tells_named (g.F.Files.seen c.args.files.now).told (Some file) named c.run_file.new.left _ c.in-Some.ensures c.run_file.ensures.tells;
+      tells = tells_named (g.F.Files.seen c.args.files.now) (g.F.Files.seen c.run_file.new.files) (Some file) named c.run_file.new.left _ c.in-Some.ensures c.run_file.ensures.tells;
     }
 
 pub returns-in-None-clause-tells : goal.returns-in-None-clause-tells
 returns-in-None-clause-tells g c =
-    tells_named (g.F.Files.seen c.args.files.now).told None (lab_file_named (map string_bytes c.args.words.now)) c.args.left.now _ c.in-None.ensures c.requires.blank
+    tells_named (g.F.Files.seen c.args.files.now) (g.F.Files.seen c.args.files.now) None (lab_file_named (map string_bytes c.args.words.now)) c.args.left.now _ c.in-None.ensures c.requires.blank

@@ -8,4 +8,4 @@ pub returns-clause-reads : goal.returns-clause-reads
 returns-clause-reads g c =
     reads_there c.look_flag.ensures.reads _ _
     (c.place-place.ensures.gives ∙ ap (λ k. flag_word k c.args.f) (c.core_of.ensures.gives ∙ ap (λ (s : SetupView). host_of s.hosts c.args.at) c.setup.ensures.gives))
-    c.bit.ensures.gives
+    c.bit_number.ensures.gives

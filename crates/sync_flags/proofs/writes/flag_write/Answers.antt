@@ -16,7 +16,7 @@ returns-in-None-clause-stalls g c = λ events did.
     (word_no_stall c.store_word.ensures.stores (flag_of (g.P.Port.sight c.args.port.now).seat.setup c.args.at c.args.f).core events did)
 
 pub returns-in-None-clause-freed : goal.returns-in-None-clause-freed
-returns-in-None-clause-freed g c = no_bit _ c.args.f.bit (sym c.bit.ensures.gives ∙ c.in-None.is)
+returns-in-None-clause-freed g c = no_bit _ c.args.f.bit (sym c.bit_number.ensures.gives ∙ c.in-None.is)
 
 pub returns-in-Some-clause-freed : goal.returns-in-Some-clause-freed
 returns-in-Some-clause-freed g c = each_bit _ c.args.f.bit
@@ -36,5 +36,5 @@ returns-in-Some-clause-writes g c =
     let end = g.P.Port.sight c.write_bit.new.port in
     subst (λ (p : WordAt). WritesFlag start c.args.core.now p c.args.f.bit c.args.set c.args.polls end c.write_bit.new.core c.write_bit.result)
     (c.place-place.ensures.gives ∙ ap (λ (k : ℕ). flag_word k c.args.f) (c.core_of.ensures.gives ∙ ap (λ (s : SetupView). host_of s.hosts c.args.at) c.setup.ensures.gives))
-    (subst (λ (o : Option ℕ). WritesFlag start c.args.core.now c.place-place.result o c.args.set c.args.polls end c.write_bit.new.core c.write_bit.result) (sym c.in-Some.is ∙ c.bit.ensures.gives)
+    (subst (λ (o : Option ℕ). WritesFlag start c.args.core.now c.place-place.result o c.args.set c.args.polls end c.write_bit.new.core c.write_bit.result) (sym c.in-Some.is ∙ c.bit_number.ensures.gives)
     c.write_bit.ensures.writes)

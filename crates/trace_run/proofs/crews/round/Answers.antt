@@ -4,6 +4,7 @@ use Rattle.scc_base.specs.Setups.{SetupView}
 use Rattle.chip_run.specs.Crews.{CrewStands}
 use Rattle.chip_run.specs.Orders.{TurnsOf, generator_after, named_ranks}
 use Rattle.chip_run.proofs.OrderLaws.{drawn_on, none_drawn, none_picked, picked_on, turns_stand}
+use Rattle.trace_run.proofs.SeenLaws.{still_both, still_first}
 use Rattle.trace_run.proofs.crews.round.Goals as goal
 
 pub turn_at-told-requires-clause-crew : goal.turn_at-told-requires-clause-crew
@@ -16,6 +17,7 @@ loop-turn-init g c = record {
   picks = sym (none_drawn pcg32 0 c.args.picks.now);
   order = none_picked g.W.Worker.conduct pcg32 (length c.args.crew.now) c.args.picks.now c.args.chip.now c.args.crew.now;
   seen = c.requires.seen;
+  wanted = still_first (g.N.Witness.wanted_after c.args.witness);
 }
 
 pub loop-turn-preserved : goal.loop-turn-preserved
@@ -30,6 +32,7 @@ loop-turn-preserved g c =
           c.next_word.new.self c.args.chip.now c.loop-turn.chip c.turn_at-told.new.chip c.args.crew.now c.loop-turn.crew c.turn_at-told.new.crew c.turn_at-told.result.0
           c.loop-turn.invariant.order c.loop-turn.invariant.picks c.next_word.ensures (ap (λ (n : ℕ). c.next_word.result % n) stands.goes.count) c.turn_at-told.ensures.turned;
       seen = c.turn_at-told.ensures.seen;
+      wanted = still_both (g.N.Witness.wanted_after c.args.witness) (g.N.Witness.wanted_after c.loop-turn.witness) (g.N.Witness.wanted_after c.turn_at-told.result.1) c.loop-turn.invariant.wanted c.turn_at-told.ensures.wanted;
     }
 
 pub returns : goal.returns
@@ -45,4 +48,5 @@ returns g c =
       stands = turns_stand g.W.Worker.conduct (named_ranks pcg32 (length c.args.crew.now) (1000 * length c.args.crew.now) c.args.picks.now) c.args.chip.now c.loop-turn.chip c.args.crew.now c.loop-turn.crew
           c.requires.crew order;
       seen = c.loop-turn.invariant.seen;
+      wanted = c.loop-turn.invariant.wanted;
     }

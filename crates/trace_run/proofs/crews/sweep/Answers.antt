@@ -4,13 +4,14 @@ use Rattle.chip_run.specs.Crews.{SweepStands}
 use Rattle.chip_run.specs.Orders.{TurnsOf}
 use Rattle.chip_run.proofs.CrewLaws.{sweep_first, sweep_on}
 use Rattle.chip_run.proofs.OrderLaws.{one_turn, range_more, turns_then}
+use Rattle.trace_run.proofs.SeenLaws.{still_both, still_first}
 use Rattle.trace_run.proofs.crews.sweep.Goals as goal
 
 pub turn_at-came-requires-clause-crew : goal.turn_at-came-requires-clause-crew
 turn_at-came-requires-clause-crew g c = c.loop-at.invariant.swept.stands.is_crew
 
 pub loop-at-init : goal.loop-at-init
-loop-at-init g c = record { swept = sweep_first g.W.Worker.conduct c.args.chip.now c.args.crew.now c.requires.crew; order = (refl, refl); seen = c.requires.seen }
+loop-at-init g c = record { swept = sweep_first g.W.Worker.conduct c.args.chip.now c.args.crew.now c.requires.crew; order = (refl, refl); seen = c.requires.seen; wanted = still_first (g.N.Witness.wanted_after c.args.witness) }
 
 pub loop-at-preserved : goal.loop-at-preserved
 loop-at-preserved g c = record {
@@ -21,6 +22,7 @@ loop-at-preserved g c = record {
       c.loop-at.invariant.order
       (one_turn g.W.Worker.conduct c.loop-at.at c.loop-at.chip c.turn_at-came.new.chip c.loop-at.crew c.turn_at-came.new.crew c.turn_at-came.result.0 c.turn_at-came.ensures.turned));
   seen = c.turn_at-came.ensures.seen;
+  wanted = still_both (g.N.Witness.wanted_after c.args.witness) (g.N.Witness.wanted_after c.loop-at.witness) (g.N.Witness.wanted_after c.turn_at-came.result.1) c.loop-at.invariant.wanted c.turn_at-came.ensures.wanted;
 }
 
 pub returns : goal.returns
@@ -30,4 +32,5 @@ returns g c =
       swept = subst (λ (n : ℕ). SweepStands g.W.Worker.conduct c.loop-at.so_far n c.args.chip.now c.args.crew.now c.loop-at.chip c.loop-at.crew) all c.loop-at.invariant.swept;
       order = subst (λ (n : ℕ). TurnsOf g.W.Worker.conduct (range_with_len 0 n) c.args.chip.now c.args.crew.now c.loop-at.chip c.loop-at.crew) all c.loop-at.invariant.order;
       seen = c.loop-at.invariant.seen;
+      wanted = c.loop-at.invariant.wanted;
     }

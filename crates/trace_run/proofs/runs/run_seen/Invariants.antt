@@ -10,7 +10,7 @@ use Rattle.trace_run.proofs.runs.run_seen.Given as goal
 abbrev pub invariant-loop-picks : goal.invariant-loop-picks
 invariant-loop-picks g l = record {
   stands : CrewStands g.W.Worker.conduct l.fn.chip l.fn.crew l.chip l.crew;
-  order : (n : ℕ) × AtRound g.W.Worker.conduct (pcg32_of_seed (pcg32_seed 16 l.fn.seed)) n l.picks l.fn.chip l.fn.crew l.chip l.crew;
+  order : (n : ℕ) × AtRound g.W.Worker.conduct (g.N.Witness.wanted_after l.witness) (pcg32_of_seed (pcg32_seed 16 l.fn.seed)) n l.picks l.fn.chip l.fn.crew l.chip l.crew;
   seen : HasSeenAll (g.N.Witness.setup l.witness) (g.N.Witness.noted l.witness) l.chip;
 }
 

@@ -7,19 +7,20 @@ use Rattle.chip_run.proofs.HomeTurns.{own_turn_at, own_turn_ends}
 use Rattle.trace_run.proofs.SeenLaws.{seen_back, seen_lent, tied_lent}
 use Rattle.trace_run.proofs.turns.own_turn.Goals as goal
 
-pub new-requires : goal.new-requires
-new-requires g c =
+pub new-port-requires : goal.new-port-requires
+new-port-requires g c =
     let lent = c.port.result in
     record {
       seen = seen_lent (g.N.Witness.setup c.args.witness) (g.N.Witness.noted c.args.witness) c.args.chip.now lent.chip.now lent.rank lent.chip.ghost_name
           c.port.ensures.same c.requires.seen;
+      wanted = c.requires.wanted;
     }
 
 pub turn-answer-requires : goal.turn-answer-requires
 turn-answer-requires g c =
     let lent = c.port.result in
     record {
-      ties = subst (λ (x : OnePort). g.W.Worker.conduct.tied c.args.worker.now (about_in x.chip.now) x.rank (events_in x.chip.now x.rank)) (sym c.new.ensures.port)
+      ties = subst (λ (x : OnePort). g.W.Worker.conduct.tied c.args.worker.now (about_in x.chip.now) x.rank (events_in x.chip.now x.rank)) (sym c.new-port.ensures.port)
           (tied_lent g.W.Worker.conduct c.args.chip.now lent.chip.now c.args.rank lent.rank c.args.worker.now c.port.ensures.same c.port.ensures.rank c.requires.ties);
     }
 
@@ -33,7 +34,7 @@ returns g c =
     subst (λ (x : OnePort). Turned g.W.Worker.conduct (WasSeatStep (at lent).seat) c.args.worker.now (at lent) c.turn-answer.new.self (at x) c.turn-answer.result.0)
     (sym c.apart-witness.ensures.port)
     (subst (λ (x : OnePort). Turned g.W.Worker.conduct (WasSeatStep (at x).seat) c.args.worker.now (at x) c.turn-answer.new.self (at c.turn-answer.result.1.port) c.turn-answer.result.0)
-    c.new.ensures.port c.turn-answer.ensures.turned) in
+    c.new-port.ensures.port c.turn-answer.ensures.turned) in
     let ties = subst (λ (x : OnePort). g.W.Worker.conduct.tied c.turn-answer.new.self (about_in x.chip.now) x.rank (events_in x.chip.now x.rank))
     (sym c.apart-witness.ensures.port) c.turn-answer.ensures.ties in
     let kept = ap (λ (x : Sight). x.seat.hold) turned.did.continues in
@@ -44,4 +45,5 @@ returns g c =
           c.args.worker.now c.turn-answer.new.self c.turn-answer.result.0 p.same p.rank c.requires.whole c.requires.below end.home turned ties);
       seen = seen_back (g.N.Witness.setup c.apart-witness.result.0) (g.N.Witness.noted c.apart-witness.result.0) end.chip.now _ end.rank end.chip.ghost_name
           (search (rules, n)) c.apart-witness.ensures.seen;
+      wanted = c.apart-witness.ensures.wanted;
     }

@@ -13,4 +13,5 @@ returns g c = record {
       (turned_at_home g.W.Worker.conduct c.args.chip.now c.own_turn-answer.new.chip c.args.rank c.args.worker.now c.own_turn-answer.new.worker c.own_turn-answer.result.0 c.is_stopped.result
       c.requires.free c.own_turn-answer.ensures.turned c.agrees.ensures.beyond (c.is_stopped.ensures.tells (about_in c.args.chip.now) c.args.rank));
   seen = c.own_turn-answer.ensures.seen;
+  wanted = c.own_turn-answer.ensures.wanted;
 }

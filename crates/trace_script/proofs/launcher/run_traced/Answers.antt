@@ -2,7 +2,7 @@ use Rattle.std.proofs.Common.{sym, ◌∙◌}
 use Rattle.rcce_run.proofs.FreshCrews.{crew_fresh}
 use Rattle.rcce_run.proofs.UeEnds.{fresh_crew, fresh_some}
 use Rattle.run_program.specs.Loading.{asked_by}
-use Rattle.trace_script.proofs.TraceLaws.{stands_traced, traced_over}
+use Rattle.trace_script.proofs.TraceLaws.{stands_traced, trace_in_part, traced_over}
 use Rattle.trace_script.proofs.launcher.run_traced.Goals as goal
 
 pub write_run-end-requires-clause-crew : goal.write_run-end-requires-clause-crew
@@ -24,6 +24,13 @@ returns-clause-stands g c =
     let (memory, agrees) = c.agrees.ensures.words in
     stands_traced (asked_by loaded) c.args.chip.now c.write_run-end.new.chip c.args.crew.now c.write_run-end.new.crew loaded.ranks c.requires.chip c.requires.fresh c.requires.evictors c.known.ensures.valid memory agrees
     c.write_run-end.ensures.stands
+
+pub returns-clause-trace : goal.returns-clause-trace
+returns-clause-trace g c =
+    let loaded = c.args.loaded.now in
+    let (memory, agrees) = c.agrees.ensures.words in
+    trace_in_part (asked_by loaded) c.args.chip.now c.write_run-end.new.chip c.args.crew.now c.write_run-end.new.crew loaded.ranks c.requires.chip c.requires.fresh c.requires.evictors c.known.ensures.valid memory agrees
+    c.write_run-end.ensures.stands _ _ c.seed_of.result c.write_run-end.result c.seed_of.ensures c.write_run-end.ensures.ends c.write_run-end.ensures.trace
 
 pub returns-clause-over : goal.returns-clause-over
 returns-clause-over g c =

@@ -11,9 +11,9 @@ returns-in-Write-clause-sent g c = λ before judge run has.
 pub returns-in-Ok-clause-sent : goal.returns-in-Ok-clause-sent
 returns-in-Ok-clause-sent g c = λ before judge run has.
     let was = subst (λ (f : TraceFault). HasWritten before judge c.args.buffer (g.S.Sink.seen c.args.sink.now) (Some f) run) c.in-Refused.is has in
-    closed_refused judge.setup c.in-Refused.rank c.in-Refused.why before (g.S.Sink.seen c.args.sink.now) (g.S.Sink.seen c.send.new.sink) c.args.buffer run was c.in-Ok.ensures.sent
+    closed_refused judge.setup c.in-Refused.rank c.in-Refused.why before (g.S.Sink.seen c.args.sink.now) (g.S.Sink.seen c.send.new.sink) c.args.buffer judge.run run was c.in-Ok.ensures.sent
 
 pub returns-in-Err-clause-sent : goal.returns-in-Err-clause-sent
 returns-in-Err-clause-sent g c = λ before judge run has.
     let was = subst (λ (f : TraceFault). HasWritten before judge c.args.buffer (g.S.Sink.seen c.args.sink.now) (Some f) run) c.in-Refused.is has in
-    refused_by judge.setup c.in-Refused.rank c.in-Refused.why before (g.S.Sink.seen c.args.sink.now) (g.S.Sink.seen c.send.new.sink) c.args.buffer run c.in-Err.fault was c.in-Err.ensures.sent
+    refused_by judge.setup c.in-Refused.rank c.in-Refused.why before (g.S.Sink.seen c.args.sink.now) (g.S.Sink.seen c.send.new.sink) c.args.buffer judge.run run c.in-Err.fault was c.in-Err.ensures.sent

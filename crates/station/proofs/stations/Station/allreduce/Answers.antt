@@ -27,7 +27,7 @@ returns-clause-reduced g c =
     let held = held_in c.args.output.now c.args.work.now in
     let later = held_in c.run_steps.new.output c.run_steps.new.work in
     let is = begins_as s c.args.self.now (Allreduce c.args.comm (length c.args.input.now)) (Some c.args.folding) c.args.input.now held _ c.begun.ensures.starts c.requires.free c.requires.callable c.requires.fits in
-    ok_later c.run_steps.result c.run_steps.ensures.ended (λ d ended. allreduced_at s t c.run_steps.new.self c.args.input.now held later c.run_steps.ensures.seat c.args.folding c.args.comm (length c.args.input.now)
+    ok_later c.run_steps.result c.run_steps.ensures.ended (λ d ended. allreduced_at s t c.run_steps.new.self held later c.run_steps.ensures.seat c.args.input.now c.args.folding c.args.comm (length c.args.input.now)
     (subst (λ (x : GroupOp). HasRunGroup (start_at s held) (in_group_call t c.run_steps.new.self x c.args.input.now later)) c.begun.ensures.starts (ended (start_at s held) is)))
 
 pub returns-clause-open : goal.returns-clause-open

@@ -28,7 +28,7 @@ returns-clause-calls g c =
     let held = held_in c.args.buffer.now [] in
     let later = held_in c.run_steps.new.output c.run_steps.new.work in
     let is = begins_as s c.args.self.now (Bcast c.args.comm c.args.root (length c.args.buffer.now)) None [] held _ c.begun.ensures.starts c.requires.free c.requires.callable refl in
-    ok_later c.run_steps.result c.run_steps.ensures.ended (λ d ended. bcast_made s t c.run_steps.new.self held later c.args.comm c.args.root (length c.args.buffer.now) c.run_steps.ensures.seat
+    ok_later c.run_steps.result c.run_steps.ensures.ended (λ d ended. bcast_made s t c.run_steps.new.self held later c.run_steps.ensures.seat c.args.comm c.args.root (length c.args.buffer.now)
     (subst (λ (x : GroupOp). HasRunGroup (start_at s held) (in_group_call t c.run_steps.new.self x [] later)) c.begun.ensures.starts (ended (start_at s held) is)))
 
 pub returns-clause-kept : goal.returns-clause-kept
@@ -38,7 +38,7 @@ returns-clause-kept g c =
     let held = held_in c.args.buffer.now [] in
     let later = held_in c.run_steps.new.output c.run_steps.new.work in
     let is = begins_as s c.args.self.now (Bcast c.args.comm c.args.root (length c.args.buffer.now)) None [] held _ c.begun.ensures.starts c.requires.free c.requires.callable refl in
-    ok_later c.run_steps.result c.run_steps.ensures.ended (λ d ended. bcast_kept s t c.run_steps.new.self held later c.args.comm c.args.root (length c.args.buffer.now) c.run_steps.ensures.seat
+    ok_later c.run_steps.result c.run_steps.ensures.ended (λ d ended. bcast_kept s t c.run_steps.new.self held later c.run_steps.ensures.seat c.args.comm c.args.root (length c.args.buffer.now)
     (subst (λ (x : GroupOp). HasRunGroup (start_at s held) (in_group_call t c.run_steps.new.self x [] later)) c.begun.ensures.starts (ended (start_at s held) is)))
 
 pub returns-clause-open : goal.returns-clause-open

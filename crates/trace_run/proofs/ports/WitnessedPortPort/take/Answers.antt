@@ -1,5 +1,5 @@
 use Rattle.scc_base.specs.Events.{take_of}
-use Rattle.trace_run.proofs.SeenLaws.{below_seen, seen_more}
+use Rattle.trace_run.proofs.SeenLaws.{below_seen, seen_more, still_on}
 use Rattle.trace_run.proofs.ports.WitnessedPortPort.take.Goals as goal
 
 pub note-requires-clause-below : goal.note-requires-clause-below
@@ -14,4 +14,5 @@ invariant_of-self g c =
       seen = seen_more (g.N.Witness.setup t.witness) (g.N.Witness.setup end) (g.N.Witness.noted t.witness) (g.N.Witness.noted end)
           (g.P.Port.sight t.port) (g.P.Port.sight c.take-taken.new.self) c.rank-rank.result (take_of c.args.c c.take-taken.result) c.take.result c.take.ensures.gives
           c.rank-rank.ensures.gives c.take-taken.ensures.did c.note.ensures.setup c.note.ensures.noted t.seen;
+      wanted = still_on g.B.Before.wanted (g.N.Witness.wanted_after t.witness) (g.N.Witness.wanted_after end) t.wanted c.note.ensures.wanted;
     }

@@ -2,7 +2,7 @@ use Rattle.std.proofs.Common.{[], ◌∷◌, ◌++◌, Option, sym, subst}
 use Rattle.scc_proto.specs.Words.{RankEvent}
 use Rattle.trace_writer.specs.declared.desks.TraceFault.{TraceFault}
 use Rattle.trace_writer.specs.Desks.{HasWritten}
-use Rattle.trace_writer.proofs.DeskLaws.{fault_stays}
+use Rattle.trace_writer.proofs.DeskLaws.{fault_stays, front_on}
 use Rattle.trace_writer.proofs.desks.DeskWitness.note.Goals as goal
 
 pub returns-in-None-clause-noted : goal.returns-in-None-clause-noted
@@ -22,3 +22,6 @@ returns-in-Some-clause-noted g c = λ run has.
           (fault_stays g.B.Origin.before d.judge d.buffer (g.S.Sink.seen d.sink.now) _ run e
           (subst (λ (f : Option TraceFault). HasWritten g.B.Origin.before d.judge d.buffer (g.S.Sink.seen d.sink.now) f run) c.in-Some.is has.1)),
     )
+
+pub returns-in-None-clause-wanted : goal.returns-in-None-clause-wanted
+returns-in-None-clause-wanted g c = λ run was. front_on run c.args.self.now.judge.run c.tell-self.new.judge.run was c.tell-self.ensures.grows

@@ -1,4 +1,4 @@
-use Rattle.std.proofs.Common.{ℕ, ◌+◌, length, subst, sym, ◌∙◌}
+use Rattle.std.proofs.Common.{ℕ, ◌+◌, ◌<◌, length, arith, refl, subst, sym, ◌∙◌}
 use Rattle.scc_mesh.specs.Scenes.{about_in}
 use Rattle.chip_run.specs.declared.runs.Rounds.{Rounds}
 use Rattle.chip_run.specs.Away.{conduct_of_members}
@@ -6,18 +6,19 @@ use Rattle.chip_run.specs.Crews.{AllRest, CrewStands, all_left}
 use Rattle.chip_run.specs.Runs.{RoundsTo, rounds_of}
 use Rattle.chip_run.proofs.CrewLaws.{below_all, moved_falls, round_falls, stands_both, stands_first}
 use Rattle.chip_run.proofs.RestLaws.{all_rest_by, ends_with_by, none_drafts}
-use Rattle.chip_run.proofs.RunLaws.{no_rounds, ran_in_order, rounds_on}
-use Rattle.chip_run.proofs.runs.run.Goals as goal
+use Rattle.chip_run.proofs.RunLaws.{asks_on, no_rounds, ran_in_order, rounds_on, threads_yet}
+use Rattle.chip_run.proofs.runs.run_on.Goals as goal
 
 pub loop-end-init : goal.loop-end-init
 loop-end-init g c = record {
   stands = stands_first (conduct_of_members g.W.Worker.conduct) c.args.chip.now c.args.crew.now c.requires.crew;
-  threads = c.requires.some;
+  threads = omega (arith, c.requires.some);
   order = (
     0,
     subst (λ (w : Rounds). RoundsTo (conduct_of_members g.W.Worker.conduct) (rounds_of c.args.mode) 0 w c.args.chip.now c.args.crew.now c.args.chip.now c.args.crew.now)
         (sym c.of-rounds.ensures.gives)
         (no_rounds (conduct_of_members g.W.Worker.conduct) (rounds_of c.args.mode) c.args.chip.now c.args.crew.now),
+    λ threaded. refl,
   );
 }
 
@@ -33,6 +34,10 @@ loop-end-preserved g c = record {
     rounds_on (conduct_of_members g.W.Worker.conduct) (rounds_of c.args.mode) c.loop-end.rounds c.next_round.new.rounds c.loop-end.invariant.order.0
         c.args.chip.now c.loop-end.chip c.next_round.new.chip c.sweep-came.new.chip c.args.crew.now c.loop-end.crew c.next_round.new.crew c.sweep-came.new.crew
         c.loop-end.invariant.order.1 c.next_round.ensures.next c.loop-end.invariant.stands.goes.count c.next_round.ensures.stands.goes.count c.sweep-came.ensures.order,
+    λ threaded. asks_on g.M.Marks.shown (length c.args.crew.now) (length c.loop-end.crew) c.loop-end.invariant.order.0 c.loop-end.threads c.next_round.new.threads
+        c.loop-end.invariant.stands.goes.count (c.loop-end.invariant.order.2 threaded)
+        (c.next_round.ensures.asks (threads_yet (conduct_of_members g.W.Worker.conduct) (rounds_of c.args.mode) c.loop-end.rounds c.loop-end.invariant.order.0
+        c.args.chip.now c.loop-end.chip c.args.crew.now c.loop-end.crew c.loop-end.invariant.order.1 threaded)),
   );
 }
 
@@ -76,3 +81,25 @@ returns-in-Some-clause-order g c =
     (rounds_on (conduct_of_members g.W.Worker.conduct) (rounds_of c.args.mode) c.loop-end.rounds c.next_round.new.rounds c.loop-end.invariant.order.0
     c.args.chip.now c.loop-end.chip c.next_round.new.chip c.sweep-came.new.chip c.args.crew.now c.loop-end.crew c.next_round.new.crew c.sweep-came.new.crew
     c.loop-end.invariant.order.1 c.next_round.ensures.next c.loop-end.invariant.stands.goes.count c.next_round.ensures.stands.goes.count c.sweep-came.ensures.order)
+
+pub returns-in-Some-clause-passed : goal.returns-in-Some-clause-passed
+returns-in-Some-clause-passed g c = λ threaded k low.
+    c.next_round.ensures.passed (threads_yet (conduct_of_members g.W.Worker.conduct) (rounds_of c.args.mode) c.loop-end.rounds c.loop-end.invariant.order.0
+    c.args.chip.now c.loop-end.chip c.args.crew.now c.loop-end.crew c.loop-end.invariant.order.1 threaded)
+    k (subst (λ (n : ℕ). k < n) (sym c.loop-end.invariant.stands.goes.count) low)
+
+pub returns-in-Some-clause-rounds : goal.returns-in-Some-clause-rounds
+returns-in-Some-clause-rounds g c = (
+  c.loop-end.invariant.order.0 + 1,
+  c.next_round.new.rounds,
+  rounds_on (conduct_of_members g.W.Worker.conduct) (rounds_of c.args.mode) c.loop-end.rounds c.next_round.new.rounds c.loop-end.invariant.order.0
+      c.args.chip.now c.loop-end.chip c.next_round.new.chip c.sweep-came.new.chip c.args.crew.now c.loop-end.crew c.next_round.new.crew c.sweep-came.new.crew
+      c.loop-end.invariant.order.1 c.next_round.ensures.next c.loop-end.invariant.stands.goes.count c.next_round.ensures.stands.goes.count c.sweep-came.ensures.order,
+  λ threaded. (
+    c.next_round.new.threads,
+    asks_on g.M.Marks.shown (length c.args.crew.now) (length c.loop-end.crew) c.loop-end.invariant.order.0 c.loop-end.threads c.next_round.new.threads
+        c.loop-end.invariant.stands.goes.count (c.loop-end.invariant.order.2 threaded)
+        (c.next_round.ensures.asks (threads_yet (conduct_of_members g.W.Worker.conduct) (rounds_of c.args.mode) c.loop-end.rounds c.loop-end.invariant.order.0
+        c.args.chip.now c.loop-end.chip c.args.crew.now c.loop-end.crew c.loop-end.invariant.order.1 threaded)),
+  ),
+)
