@@ -139,7 +139,7 @@ TRACE_KINDS = _kinds(TRACE, {
 # no faults of a file: why ranks of a run cannot end, as `rcce why` says it
 RUN_CAUSES = [
     Kind("cycle", RUN, "UEs wait for each other in a ring: a send ends only when its message was taken, and none of them takes one",
-         "one of the ring that receives before it sends, or a post in place of a send", ["ue 1", "send 0 x", "recv 0 y 1"],
+         "one of the ring that receives before it sends, or a post instead of a send", ["ue 1", "send 0 x", "recv 0 y 1"],
          ["ue 1", "recv 0 y 1", "send 0 x"], before=["all", "bytes x 00", "ue 0", "send 1 x", "recv 1 y 1"]),
     Kind("finished", RUN, "a UE that has finished is still waited for",
          "the receive, send or barrier that is missing there", ["ue 0", "barrier"], ["all", "barrier"]),
