@@ -32,7 +32,7 @@ _rcce() {
   esac
   if [ "$program" = rcce ]; then
     if [ "$COMP_CWORD" -eq 1 ]; then
-      _rcce_words 'run why sum mesh draw log audit grade explain --help --version' "$word"
+      _rcce_words 'run why sum mesh draw log audit lab grade explain --help --version' "$word"
       return
     fi
     command=${COMP_WORDS[1]}
@@ -56,7 +56,7 @@ _rcce() {
     rcce:mesh) options='--help --version --json --quiet -nue -at -f' ;;
     rcce:draw) options='--help --version --json --quiet -nue -at -f -o --form' ;;
     rcce:grade) options='--help --version --json --quiet -nue --wanted' ;;
-    rcce:audit | rcce:explain) options='--help --version --json --quiet' ;;
+    rcce:audit | rcce:lab | rcce:explain) options='--help --version --json --quiet' ;;
     rcce:*) options='--help --version --json --quiet -nue' ;;
   esac
   case $word in
@@ -66,7 +66,7 @@ _rcce() {
         _rcce_words 'waits messages mesh' "$word"
       elif [ "$command" = explain ]; then
         _rcce_words "$("${COMP_WORDS[0]/#\~/$HOME}" explain --json 2>/dev/null | grep -o '"kind": *"[A-Za-z]*"' | sed 's/.*: *"//; s/"//')" "$word"
-      elif [ "$program" = rccelab ]; then
+      elif [ "$program" = rccelab ] || [ "$command" = lab ]; then
         _rcce_files "$word" .lab
       else
         _rcce_files "$word"

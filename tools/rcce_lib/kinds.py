@@ -7,6 +7,10 @@ from typing import Any
 from rcce_lib.rules import LIMITS, RULES
 
 SCRIPT, HOSTS, LOG, LAB, TRACE, RUN = "script", "host file", "log", "lab", "trace", "run"
+# the forms of the lines of logs and of traces
+LOG_HEAD, TRACE_HEAD, COMM = "rcce log N", "rcce trace 1 nue N layout words|bits hosts CORE,CORE,..", "comm NUMBER PARENT mod|div PARTS"
+CALL, POST, BARRIER = "R send|recv J KIND C LEN HEX", "R post J plain 0 LEN HEX", "R bar C"
+ACCESS, REGISTER = "RANK load|store CORE.LINE.WORD VALUE", "RANK take|free CORE.register VALUE"
 
 
 @dataclass(frozen=True)
@@ -101,13 +105,13 @@ LOG_KINDS = [
     Kind("TooLong", LOG, "the log has more than 67,108,864 bytes; said of line 0", "a log of at most 67,108,864 bytes",
          ["rcce log 2", "# and 67,108,864 dashes"], ["rcce log 2"], whole=True, dashes=67108864),
     Kind("BadHead", LOG, "the first line is not `rcce log N` with N from 1 to 48",
-         "rcce log N, with N from 1 to 48, single blanks and no leading zero",
+         f"{LOG_HEAD}, with N from 1 to 48, single blanks and no leading zero",
          ["rcce log 02"], ["rcce log 2"]),
     Kind("BadComm", LOG, "a line that begins with comm is no split of its form, or stands out of its place",
-         "comm NUMBER PARENT mod|div PARTS before all calls, with rising numbers and a parent that is there",
+         f"{COMM} before all calls, with rising numbers and a parent that is there",
          ["comm 2 0 rest 2"], ["comm 2 0 mod 2"], before=["rcce log 4"]),
     Kind("BadCall", LOG, "a line that does not begin with comm is no call of its form, or stands out of its place",
-         "R send|recv J KIND C LEN HEX, R post J plain 0 LEN HEX or R bar C, by rank, with single blanks and lower-case hex",
+         f"{CALL}, {POST} or {BARRIER}, by rank, with single blanks and lower-case hex",
          ["0 send 1 plain 0 2 01"], ["0 send 1 plain 0 1 01"], before=["rcce log 2"]),
 ]
 
@@ -124,18 +128,18 @@ TRACE_KINDS = _kinds(TRACE, {
     "TooLong": {"wanted": f"a trace of at most {MOST_TRACE_BYTES:,} bytes and {MOST_TRACE_LINES:,} lines",
                 "wrong": ["rcce trace 1 nue 1 layout words hosts 0", f"# and {MOST_TRACE_BYTES:,} dashes"], "right": ["rcce trace 1 nue 1 layout words hosts 0"],
                 "whole": True, "dashes": MOST_TRACE_BYTES},
-    "BadHead": {"wanted": "rcce trace 1 nue N layout words|bits hosts CORE,.. with N from 1 to 48 and as many different cores below 48",
+    "BadHead": {"wanted": f"{TRACE_HEAD} with N from 1 to 48 and as many different cores below 48",
                 "wrong": ["rcce trace 1 nue 2 layout words hosts 0"], "right": ["rcce trace 1 nue 2 layout words hosts 0,1"]},
-    "BadComm": {"wanted": "comm NUMBER PARENT mod|div PARTS before all events, with rising numbers and a parent that is there",
+    "BadComm": {"wanted": f"{COMM} before all events, with rising numbers and a parent that is there",
                 "wrong": ["comm 2 0 rest 2"], "right": ["comm 2 0 mod 2"], "before": ["rcce trace 1 nue 4 layout words hosts 0,1,2,3"]},
-    "BadEvent": {"wanted": "RANK load|store CORE.LINE.WORD VALUE or RANK take|free CORE.register VALUE, with 16 hex digits and what you like behind a #, 255 bytes at most",
+    "BadEvent": {"wanted": f"{ACCESS} or {REGISTER}, with 16 hex digits and any comment after a #, 255 bytes at most",
                  "wrong": ["0 load 0.225.0 0"], "right": ["0 load 0.225.0 0000000000000000"], "before": ["rcce trace 1 nue 1 layout words hosts 0"]},
 })
 
 # no faults of a file: why ranks of a run cannot end, as `rcce why` says it
 RUN_CAUSES = [
     Kind("cycle", RUN, "UEs wait for each other in a ring: a send ends only when its message was taken, and none of them takes one",
-         "one of the ring that receives before it sends, or a post in place of a send", ["ue 1", "send 0 x", "recv 0 y 1"],
+         "one of the ring that receives before it sends, or a post instead of a send", ["ue 1", "send 0 x", "recv 0 y 1"],
          ["ue 1", "recv 0 y 1", "send 0 x"], before=["all", "bytes x 00", "ue 0", "send 1 x", "recv 1 y 1"]),
     Kind("finished", RUN, "a UE that has finished is still waited for",
          "the receive, send or barrier that is missing there", ["ue 0", "barrier"], ["all", "barrier"]),

@@ -2,6 +2,7 @@
 from __future__ import annotations
 
 import re
+from dataclasses import dataclass
 from typing import Any
 
 from rcce_lib.inputs import Given
@@ -10,10 +11,34 @@ from rcce_lib.logs import differ
 from rcce_lib.programs import Programs
 from rcce_lib.shown import Paint, counted
 from rcce_lib.stops import Failure
-from rcce_lib.texts import Link, read_links
+from rcce_lib.texts import lines_of, strange
 
 # six columns and four rows of tiles, with two cores each
 COLUMNS, ROWS = 6, 4
+LINK = re.compile(r"(\d),(\d) -> (\d),(\d) (\d+)")
+NOT_FINISHED = "rccemesh: not finished"
+
+
+@dataclass(frozen=True)
+class Link:
+    """A link between two tiles, by column and row, and the lines that it carries (rccemesh)."""
+
+    start: tuple[int, int]
+    end: tuple[int, int]
+    lines: int
+
+
+def read_links(text: str) -> list[Link]:
+    """The links that carry lines, by what rccemesh writes."""
+    links = []
+    for line in lines_of("rccemesh", text):
+        if not (found := LINK.fullmatch(line)):
+            raise strange("rccemesh", line)
+        x, y, to_x, to_y, count = map(int, found.groups())
+        if abs(x - to_x) + abs(y - to_y) != 1:
+            raise strange("rccemesh", line)
+        links.append(Link((x, y), (to_x, to_y), count))
+    return links
 
 
 def tile(core: int) -> tuple[int, int]:
@@ -35,7 +60,7 @@ def cores_of(programs: Programs, hosts: Given, empty: Given, ues: int) -> list[i
 def load(told: Told, cores: list[int] | None) -> dict[str, Any]:
     """What each link carries, by rccemesh, and its sums, which are to agree with the messages that rccecheck tells."""
     at = ["-at", ",".join(map(str, cores))] if cores else []
-    ran = told.programs.run("rccemesh", "-nue", str(told.ues), *at, told.script.path)
+    ran = told.programs.run("rccemesh", "-nue", str(told.ues), *at, told.script.path, tells=NOT_FINISHED)
     links = read_links(ran.out)
     tiles = [tile(core) for core in cores or range(told.ues)]
     total, inside = 0, 0

@@ -66,8 +66,8 @@ class Programs:
         """How the user calls a file."""
         return self.files.get(path, (path, ""))[0]
 
-    def run(self, program: str, *words: str, stream: bool = False) -> Ran:
-        """The answer of a program; its output goes straight on where it is to be streamed."""
+    def run(self, program: str, *words: str, stream: bool = False, tells: str | None = None) -> Ran:
+        """The answer of a program; its output goes straight on where it is to be streamed. `tells` is its line of a run that does not finish."""
         path = find_program(program)
         self.progress.doing = " ".join([program, *map(self.name, words)])
         try:
@@ -77,9 +77,9 @@ class Programs:
         self.progress.doing = f"reading what {program} says"
         if status not in ANSWERS:
             raise self._stop(program, words, status, lines)
-        # rccerun alone tells more of a run there
-        told = ["rccemesh: not finished"] if (program, status) == ("rccemesh", 3) else []
-        if program != "rccerun" and lines != told:
+        # rccerun and rccelab alone tell more of a run there
+        told = [tells] if tells and status == 3 else []
+        if program not in ("rccerun", "rccelab") and lines != told:
             raise strange(program, " ".join(lines))
         return Ran(program, out, lines, status)
 

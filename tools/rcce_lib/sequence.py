@@ -153,7 +153,7 @@ class Chart:
     def __init__(self, told: Messages) -> None:
         self.told = told
         self.ues = told.told.ues
-        self.apart = 90 if self.ues <= 16 else 44
+        self.apart = 90 if self.ues <= 16 else 56
         self.left = 60 + LETTER * max([4, *(len(row.place) for row in told.flat)])
         self.legend = told.legend()
         texts = max(len(line) for line in [*told.hanging, *(words for _, words in self.legend)])

@@ -6,6 +6,7 @@ import unicodedata
 from dataclasses import dataclass, field
 from typing import Callable, Iterable
 
+from rcce_lib.kinds import ACCESS, BARRIER, CALL, COMM, HOSTS, LAB, LOG, LOG_HEAD, POST, REGISTER, TRACE, TRACE_HEAD
 from rcce_lib.marks import Word, seen, text_of, words_of
 from rcce_lib.rules import FORMS, LIMITS
 from rcce_lib.script_faults import Found, alike
@@ -13,9 +14,6 @@ from rcce_lib.shown import counted
 from rcce_lib.texts import KINDS
 
 Test = Callable[[str], "str | None"]
-HEAD, HEAD_OF_TRACE, COMM = "rcce log N", "rcce trace 1 nue N layout words|bits hosts CORE,CORE,..", "comm NUMBER PARENT mod|div PARTS"
-CALL, POST, BARRIER = "R send|recv J KIND C LEN HEX", "R post J plain 0 LEN HEX", "R bar C"
-ACCESS, REGISTER = "RANK load|store CORE.LINE.WORD VALUE", "RANK take|free CORE.register VALUE"
 
 
 @dataclass
@@ -110,7 +108,7 @@ def strictly(it: Lines, form: str, judge: Callable[[list[Word]], Found | None], 
 
 def log_head(it: Lines) -> Found | None:
     """BadHead of a log."""
-    return strictly(it, HEAD, lambda words: first_wrong(words, [one_of("rcce"), one_of("log"), number(1, 48, "N")], HEAD))
+    return strictly(it, LOG_HEAD, lambda words: first_wrong(words, [one_of("rcce"), one_of("log"), number(1, 48, "N")], LOG_HEAD))
 
 
 def trace_head(it: Lines) -> Found | None:
@@ -119,10 +117,10 @@ def trace_head(it: Lines) -> Found | None:
 
     def judge(words: list[Word]) -> Found | None:
         """The words, and then the cores."""
-        found = first_wrong(words, [*tests, lambda _: None], HEAD_OF_TRACE)
+        found = first_wrong(words, [*tests, lambda _: None], TRACE_HEAD)
         return found or _hosts(words[8], int(words[4].text))
 
-    return strictly(it, HEAD_OF_TRACE, judge)
+    return strictly(it, TRACE_HEAD, judge)
 
 
 def _hosts(word: Word, ues: int) -> Found | None:
@@ -132,9 +130,9 @@ def _hosts(word: Word, ues: int) -> Found | None:
     for core in (it.part(0, len(it.text.removesuffix(","))) for it in cores):
         wrong = number(0, 47, "a core")(core.text) or (f"core {core.text} is named twice" if core.text in named else None)
         if wrong:
-            return Found(wrong, core if core.text else word, HEAD_OF_TRACE)
+            return Found(wrong, core if core.text else word, TRACE_HEAD)
         named.append(core.text)
-    return None if len(named) == ues else Found(f"{counted(len(named), 'core')} for {counted(ues, 'rank')}", word, HEAD_OF_TRACE)
+    return None if len(named) == ues else Found(f"{counted(len(named), 'core')} for {counted(ues, 'rank')}", word, TRACE_HEAD)
 
 
 def head_of(lines: Iterable[bytes]) -> Head:
@@ -255,9 +253,8 @@ def bad_lab_core(it: Lines) -> Found | None:
 
 def _core(text: str) -> str | None:
     """What is wrong with the number of a core; leading zeros are none of it."""
-    if not re.fullmatch(r"[0-9]{1,10}", text):
-        return f"{text} is no number of a core"
-    return f"{int(text)} is no core: cores are 0 to 47" if int(text) > 47 else None
+    there = re.fullmatch(r"[0-9]{1,10}", text)
+    return None if there and int(text) <= 47 else f"{int(text) if there else text} is no core: cores are 0 to 47"
 
 
 def bad_step(it: Lines) -> Found | None:
@@ -276,7 +273,8 @@ def bad_step(it: Lines) -> Found | None:
     by_word = bool(rest) and "." in rest[0].text
     form = [it for it in forms[verb.text] if ("WORD" in it) == by_word] or forms[verb.text]
     tests = [test for name in form[0].split()[3:] for test in ([_hex_value] * 4 if name == "HEX4" else [LAB_TESTS[name]])]
-    return first_wrong(rest, tests + _options(verb.text, [it.text for it in rest[len(tests) :]], by_word), told)
+    tests += _options(verb.text, [it.text for it in rest[len(tests) :]], by_word)
+    return first_wrong(words, [*[lambda _: None] * 3, *tests], told)
 
 
 def _options(verb: str, texts: list[str], by_word: bool) -> list[Test]:
@@ -338,8 +336,8 @@ def too_few(it: Lines) -> Found | None:
 
 
 TEXT_FAULTS: dict[tuple[str, str], Callable[[Lines], Found | None]] = {
-    ("host file", "BadCore"): bad_core, ("host file", "TwiceCore"): twice_core, ("host file", "TooFew"): too_few,
-    ("log", "BadHead"): log_head, ("log", "BadComm"): bad_comm, ("log", "BadCall"): bad_call,
-    ("lab", "BadCore"): bad_lab_core, ("lab", "BadStep"): bad_step,
-    ("trace", "BadHead"): trace_head, ("trace", "BadComm"): bad_comm, ("trace", "BadEvent"): bad_event,
+    (HOSTS, "BadCore"): bad_core, (HOSTS, "TwiceCore"): twice_core, (HOSTS, "TooFew"): too_few,
+    (LOG, "BadHead"): log_head, (LOG, "BadComm"): bad_comm, (LOG, "BadCall"): bad_call,
+    (LAB, "BadCore"): bad_lab_core, (LAB, "BadStep"): bad_step,
+    (TRACE, "BadHead"): trace_head, (TRACE, "BadComm"): bad_comm, (TRACE, "BadEvent"): bad_event,
 }

@@ -16,7 +16,6 @@ MISMATCH = re.compile(rf"ue (\d+) mismatch at line (\d+): from (\d+) sent {HEAD}
 MESSAGE = re.compile(rf"(\d+):(\d+) -> (\d+):(\d+) {HEAD}")
 TROUBLE = re.compile(r"ue (\d+) waits for (\d+), cause (cycle|finished|mismatch) (\d+)")
 REFUSED = re.compile(r"ue (\d+) mismatch with (\d+)")
-LINK = re.compile(r"(\d),(\d) -> (\d),(\d) (\d+)")
 VERDICT = re.compile(r"not legal: ue (\d+) call (\d+)")
 GENERATED = re.compile(r"gen (\d+) ues (\d+) sends (\d+) bytes (\d+) sum (\d+)")
 
@@ -63,15 +62,6 @@ class Trouble:
     other: int
     cause: str
     root: int
-
-
-@dataclass(frozen=True)
-class Link:
-    """A link between two tiles, by column and row, and the lines that it carries (rccemesh)."""
-
-    start: tuple[int, int]
-    end: tuple[int, int]
-    lines: int
 
 
 def strange(program: str, line: str) -> Failure:
@@ -127,19 +117,6 @@ def read_check(text: str) -> tuple[list[Message], dict[int, Trouble]]:
         else:
             raise strange("rccecheck", line)
     return messages, troubles
-
-
-def read_links(text: str) -> list[Link]:
-    """The links that carry lines, by what rccemesh writes."""
-    links = []
-    for line in lines_of("rccemesh", text):
-        if not (found := LINK.fullmatch(line)):
-            raise strange("rccemesh", line)
-        x, y, to_x, to_y, count = map(int, found.groups())
-        if abs(x - to_x) + abs(y - to_y) != 1:
-            raise strange("rccemesh", line)
-        links.append(Link((x, y), (to_x, to_y), count))
-    return links
 
 
 def read_printed(text: str) -> list[dict[str, object]]:

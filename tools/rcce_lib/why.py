@@ -9,7 +9,7 @@ from rcce_lib.shown import Paint, counted, ues
 from rcce_lib.texts import Halt
 
 HELP = {
-    "ring of sends": "let one of the ring receive before it sends, or post in place of its send",
+    "ring of sends": "let one of the ring receive before it sends, or let it post instead of sending",
     "ring of receives": "let one of the ring send before it receives",
     "ring": "change the order of the calls of one of the ring",
     "send": "add the receive that is missing at ue {root}, or leave out what is sent to it",

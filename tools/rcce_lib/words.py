@@ -214,6 +214,16 @@ def do_audit(work: Work) -> int:
     return work.answer(auditing.audit(work.programs, work.scratch, work.read(work.words.log)), auditing.text_of)
 
 
+def do_lab(work: Work) -> int:
+    """Does the steps of a lab."""
+    from rcce_lib import labs
+
+    given = work.read(work.words.lab)
+    if work.words.json:
+        return work.answer(labs.lab_object(work.programs, given), lambda found, paint: "")
+    return labs.run(work.programs, given)
+
+
 def do_grade(work: Work) -> int:
     """Grades the scripts of a folder."""
     from rcce_lib import grading
@@ -259,6 +269,8 @@ def build_parser() -> Parser:
     add("log", "print the log of a run's calls", do_log)
     audit = add("audit", "tell whether a log is legal, and why it is not", do_audit, script=False)
     audit.add_argument("log", metavar="LOG", help="the log, or - for standard input")
+    lab = add("lab", "do the steps of a lab, and tell what is wrong with one that is refused", do_lab, script=False)
+    lab.add_argument("lab", metavar="LAB", help="the lab, or - for standard input")
     grade = add("grade", "run the scripts of a folder and compare with stored outputs", do_grade, script=False)
     grade.add_argument("-nue", metavar="N", type=number(1, 48), help="how many UEs there are, for all scripts")
     grade.add_argument("--wanted", metavar="FOLDER", help="the folder of the stored outputs, if it is another one")
