@@ -76,7 +76,9 @@ class Programs:
             raise Failure(f"{path} does not start: {error.strerror}") from error
         self.progress.doing = f"reading what {program} says"
         if status not in ANSWERS:
-            raise self._stop(program, words, status, lines)
+            stop = self._stop(program, words, status, lines)
+            stop.out = out
+            raise stop
         # rccerun alone tells more of a run there
         told = ["rccemesh: not finished"] if (program, status) == ("rccemesh", 3) else []
         if program != "rccerun" and lines != told:
