@@ -2,6 +2,8 @@
 where a compiler is on the machine, the emulated chip is built, writes these logs again, and has whole runs without a fault."""
 from __future__ import annotations
 
+import contextlib
+import io
 import os
 import pathlib
 import re
@@ -9,6 +11,8 @@ import shutil
 import subprocess
 import tempfile
 from typing import Any, NamedTuple
+
+from trace_lib.from_logs import trace_from
 
 PORTS = pathlib.Path(__file__).resolve().parents[2] / "bench/ports"
 # the calls of a rank of the program that the logs are of: two rounds of a send, a receive and two barriers
@@ -46,11 +50,13 @@ def cases() -> list[Case]:
     return [Case(*it[:4], int(it[4]) if it[4:] else 0, it[5] if it[5:] else "") for it in words]
 
 
-def judged(called: Any, folder: str, map_: pathlib.Path, log: pathlib.Path) -> tuple[str, list[int]]:
+def judged(folder: str, map_: pathlib.Path, log: pathlib.Path) -> tuple[str, list[int]]:
     """What is said of a log's trace: the verdict as the table has it, and how many calls each rank has finished."""
-    made = called(["trace_from", str(map_), str(log), "-o", "made"], folder)
-    if made.returncode or made.stderr:
-        return f"trace_from ends with {made.returncode}: {made.stderr!r:.300}", []
+    told = io.StringIO()
+    with contextlib.redirect_stderr(told):
+        status = trace_from([str(map_), str(log), "-o", f"{folder}/made"])
+    if status or told.getvalue():
+        return f"trace_from ends with {status}: {told.getvalue():.300}", []
     ran = subprocess.run([f"{os.environ['RCCE_PROGRAMS']}/rccetrace", "made"], cwd=folder, capture_output=True, text=True, timeout=300)
     if found := re.match(r"not legal: line (\d+): ", ran.stdout):
         line = pathlib.Path(folder, "made").read_text(encoding="ascii").splitlines()[int(found[1]) - 1]
@@ -70,7 +76,7 @@ def check_ports(called: Any, write: bool) -> tuple[int, list[str]]:
             if write and text is not None:
                 lines = text.splitlines(keepends=True)
                 case.log.write_text("".join(lines[: case.line or None]), encoding="ascii")
-            said, finished = judged(called, folder, PORTS / f"{case.layout}.map", case.log)
+            said, finished = judged(folder, PORTS / f"{case.layout}.map", case.log)
             is_open = said == "legal" and not all(count == WHOLE for count in finished)
             wanted = f"refused {case.line} {case.event}" if case.verdict == "refused" else case.verdict
             stored = case.log.read_text(encoding="ascii")
@@ -78,12 +84,12 @@ def check_ports(called: Any, write: bool) -> tuple[int, list[str]]:
             bad += [] if text is None or (text.startswith(stored) if case.line else text == stored) else ["the emulator writes another log"]
             checked, wrong = checked + 1, wrong + [f"bench/ports/verdicts: {case.fault} {case.layout}: {it}" for it in bad]
         if emulator:
-            number, more = check_runs(called, folder, emulator)
+            number, more = check_runs(folder, emulator)
             checked, wrong = checked + number, wrong + more
     return checked, wrong
 
 
-def check_runs(called: Any, folder: str, emulator: str) -> tuple[int, list[str]]:
+def check_runs(folder: str, emulator: str) -> tuple[int, list[str]]:
     """Whole runs without a fault, and the maps."""
     wrong = []
     for words in RUNS:
@@ -91,7 +97,7 @@ def check_runs(called: Any, folder: str, emulator: str) -> tuple[int, list[str]]
         maps = [it for at, it in enumerate(options) if it == "--bits" or "--ranks" in options[max(0, at - 1) : at + 1]]
         pathlib.Path(folder, "a.map").write_text(run(emulator, "--map", *maps), encoding="ascii")
         pathlib.Path(folder, "a.log").write_text(run(emulator, *options), encoding="ascii")
-        said, finished = judged(called, folder, pathlib.Path(folder, "a.map"), pathlib.Path(folder, "a.log"))
+        said, finished = judged(folder, pathlib.Path(folder, "a.map"), pathlib.Path(folder, "a.log"))
         rounds = 1 if "--rounds" in options else 2
         wrong += [] if said == "legal" and finished and set(finished) == {WHOLE // 2 * rounds} else [f"emulated {words}: {said} {finished}"]
     for layout, maps in (("words", []), ("bits", ["--bits"])):
