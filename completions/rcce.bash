@@ -32,7 +32,7 @@ _rcce() {
   esac
   if [ "$program" = rcce ]; then
     if [ "$COMP_CWORD" -eq 1 ]; then
-      _rcce_words 'run why sum mesh draw log audit lab grade explain --help --version' "$word"
+      _rcce_words 'run why sum mesh draw log audit lab trace grade explain --help --version' "$word"
       return
     fi
     command=${COMP_WORDS[1]}
@@ -56,6 +56,7 @@ _rcce() {
     rcce:mesh) options='--help --version --json --quiet -nue -at -f' ;;
     rcce:draw) options='--help --version --json --quiet -nue -at -f -o --form' ;;
     rcce:grade) options='--help --version --json --quiet -nue --wanted' ;;
+    rcce:trace) options='--help --version --json --quiet --keep-going --moves' ;;
     rcce:audit | rcce:lab | rcce:explain) options='--help --version --json --quiet' ;;
     rcce:*) options='--help --version --json --quiet -nue' ;;
   esac

@@ -76,7 +76,9 @@ class Programs:
             raise Failure(f"{path} does not start: {error.strerror}") from error
         self.progress.doing = f"reading what {program} says"
         if status not in ANSWERS:
-            raise self._stop(program, words, status, lines)
+            stop = self._stop(program, words, status, lines)
+            stop.out = out
+            raise stop
         # rccerun and rccelab alone tell more of a run there
         told = [tells] if tells and status == 3 else []
         if program not in ("rccerun", "rccelab") and lines != told:

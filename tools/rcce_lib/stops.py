@@ -17,6 +17,8 @@ class Stop(Exception):
         self.line = line
         self.status = status
         self.below = below or []
+        # what the program wrote before it ended
+        self.out = ""
 
 
 class Failure(Stop):

@@ -224,6 +224,21 @@ def do_lab(work: Work) -> int:
     return labs.run(work.programs, given)
 
 
+def do_trace(work: Work) -> int:
+    """Judges a trace."""
+    from rcce_lib import tracing
+
+    asked = work.words
+    try:
+        found = tracing.judge(work.programs, work.scratch, work.read(asked.trace), asked.keep_going, asked.moves)
+    except Refused as stop:
+        # what was said before the line that is refused
+        if stop.out and not asked.json:
+            say(stop.out.removesuffix("\n"))
+        raise
+    return work.answer(found, tracing.text_of)
+
+
 def do_grade(work: Work) -> int:
     """Grades the scripts of a folder."""
     from rcce_lib import grading
@@ -271,6 +286,11 @@ def build_parser() -> Parser:
     audit.add_argument("log", metavar="LOG", help="the log, or - for standard input")
     lab = add("lab", "do the steps of a lab, and tell what is wrong with one that is refused", do_lab, script=False)
     lab.add_argument("lab", metavar="LAB", help="the lab, or - for standard input")
+    trace = add("trace", "tell whether a trace is legal, and what stood before the event that is not", do_trace, script=False)
+    trace.add_argument("--keep-going", action="store_true", help="leave out each event that is refused, judge the rest, and count by rank; "
+                       "what is refused later may come of what was before")
+    trace.add_argument("--moves", metavar="N", type=number(0, 1000), default=0, help="draw the last N moves of the ranks concerned")
+    trace.add_argument("trace", metavar="TRACE", help="the trace, or - for standard input")
     grade = add("grade", "run the scripts of a folder and compare with stored outputs", do_grade, script=False)
     grade.add_argument("-nue", metavar="N", type=number(1, 48), help="how many UEs there are, for all scripts")
     grade.add_argument("--wanted", metavar="FOLDER", help="the folder of the stored outputs, if it is another one")

@@ -91,7 +91,7 @@ def _command(words: argparse.Namespace, text_of: Callable[[argparse.Namespace, G
     scratch = Scratch()
     try:
         text = text_of(words, read(words.file, scratch), Programs(Progress(True)))
-        _write(words.o, text)
+        write_text(words.o, text)
         return 0
     except Stop as stop:
         if stop.line:
@@ -106,7 +106,7 @@ def _command(words: argparse.Namespace, text_of: Callable[[argparse.Namespace, G
         scratch.close()
 
 
-def _write(name: str | None, text: Iterator[str]) -> None:
+def write_text(name: str | None, text: Iterator[str]) -> None:
     """Writes a text to the file of that name, or to standard output."""
     pieces = iter(text)
     # what may refuse the file does so before anything is written

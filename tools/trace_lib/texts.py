@@ -64,24 +64,24 @@ def read_trace(name: str, data: bytes) -> Trace:
     if not whole:
         # the rest behind the last line feed is no line of the form
         lines.append(data.decode("latin-1").rpartition("\n")[2])
-    setup = None if len(lines) == 1 and not whole or len(lines[0]) > LONGEST_LINE else _head(lines[0])
+    setup = None if len(lines) == 1 and not whole or len(lines[0]) > LONGEST_LINE else read_head(lines[0])
     if setup is None:
         raise refuse(1, "BadHead")
     trace, last = Trace(name, setup, []), len(lines)
     for at, line in enumerate(lines[1:], 2):
         broken = at == last and not whole or len(line) > LONGEST_LINE
         if line.startswith("comm"):
-            if broken or trace.events or not _comm(setup, line):
+            if broken or trace.events or not read_comm(setup, line):
                 raise refuse(at, "BadComm")
             continue
-        event = None if broken else _event(setup, at, line)
+        event = None if broken else read_event(setup, at, line)
         if event is None:
             raise refuse(at, "BadEvent")
         trace.events.append(event)
     return trace
 
 
-def _head(line: str) -> Setup | None:
+def read_head(line: str) -> Setup | None:
     """The run of a first line, if it is of its form."""
     if not (found := HEAD.fullmatch(line)):
         return None
@@ -90,7 +90,7 @@ def _head(line: str) -> Setup | None:
     return Setup(ues, found[2], hosts) if fits else None
 
 
-def _comm(setup: Setup, line: str) -> bool:
+def read_comm(setup: Setup, line: str) -> bool:
     """Puts a communicator to its run, if it is of its form and in its place."""
     if not (found := COMM.fullmatch(line)):
         return False
@@ -101,7 +101,7 @@ def _comm(setup: Setup, line: str) -> bool:
     return fits
 
 
-def _event(setup: Setup, at: int, line: str) -> Event | None:
+def read_event(setup: Setup, at: int, line: str) -> Event | None:
     """The event of a line, if it is of its form."""
     if not (found := EVENT.fullmatch(line)):
         return None
