@@ -77,9 +77,9 @@ class Programs:
         self.progress.doing = f"reading what {program} says"
         if status not in ANSWERS:
             raise self._stop(program, words, status, lines)
-        # rccerun alone tells more of a run there
+        # rccerun and rccelab alone tell more of a run there
         told = ["rccemesh: not finished"] if (program, status) == ("rccemesh", 3) else []
-        if program != "rccerun" and lines != told:
+        if program not in ("rccerun", "rccelab") and lines != told:
             raise strange(program, " ".join(lines))
         return Ran(program, out, lines, status)
 

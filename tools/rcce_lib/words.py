@@ -223,6 +223,17 @@ def do_grade(work: Work) -> int:
     return work.answer(found, grading.text_of)
 
 
+def do_lab(work: Work) -> int:
+    """Runs a lab in every order of its steps."""
+    from rcce_lib import lab_orders
+
+    given = work.read(work.words.lab)
+    if work.words.show is None:
+        return work.answer(lab_orders.orders(work.programs, work.scratch, given), lab_orders.text_of)
+    text = lab_orders.shown(work.programs, work.scratch, given, work.words.show)
+    return work.answer({"command": "lab", "status": 0, "text": text}, lambda found, paint: str(found["text"]))
+
+
 def do_explain(work: Work) -> int:
     """Explains kinds of faults."""
     from rcce_lib import explained
@@ -263,6 +274,10 @@ def build_parser() -> Parser:
     grade.add_argument("-nue", metavar="N", type=number(1, 48), help="how many UEs there are, for all scripts")
     grade.add_argument("--wanted", metavar="FOLDER", help="the folder of the stored outputs, if it is another one")
     grade.add_argument("folder", metavar="FOLDER", help="the folder with each NAME.rcce, and NAME.out and NAME.err")
+    lab = add("lab", "run a lab in every order of its steps, each core's own in theirs, and count the outcomes", do_lab, script=False)
+    lab.add_argument("action", choices=("orders",), help="what is done with the lab")
+    lab.add_argument("--show", metavar="OUTCOME", help="print the lab in the first order with this outcome, as '1 0'")
+    lab.add_argument("lab", metavar="LAB", help="the lab, or - for standard input")
     explain = add("explain", "tell the rule of a kind of fault, a wrong line and the right one", do_explain, script=False)
     explain.add_argument("kind", metavar="KIND", nargs="?", help="the kind, in any case; without it all are listed")
     return top
