@@ -62,7 +62,8 @@ def orders_of(steps: list[Step]) -> Iterator[Order]:
 
 
 def _files(orders: list[Order], lines: list[Line], registers: list[int]) -> Iterator[tuple[str, list[Order]]]:
-    """Labs of these orders, as many in one file as there are lines and registers for. Behind each order nobody holds a line."""
+    """Labs of these orders, as many in one file as there are lines and registers for. What an order leaves in caches and buffers is of lines that the
+    next one does not name."""
     room = min([CORES * LINES // max(1, len(lines)), *([CORES // len(registers)] if registers else [])])
     at = 0
     while at < len(orders):
@@ -71,7 +72,6 @@ def _files(orders: list[Order], lines: list[Line], registers: list[int]) -> Iter
             places = {line: divmod(number * len(lines) + k, LINES) for k, line in enumerate(lines)}
             locks = {register: number * len(registers) + k for k, register in enumerate(registers)}
             more = "".join(f"{step.moved(places, locks)}\n" for step in order)
-            more += "".join(f"core {core} {verb}\n" for core in sorted({step.core for step in order}) for verb in ("flush", "invalidate"))
             if taken and len(text) + len(more) > MOST_BYTES:
                 break
             text, taken = text + more, [*taken, order]
@@ -89,12 +89,12 @@ def run_orders(programs: Programs, scratch: Scratch, orders: list[Order]) -> lis
         while taken:
             done, stop = run_lab(programs, scratch.put(text.encode("ascii")))
             answers = iter(it.answers for it in done)
-            size = len(taken[0]) + 2 * len({step.core for step in taken[0]})
-            whole = len(done) // size if stop else len(taken)
-            for order in taken[:whole]:
-                runs.append(_judged(order, [next(answers) for _ in range(size)]))
-            if stop and whole < len(taken):
-                runs.append(_judged(taken[whole], list(answers)[:-1], stop.partition(": ")[2]))
+            size = len(taken[0])
+            # (the step at which a lab stops is told, and not done)
+            whole = (len(done) - 1) // size if stop else len(taken)
+            runs += [_judged(order, [next(answers) for _ in range(size)]) for order in taken[:whole]]
+            if stop:
+                runs.append(_judged(taken[whole], list(answers)[:-1], "does not hold" if "does not hold" in stop else "holds"))
                 whole += 1
             # (the first line names the version)
             text = "rcce lab 1\n" + "".join(text.splitlines(keepends=True)[1 + whole * size :])
@@ -115,7 +115,8 @@ def _judged(order: Order, answers: list[list[str]], stop: str | None = None) -> 
         if found and step.part and not step.waits:
             read[step.at] = ",".join(found)
     if stop:
-        run.stops = f"line {order[len(answers)].at}: {stop}"
+        step = order[len(answers)]
+        run.stops = f"line {step.at}: core {step.core} {stop} register {step.words[1]}"
     else:
         run.outcome = " ".join(read[at] for at in sorted(read))
     return run
