@@ -28,11 +28,11 @@ _rcce() {
       _rcce_words 'svg text dot' "$word"
       return
       ;;
-    -nue | -at | -evict | -serial | -gen) return ;;
+    -nue | -at | -evict | -serial | -gen | --show) return ;;
   esac
   if [ "$program" = rcce ]; then
     if [ "$COMP_CWORD" -eq 1 ]; then
-      _rcce_words 'run why sum mesh draw log audit grade explain --help --version' "$word"
+      _rcce_words 'run why sum mesh draw log audit grade lab explain --help --version' "$word"
       return
     fi
     command=${COMP_WORDS[1]}
@@ -56,6 +56,7 @@ _rcce() {
     rcce:mesh) options='--help --version --json --quiet -nue -at -f' ;;
     rcce:draw) options='--help --version --json --quiet -nue -at -f -o --form' ;;
     rcce:grade) options='--help --version --json --quiet -nue --wanted' ;;
+    rcce:lab) options='--help --version --json --quiet --show' ;;
     rcce:audit | rcce:explain) options='--help --version --json --quiet' ;;
     rcce:*) options='--help --version --json --quiet -nue' ;;
   esac
@@ -64,6 +65,8 @@ _rcce() {
     *)
       if [ "$command" = draw ] && [ "$COMP_CWORD" -eq "$at" ]; then
         _rcce_words 'waits messages mesh' "$word"
+      elif [ "$command" = lab ] && [ "$COMP_CWORD" -eq "$at" ]; then
+        _rcce_words 'orders' "$word"
       elif [ "$command" = explain ]; then
         _rcce_words "$("${COMP_WORDS[0]/#\~/$HOME}" explain --json 2>/dev/null | grep -o '"kind": *"[A-Za-z]*"' | sed 's/.*: *"//; s/"//')" "$word"
       elif [ "$program" = rccelab ]; then
