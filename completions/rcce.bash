@@ -28,7 +28,7 @@ _rcce() {
       _rcce_words 'svg text dot' "$word"
       return
       ;;
-    -nue | -at | -evict | -serial | -gen) return ;;
+    -nue | -at | -evict | -serial | -gen | --show) return ;;
   esac
   if [ "$program" = rcce ]; then
     if [ "$COMP_CWORD" -eq 1 ]; then
@@ -57,7 +57,8 @@ _rcce() {
     rcce:draw) options='--help --version --json --quiet -nue -at -f -o --form' ;;
     rcce:grade) options='--help --version --json --quiet -nue --wanted' ;;
     rcce:trace) options='--help --version --json --quiet --keep-going --moves' ;;
-    rcce:audit | rcce:lab | rcce:explain) options='--help --version --json --quiet' ;;
+    rcce:lab) options='--help --version --json --quiet --show' ;;
+    rcce:audit | rcce:explain) options='--help --version --json --quiet' ;;
     rcce:*) options='--help --version --json --quiet -nue' ;;
   esac
   case $word in
@@ -65,6 +66,8 @@ _rcce() {
     *)
       if [ "$command" = draw ] && [ "$COMP_CWORD" -eq "$at" ]; then
         _rcce_words 'waits messages mesh' "$word"
+      elif [ "$command" = lab ] && [ "$COMP_CWORD" -eq "$at" ]; then
+        _rcce_words 'orders' "$word"
       elif [ "$command" = explain ]; then
         _rcce_words "$("${COMP_WORDS[0]/#\~/$HOME}" explain --json 2>/dev/null | grep -o '"kind": *"[A-Za-z]*"' | sed 's/.*: *"//; s/"//')" "$word"
       elif [ "$program" = rccelab ] || [ "$command" = lab ]; then

@@ -1,4 +1,4 @@
-"""rcce grade: the scripts of a folder against stored outputs."""
+"""rcce grade: the scripts of a folder against stored outputs, and what tasks ask for against tasks."""
 from __future__ import annotations
 
 import os
@@ -9,14 +9,20 @@ from rcce_lib.inputs import Scratch, read
 from rcce_lib.programs import Programs
 from rcce_lib.shown import Paint
 from rcce_lib.stops import Stop
+from rcce_lib.tasks import ENDINGS, judge, task_of
 
 
 def grade(programs: Programs, scratch: Scratch, folder: str, wanted: str, ues: int | None) -> dict[str, Any]:
-    """Runs each NAME.rcce of a folder, and compares with NAME.out and NAME.err of the folder of what is wanted."""
-    files = [*_files(folder, (".rcce",)), *_files(wanted, (".out", ".err"))]
-    names = sorted({os.path.splitext(name)[0] for name in files})
-    places = [[os.path.normpath(os.path.join(place, name)) for place in (folder, wanted)] for name in names]
-    found = [_grade_one(programs, scratch, *place, ues) for place in places]
+    """Judges NAME.rcce, NAME.lab and others of a folder by NAME.task, or runs NAME.rcce and compares with NAME.out and NAME.err, of the folder of what
+    is wanted."""
+    tasks = {os.path.splitext(name)[0] for name in _files(wanted, (".task",))}
+    stored = [os.path.splitext(name)[0] for name in _files(wanted, (".out", ".err"))]
+    # (an output of an exercise has the ending of its file before its own)
+    scripts = {os.path.splitext(name)[0] for name in _files(folder, (".rcce",))} | {name for name in stored if not name.endswith((".lab", ".rcce"))}
+    found = []
+    for name in sorted(tasks | scripts):
+        place = [os.path.normpath(os.path.join(place, name)) for place in (folder, wanted)]
+        found.append(_grade_task(programs, scratch, *place) if name in tasks else _grade_one(programs, scratch, *place, ues))
     passed = sum(it["passed"] for it in found)
     status = 0 if found and passed == len(found) else 1
     return {"command": "grade", "status": status, "folder": folder, "passed": passed, "failed": len(found) - passed, "scripts": found}
@@ -64,8 +70,17 @@ def _grade_one(programs: Programs, scratch: Scratch, path: str, wanted: str, ues
     return _told(name, ran.status, wrong)
 
 
+def _grade_task(programs: Programs, scratch: Scratch, path: str, wanted: str) -> dict[str, Any]:
+    """What is handed in for a task: whether it passes, and what is wrong with it."""
+    task = task_of(f"{wanted}.task", scratch)
+    name = path + ENDINGS[task.kind]
+    if not os.path.exists(name):
+        return _told(name, None, f"no {task.kind if task.kind != 'predict' else 'prediction'} has this name")
+    return _told(name, None, judge(programs, scratch, task, name))
+
+
 def _told(name: str, status: int | None, wrong: str) -> dict[str, Any]:
-    """What is told of a script."""
+    """What is told of a script, or of another file that was handed in."""
     return {"script": name, "passed": not wrong, "ended": status, "wrong": wrong or None}
 
 

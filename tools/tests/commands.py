@@ -53,7 +53,7 @@ def check_commands(called: Any, write: bool) -> tuple[int, list[str]]:
 
 def check_help() -> tuple[int, list[str]]:
     """Which commands do not tell their words, with status 0 and nothing on standard error."""
-    found = [path for place in (".", "bench", "scripts", "tools", "examples", "lessons", "lessons/litmus", "rows", ".ci") for path in (TOP / place).iterdir()]
+    found = [path for place in (".", "bench", "scripts", "tools", "examples", "lessons", "lessons/litmus", "lessons/shapes", "rows", ".ci") for path in (TOP / place).iterdir()]
     programs = {path.parent.parent.name for path in TOP.glob("crates/*/src/main.rt")}
     names = sorted(str(path.relative_to(TOP)) for path in found if path.is_file() and os.access(path, os.X_OK))
     names = [name for name in names if name not in (*NO_WORDS, *programs)]
