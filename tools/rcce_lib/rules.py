@@ -84,6 +84,8 @@ FORMS: dict[str, list[str]] = {
         "core C invalidate",
         "core C put LINE HEX4",
         "core C get LINE",
+        "core C load WORD",
+        "core C store WORD HEX",
         "core C take K",
         "core C free K",
         "core C print",

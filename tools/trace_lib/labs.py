@@ -19,7 +19,7 @@ EVICTED = re.compile(r"evicted (\d+):(\d+)", re.A)
 HOLDS = re.compile(r"core (\d+) (caches|buffers) (?:(nothing)|(\d+):(\d+)((?: (?:[0-9a-f]{16}|-)){4}))", re.A)
 STOP = re.compile(r"line (\d+): (?:\d+:\d+\.[0-3] is [0-9a-f]{16}, expected [0-9a-f]{16}|answer (?:took|taken), expected (?:took|taken)"
                   r"|core \d+ (?:holds|does not hold) register \d+)", re.A)
-VERBS = ("write", "read", "flush", "invalidate", "put", "get", "take", "free", "print")
+VERBS = ("write", "read", "flush", "invalidate", "put", "get", "load", "store", "take", "free", "print")
 # a line of a buffer, by its core and its number on the heap
 Line = tuple[int, int]
 # the line in a write-combining buffer, with the words that were written
@@ -182,7 +182,8 @@ class Lab:
                 step.registers.append((int(found[3]), f"taken by core {found[1]}" if found[2] == "take" else "free"))
         elif found := ANSWER.fullmatch(line):
             place = None if found[1] else ((int(found[2]), int(found[3])), int(found[4]))
-            if place and found[6] == "words" and step.loaded[-4:] and place[0] == step.loaded[-1][0]:
+            # a load brings no line in
+            if place and found[6] == "words" and step.verb != "load" and step.loaded[-4:] and place[0] == step.loaded[-1][0]:
                 self.cores[step.core].fill(place[0], [self.words.get((place[0], word), 0) for word in range(4)])
         elif found := EVICTED.fullmatch(line):
             self.cores[step.core].drop((int(found[1]), int(found[2])))

@@ -19,7 +19,7 @@ MOST_STEPS = 20_000
 HERE = os.path.dirname(os.path.realpath(__file__))
 Object = dict[str, Any]
 TRACE_LETTERS = {"load": "l", "store": "s", "take": "t", "free": "f"}
-LAB_LETTERS = {"write": "w", "read": "r", "flush": "f", "invalidate": "i", "put": "p", "get": "g", "take": "t", "free": "F", "print": "h"}
+LAB_LETTERS = {"write": "w", "read": "r", "flush": "f", "invalidate": "i", "put": "p", "get": "g", "load": "l", "store": "s", "take": "t", "free": "F", "print": "h"}
 
 
 def page_of(name: str, about: str, data: Object) -> Iterator[str]:

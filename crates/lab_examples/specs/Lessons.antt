@@ -111,3 +111,11 @@ two_registers =
     ++ codes "core 2 free 2\n"
     ++ codes "core 0 invalidate\n"
     ++ codes "core 0 read 0.0 expect 2\n"
+
+-- a line is not atomic
+abbrev pub torn_line : List ℕ
+torn_line =
+    codes "\n\n\ncore 1 load 0:0.0 expect 0\n"
+    ++ codes "core 0 store 0.1 2b\n"
+    ++ codes "core 0 store 0.0 2a\n"
+    ++ codes "core 1 load 0:0.1 expect 0\n"

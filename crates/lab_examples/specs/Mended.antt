@@ -146,3 +146,15 @@ two_registers_mended =
     ++ codes "core 2 free 0\n"
     ++ codes "core 0 invalidate\n"
     ++ codes "core 0 read 0.0 expect 2\n"
+
+-- a line is not atomic: mended
+abbrev pub torn_line_mended : List ℕ
+torn_line_mended =
+    codes "\n\ncore 1 load 1.0 expect 0\n"
+    ++ codes "core 0 store 0.1 2b\n"
+    ++ codes "core 1 load 1.0 expect 0\n"
+    ++ codes "core 0 store 0.0 2a\n"
+    ++ codes "core 0 store 1:1.0 1\n"
+    ++ codes "core 1 load 1.0 expect 1\n"
+    ++ codes "core 1 load 0:0.0 expect 2a\n"
+    ++ codes "core 1 load 0:0.1 expect 2b\n"

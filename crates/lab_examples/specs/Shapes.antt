@@ -37,3 +37,39 @@ register_taken_twice =
     ++ codes "core 0 free 5\n"
     ++ codes "core 1 take 5 expect took\n"
     ++ codes "core 0 free 5\n"
+
+-- Two cores each get a line and put it back with a word of their own, by single accesses to its words 0 and 1: the puts lie within one
+-- another, and behind them neither word is there.
+abbrev pub two_puts_split : List ℕ
+two_puts_split =
+    codes "core 0 load 0.0 expect 0\n"
+    ++ codes "core 0 load 0.1 expect 0\n"
+    ++ codes "core 1 load 0:0.0 expect 0\n"
+    ++ codes "core 1 load 0:0.1 expect 0\n"
+    ++ codes "core 1 store 0:0.1 1\n"
+    ++ codes "core 0 store 0.1 0\n"
+    ++ codes "core 0 store 0.0 1\n"
+    ++ codes "core 1 store 0:0.0 0\n"
+    ++ codes "core 2 load 0:0.0 expect 0\n"
+    ++ codes "core 2 load 0:0.1 expect 0\n"
+
+-- The data is word 0 of a line and its flag word 1, which is stored first. Another core gets the line between the two stores.
+abbrev pub flag_before_data : List ℕ
+flag_before_data =
+    codes "core 0 store 0.1 1\n"
+    ++ codes "core 1 load 0:0.0 expect 0\n"
+    ++ codes "core 1 load 0:0.1 expect 1\n"
+    ++ codes "core 0 store 0.0 2a\n"
+    ++ codes "core 1 load 0:0.0 expect 2a\n"
+
+-- a single load passes the copy and the waiting word of its own core, and a single store leaves them as they are
+abbrev pub past_what_is_held : List ℕ
+past_what_is_held =
+    codes "core 0 read 0 expect 0 0 0 0\n"
+    ++ codes "core 0 write 0.0 2a\n"
+    ++ codes "core 0 load 0.0 expect 0\n"
+    ++ codes "core 0 store 0.1 2b\n"
+    ++ codes "core 0 read 0 expect 2a 0 0 0\n"
+    ++ codes "core 0 load 0.1 expect 2b\n"
+    ++ codes "core 0 flush\n"
+    ++ codes "core 1 read 0:0 expect 2a 2b 0 0\n"

@@ -60,6 +60,12 @@ pub fn a_message_is_taken_twice()
     ensures keeps { end_of_text mended.taken_twice_mended ≡ all_came }
 {}
 
+/// Core 1 gets a line while core 0 puts it, and gets half of the old one and half of the new one.
+pub fn a_line_is_torn()
+    ensures loses { end_of_text lesson.torn_line ≡ loses_at 7 (heap_word 0 0 1) 43 0 }
+    ensures keeps { end_of_text mended.torn_line_mended ≡ all_came }
+{}
+
 /// Cores 1 and 2 lock one word by two registers, and one of their sums is lost.
 pub fn two_registers_lock_one_word()
     ensures loses { end_of_text lesson.two_registers ≡ loses_at 16 (heap_word 0 0 0) 1 2 }

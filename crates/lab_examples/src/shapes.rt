@@ -3,7 +3,7 @@
 
 ghost use Rattle.std.specs.Prelude.{◌≡◌, Ok, Some};
 ghost use Rattle.lab_examples.specs.Ends.{all_came, end_of_text};
-ghost use Rattle.lab_examples.specs.Shapes.{own_word_back, register_taken_twice, store_buffering, words_of_one_line};
+ghost use Rattle.lab_examples.specs.Shapes.{flag_before_data, own_word_back, past_what_is_held, register_taken_twice, store_buffering, two_puts_split, words_of_one_line};
 ghost use Rattle.lab_plain.specs.declared.said.Stopped.TheVariants.{HoldsNot};
 
 /// Two cores both miss what the other has written.
@@ -19,6 +19,21 @@ pub fn a_core_goes_back()
 /// Two words of one line, written by two cores that each have a copy of it, are both kept.
 pub fn words_of_a_line_are_kept()
     ensures kept { end_of_text words_of_one_line ≡ all_came }
+{}
+
+/// Two cores put one line word by word, each with a word of its own, and both words are lost.
+pub fn two_puts_lose_both_words()
+    ensures lost { end_of_text two_puts_split ≡ all_came }
+{}
+
+/// A flag is seen and its data, in the same line, is old: what was stored first is the flag.
+pub fn a_flag_is_seen_before_its_data()
+    ensures torn { end_of_text flag_before_data ≡ all_came }
+{}
+
+/// A single load or store passes what its core holds.
+pub fn a_single_access_passes_what_is_held()
+    ensures past { end_of_text past_what_is_held ≡ all_came }
 {}
 
 /// A register is taken once, until it is freed, and not freed by another core.

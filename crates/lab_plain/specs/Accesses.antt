@@ -1,6 +1,6 @@
 -- How the line of an access is held.
 use Rattle.std.specs.Prelude.{ℕ, if◌then◌else◌, List, []}
-use Rattle.lab_plain.specs.declared.lines.Access.{Access}
+use Rattle.lab_plain.specs.declared.accesses.Access.{Access}
 use Rattle.lab_plain.specs.Texts.{access_text}
 
 -- the line of an access to a word, where it is made

@@ -2,7 +2,7 @@
 use Rattle.std.specs.Prelude.{ℕ, ◌==◌, Bool, true, false, not, if◌then◌else◌, List, [], ◌∷◌, ◌++◌, replicate, slice_index, slice_index_or, slice_set, Option, Some, None, is_none}
 use Rattle.scc_base.specs.Places.{LineAt, WordAt, word_of_line}
 use Rattle.scc_base.specs.Events.{take_of, free_of}
-use Rattle.scc_proto.specs.Words.{Memory, zeros, memory_after}
+use Rattle.scc_proto.specs.Words.{Memory, zeros, memory_after, word_at}
 use Rattle.line_cache.specs.declared.cache.Entry.{Entry}
 use Rattle.write_combine.specs.declared.combiner.Out.{Out}
 use Rattle.lab_reader.specs.declared.steps.Action.{Action}
@@ -12,7 +12,7 @@ use Rattle.lab_plain.specs.declared.said.Said.{Said}
 use Rattle.lab_plain.specs.declared.said.Said.TheVariants as said
 use Rattle.lab_plain.specs.declared.said.Stopped.{Stopped}
 use Rattle.lab_plain.specs.declared.said.Stopped.TheVariants as stopped
-use Rattle.lab_plain.specs.Scenes.{CoreScene, after_flushing, word_written, line_written, line_put, word_read, line_read, line_got, after_invalidate, after_print, answer, line_answer, line_in}
+use Rattle.lab_plain.specs.Scenes.{CoreScene, after_flushing, word_written, line_written, line_put, word_read, line_read, line_got, after_load, after_store, after_invalidate, after_print, answer, line_answer, line_in}
 
 -- what a core holds: its cached lines, and the line in its write-combining buffer
 pub record CoreHolds : Type 0 where
@@ -58,6 +58,8 @@ after_action me action.Flush s = after_flushing me s
 after_action me action.Invalidate s = after_invalidate s
 after_action me (action.Put at words) s = line_put me at words s
 after_action me (action.Get at expect) s = line_got me at s
+after_action me (action.Load at expect) s = after_load me at s
+after_action me (action.Store at value) s = after_store me at value s
 after_action me (action.Take register expect) s = s
 after_action me (action.Free register) s = s
 after_action me action.Print s = after_print me s
@@ -91,6 +93,8 @@ act_stop line me action.Flush s = None
 act_stop line me action.Invalidate s = None
 act_stop line me (action.Put at words) s = None
 act_stop line me (action.Get at expect) s = unmet_line line at (line_in (after_flushing me s).memory at) expect
+act_stop line me (action.Load at expect) s = unmet_word line at (word_at s.memory at) expect
+act_stop line me (action.Store at value) s = None
 act_stop line me (action.Take register expect) s = None
 act_stop line me (action.Free register) s = None
 act_stop line me action.Print s = None
@@ -161,6 +165,8 @@ action_done line me action.Flush t = core_done line me action.Flush t
 action_done line me action.Invalidate t = core_done line me action.Invalidate t
 action_done line me (action.Put at words) t = core_done line me (action.Put at words) t
 action_done line me (action.Get at expect) t = core_done line me (action.Get at expect) t
+action_done line me (action.Load at expect) t = core_done line me (action.Load at expect) t
+action_done line me (action.Store at value) t = core_done line me (action.Store at value) t
 action_done line me action.Print t = core_done line me action.Print t
 
 -- a step begins: its line is printed

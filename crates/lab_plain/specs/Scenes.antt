@@ -3,6 +3,7 @@
 use Rattle.std.specs.Prelude.{ℕ, zero, suc, Bool, not, ◌&&◌, if◌then◌else◌, List, [], ◌∷◌, ◌++◌, filter, map, slice_index, slice_index_or, true, false, Option, Some, None, is_some}
 use Rattle.std.specs.Option.{unwrap_or}
 use Rattle.scc_base.specs.Places.{LineAt, WordAt, line_of_word, word_of_line, same_line}
+use Rattle.scc_base.specs.Events.{store_of}
 use Rattle.scc_base.specs.declared.events.Event.{Event}
 use Rattle.scc_proto.specs.Words.{Memory, memory_after, word_at}
 use Rattle.line_cache.specs.declared.cache.Entry.{Entry}
@@ -179,6 +180,15 @@ line_loaded me line s = record {
 -- a get of a line: behind a flush its cached lines are dropped, and the line is loaded
 abbrev pub line_got : ℕ → LineAt → CoreScene → CoreScene
 line_got me line s = line_loaded me line (after_flushing me s)
+
+-- a load of a word by one access: the cache and the write-combining buffer are not asked, and hold what they held
+abbrev pub after_load : ℕ → WordAt → CoreScene → CoreScene
+after_load me p s =
+    record s { said = s.said ++ said.LoadsWord me p (word_at s.memory p) ∷ said.Answers p (word_at s.memory p) source.Words ∷ [] }
+
+-- a store of a word by one access: they do not see it
+abbrev pub after_store : ℕ → WordAt → ℕ → CoreScene → CoreScene
+after_store me p v s = record s { memory = memory_after s.memory (store_of p v); said = s.said ++ said.StoresWord me p v ∷ [] }
 
 -- CL1INVMB: all cached lines are dropped
 abbrev pub after_invalidate : CoreScene → CoreScene

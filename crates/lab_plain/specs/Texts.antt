@@ -107,6 +107,8 @@ abbrev pub said_text : Said → List ℕ
 said_text (said.Begins line text) = joined_texts (codes "line " ∷ decimal line ∷ codes ": " ∷ text ∷ codes "\n" ∷ [])
 said_text (said.Loads core line words) = loads_text core line words
 said_text (said.Stores core line words mask) = stores_text core line words mask
+said_text (said.LoadsWord core at value) = access_text core (codes " load ") at value
+said_text (said.StoresWord core at value) = access_text core (codes " store ") at value
 said_text (said.Answers at value from) = answer_text at value from
 said_text (said.Evicted line) = joined_texts (codes "evicted " ∷ line_name line ∷ codes "\n" ∷ [])
 said_text (said.Takes core register took) = takes_text core register took

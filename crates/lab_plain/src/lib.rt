@@ -1,6 +1,7 @@
 //! What labs mean, and the lines that they print.
 #![tactic(auto)]
 
+mod accesses;
 mod lines;
 mod parts;
 mod said;

@@ -1,10 +1,10 @@
 //! The lines of what a lab prints.
 
-ghost use Rattle.std.specs.Prelude.{◌≡◌, ◌<◌};
+ghost use Rattle.std.specs.Prelude.{◌≡◌};
 ghost use Rattle.rcce_io.specs.Sending.{Sends};
-ghost use Rattle.lab_plain.specs.Accesses.{access_line};
-ghost use Rattle.lab_plain.specs.Texts.{answer_text, frees_text, core_holds_text, loads_text, nothing_text, register_stop_text, source_name, stores_text, take_answer_name, takes_text, value_stop_text, word_access_text};
+ghost use Rattle.lab_plain.specs.Texts.{answer_text, frees_text, core_holds_text, nothing_text, register_stop_text, source_name, take_answer_name, takes_text, value_stop_text};
 
+use crate::accesses::{write_access, write_loads, write_stores};
 use crate::parts::Part::{Bytes, Line as At, Number, Text, Value, Word};
 use crate::said::{Said, Source, Stopped};
 use rcce_io::{Sink, TextSource, WriteFault, write_texts};
@@ -19,105 +19,6 @@ fn source_name(from: Source) -> &'static str
         Source::Cache => "cache",
         Source::Words => "words",
     }
-}
-
-/// The line of a load or a store of a word, where it is made.
-#[derive(Clone, Copy)]
-pub(crate) struct Access<'a> {
-    core: CoreId,
-    access: &'a str,
-    at: Place,
-    value: u64,
-    made: bool,
-}
-
-impl TextSource for Access<'_> {
-    ghost use Rattle.lab_plain.specs.Accesses.{access_line};
-
-    ghost text = { access_line };
-
-    fn write_to<S: Sink>(&self, sink: &mut S) -> Result<(), WriteFault> {
-        if !self.made {
-            return Ok(());
-        }
-        write_texts(
-            sink,
-            &[
-                Number(self.core.number() as u32),
-                Text(self.access),
-                Number(self.at.core().number() as u32),
-                Text("."),
-                Number(self.at.line() as u32),
-                Text("."),
-                Number(self.at.word() as u32),
-                Text(" "),
-                Value(self.value),
-                Text(" # heap\n"),
-            ],
-        )
-    }
-}
-
-/// The access to one word of a line, where it is made.
-fn access_of<'a>(
-    core: CoreId,
-    access: &'a str,
-    line: Line,
-    words: &[u64; 4],
-    mask: &[bool; 4],
-    word: u8,
-) -> Access<'a>
-    requires { word < 4 }
-    ensures { access_line result ≡ word_access_text core access.now line words.now mask.now word }
-{
-    let here = word as usize;
-    Access {
-        core,
-        access,
-        at: line.word(word),
-        value: words[here],
-        made: mask[here],
-    }
-}
-
-fn write_loads<S: Sink>(
-    sink: &mut S,
-    core: CoreId,
-    line: Line,
-    words: &[u64; 4],
-) -> Result<(), WriteFault>
-    ensures { Sends (loads_text core line words.now) (S.seen sink.old) (S.seen sink.new) result }
-{
-    let all = [true; 4];
-    write_texts(
-        sink,
-        &[
-            access_of(core, " load ", line, words, &all, 0),
-            access_of(core, " load ", line, words, &all, 1),
-            access_of(core, " load ", line, words, &all, 2),
-            access_of(core, " load ", line, words, &all, 3),
-        ],
-    )
-}
-
-fn write_stores<S: Sink>(
-    sink: &mut S,
-    core: CoreId,
-    line: Line,
-    words: &[u64; 4],
-    mask: &[bool; 4],
-) -> Result<(), WriteFault>
-    ensures { Sends (stores_text core line words.now mask.now) (S.seen sink.old) (S.seen sink.new) result }
-{
-    write_texts(
-        sink,
-        &[
-            access_of(core, " store ", line, words, mask, 3),
-            access_of(core, " store ", line, words, mask, 2),
-            access_of(core, " store ", line, words, mask, 1),
-            access_of(core, " store ", line, words, mask, 0),
-        ],
-    )
 }
 
 /// What a take answers.
@@ -271,6 +172,12 @@ impl TextSource for Said {
                 words,
                 mask,
             } => write_stores(sink, *core, *line, words, mask),
+            Said::LoadsWord { core, at, value } => {
+                write_access(sink, *core, " load ", *at, *value)
+            }
+            Said::StoresWord { core, at, value } => {
+                write_access(sink, *core, " store ", *at, *value)
+            }
             Said::Answers { at, value, from } => write_answer(sink, *at, *value, *from),
             Said::Evicted(line) => write_texts(sink, &[Text("evicted "), At(*line), Text("\n")]),
             Said::Takes {

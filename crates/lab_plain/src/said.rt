@@ -35,6 +35,18 @@ pub enum Said {
         words: [u64; 4],
         mask: [bool; 4],
     },
+    /// A word was loaded by one access.
+    LoadsWord {
+        core: CoreId,
+        at: Place,
+        value: u64,
+    },
+    /// A word was stored by one access.
+    StoresWord {
+        core: CoreId,
+        at: Place,
+        value: u64,
+    },
     /// A read answered.
     Answers {
         at: Place,

@@ -106,6 +106,16 @@ abbrev pub get_said : ℕ → List (List ℕ) → Option Action
 get_said own [] = None
 get_said own (at ∷ words) = heap_line_said own at >>= λ line. expected_line words >>= λ expect. Some (action.Get line expect)
 
+-- behind `load`: a word, and what is expected of it
+abbrev pub load_said : ℕ → List (List ℕ) → Option Action
+load_said own [] = None
+load_said own (at ∷ words) = word_said own at >>= λ p. expected_word words >>= λ expect. Some (action.Load p expect)
+
+-- behind `store`: a word and its value
+abbrev pub store_said : ℕ → List (List ℕ) → Option Action
+store_said own (at ∷ value ∷ []) = word_said own at >>= λ p. value_said value >>= λ v. Some (action.Store p v)
+store_said own words = None
+
 -- behind `take`
 abbrev pub take_said : List (List ℕ) → Option Action
 take_said [] = None
@@ -130,6 +140,8 @@ verb_said own verb words =
     else if bytes_eq verb (codes "invalidate") then bare_said action.Invalidate words
     else if bytes_eq verb (codes "put") then put_said own words
     else if bytes_eq verb (codes "get") then get_said own words
+    else if bytes_eq verb (codes "load") then load_said own words
+    else if bytes_eq verb (codes "store") then store_said own words
     else if bytes_eq verb (codes "take") then take_said words
     else if bytes_eq verb (codes "free") then free_said words
     else if bytes_eq verb (codes "print") then bare_said action.Print words

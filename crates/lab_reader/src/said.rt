@@ -1,7 +1,7 @@
 //! What the words of a line say.
 
 ghost use Rattle.std.specs.Prelude.{◌≡◌, ◌≤◌, IfSome, map};
-ghost use Rattle.lab_reader.specs.Said.{action_said, bare_said, core_said, expected_line, expected_take, expected_word, four_said, free_said, get_said, line_at_said, heap_line_said, put_said, read_after, read_behind, read_said, take_named, take_said, verb_said, word_said, write_line_said, write_said, write_word_said};
+ghost use Rattle.lab_reader.specs.Said.{action_said, bare_said, core_said, expected_line, expected_take, expected_word, four_said, free_said, get_said, line_at_said, load_said, heap_line_said, put_said, read_after, read_behind, read_said, store_said, take_named, take_said, verb_said, word_said, write_line_said, write_said, write_word_said};
 
 use crate::places::{HeapLine, HeapWord};
 use crate::steps::Action;
@@ -208,6 +208,30 @@ fn get_said(own: CoreId, words: &[&[u8]]) -> Option<Action>
     }
 }
 
+fn load_said(own: CoreId, words: &[&[u8]]) -> Option<Action>
+    ensures { result ≡ load_said own (map (λ word. word.now) words.now) }
+{
+    match words {
+        [at, rest @ ..] => Some(Action::Load {
+            at: word_said(own, at)?,
+            expect: expected_word(rest)?,
+        }),
+        [] => None,
+    }
+}
+
+fn store_said(own: CoreId, words: &[&[u8]]) -> Option<Action>
+    ensures { result ≡ store_said own (map (λ word. word.now) words.now) }
+{
+    match words {
+        [at, value] => Some(Action::Store {
+            at: word_said(own, at)?,
+            value: value_said(value)?,
+        }),
+        _ => None,
+    }
+}
+
 fn take_said(words: &[&[u8]]) -> Option<Action>
     ensures { result ≡ take_said (map (λ word. word.now) words.now) }
 {
@@ -263,6 +287,10 @@ fn verb_said(own: CoreId, verb: &[u8], words: &[&[u8]]) -> Option<Action>
         put_said(own, words)
     } else if verb == b"get".as_slice() {
         get_said(own, words)
+    } else if verb == b"load".as_slice() {
+        load_said(own, words)
+    } else if verb == b"store".as_slice() {
+        store_said(own, words)
     } else if verb == b"take".as_slice() {
         take_said(words)
     } else if verb == b"free".as_slice() {

@@ -36,6 +36,16 @@ pub enum Action {
         at: HeapLine,
         expect: Option<[u64; 4]>,
     },
+    /// Loads a word by one access, past what the core holds. Where a value is expected, it has to come.
+    Load {
+        at: HeapWord,
+        expect: Option<u64>,
+    },
+    /// Stores a word by one access, past what the core holds.
+    Store {
+        at: HeapWord,
+        value: u64,
+    },
     /// Reads a core's test-and-set register. Where something is expected: whether it takes it.
     Take {
         register: CoreId,

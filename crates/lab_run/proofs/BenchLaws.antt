@@ -17,7 +17,7 @@ use Rattle.lab_chip.proofs.ChipLaws.{events_of-append, own_events, other_events}
 use Rattle.lab_reader.specs.declared.places.HeapLine.{HeapLine}
 use Rattle.lab_reader.specs.declared.places.HeapWord.{HeapWord}
 use Rattle.lab_reader.specs.declared.steps.Action.{Action}
-use Rattle.lab_reader.specs.declared.steps.Action.TheVariants.{WriteWord, WriteLine, ReadWord, ReadLine, Flush, Invalidate, Put, Get, Print}
+use Rattle.lab_reader.specs.declared.steps.Action.TheVariants.{WriteWord, WriteLine, ReadWord, ReadLine, Flush, Invalidate, Put, Get, Load, Store, Print}
 use Rattle.lab_reader.specs.declared.steps.Step.{Step}
 use Rattle.lab_plain.specs.declared.said.Said.{Said}
 use Rattle.lab_plain.specs.Scenes.{CoreScene}
@@ -167,7 +167,8 @@ begun_bench chip new k cores holders is bench = subst (λ (c : LabChipView). IsB
 pub core_is : (line me : ℕ) (t : Stand) (act : Action)
     → ((x : HeapWord) × (v : ℕ) × (act ≡ WriteWord x v)) ⊎ (((x : HeapLine) × (v : List ℕ) × (act ≡ WriteLine x v)) ⊎ (((x : HeapWord) × (e : Option HeapLine) × (v : Option ℕ) × (act ≡ ReadWord x e v))
     ⊎ (((x : HeapLine) × (e : Option HeapLine) × (v : Option (List ℕ)) × (act ≡ ReadLine x e v)) ⊎ ((act ≡ Flush) ⊎ ((act ≡ Invalidate) ⊎ (((x : HeapLine) × (v : List ℕ) × (act ≡ Put x v))
-    ⊎ (((x : HeapLine) × (v : Option (List ℕ)) × (act ≡ Get x v)) ⊎ (act ≡ Print)))))))) → core_done line me act t ≡ action_done line me act t
+    ⊎ (((x : HeapLine) × (v : Option (List ℕ)) × (act ≡ Get x v)) ⊎ (((x : HeapWord) × (v : Option ℕ) × (act ≡ Load x v))
+    ⊎ (((x : HeapWord) × (v : ℕ) × (act ≡ Store x v)) ⊎ (act ≡ Print)))))))))) → core_done line me act t ≡ action_done line me act t
 core_is line me t act (inl found) = subst (λ (a : Action). core_done line me a t ≡ action_done line me a t) (sym found.2) refl
 core_is line me t act (inr (inl found)) = subst (λ (a : Action). core_done line me a t ≡ action_done line me a t) (sym found.2) refl
 core_is line me t act (inr (inr (inl found))) = subst (λ (a : Action). core_done line me a t ≡ action_done line me a t) (sym found.3) refl
@@ -176,7 +177,9 @@ core_is line me t act (inr (inr (inr (inr (inl is))))) = subst (λ (a : Action).
 core_is line me t act (inr (inr (inr (inr (inr (inl is)))))) = subst (λ (a : Action). core_done line me a t ≡ action_done line me a t) (sym is) refl
 core_is line me t act (inr (inr (inr (inr (inr (inr (inl found))))))) = subst (λ (a : Action). core_done line me a t ≡ action_done line me a t) (sym found.2) refl
 core_is line me t act (inr (inr (inr (inr (inr (inr (inr (inl found)))))))) = subst (λ (a : Action). core_done line me a t ≡ action_done line me a t) (sym found.2) refl
-core_is line me t act (inr (inr (inr (inr (inr (inr (inr (inr is)))))))) = subst (λ (a : Action). core_done line me a t ≡ action_done line me a t) (sym is) refl
+core_is line me t act (inr (inr (inr (inr (inr (inr (inr (inr (inl found))))))))) = subst (λ (a : Action). core_done line me a t ≡ action_done line me a t) (sym found.2) refl
+core_is line me t act (inr (inr (inr (inr (inr (inr (inr (inr (inr (inl found)))))))))) = subst (λ (a : Action). core_done line me a t ≡ action_done line me a t) (sym found.2) refl
+core_is line me t act (inr (inr (inr (inr (inr (inr (inr (inr (inr (inr is)))))))))) = subst (λ (a : Action). core_done line me a t ≡ action_done line me a t) (sym is) refl
 
 pub if_ok : {A E : Type 0} {P Q : A → Type 0} (r : Result A E) → ((x : A) → P x → Q x) → IfOk r P → IfOk r Q
 if_ok (Ok x) next p = next x p

@@ -3,6 +3,7 @@ pub mod EvictLaws
 pub mod HeapEvents
 pub mod MoveLaws
 pub mod RegisterLaws
+pub mod SingleLaws
 pub mod StartLaws
 pub mod CallLaws
 pub mod ToldLaws

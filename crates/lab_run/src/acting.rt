@@ -8,6 +8,7 @@ use crate::evictor::Named;
 use crate::moves::{flush, get, own, put, write_line, write_word};
 use crate::prints::print;
 use crate::reads::{read_line, read_word};
+use crate::singles::{load, store};
 use lab_chip::LabChip;
 use lab_plain::{Said, Stopped};
 use lab_reader::{Action, HeapLine, HeapWord};
@@ -110,6 +111,14 @@ pub(crate) fn act(
         Action::Get { at, expect } => {
             let came = get(core, chip, said, *at)?;
             Ok(check_line(line, *at, &came, expect))
+        }
+        Action::Load { at, expect } => {
+            let came = load(core, chip, said, *at)?;
+            Ok(check_word(line, *at, came, *expect))
+        }
+        Action::Store { at, value } => {
+            store(core, chip, said, *at, *value)?;
+            Ok(None)
         }
         Action::Print => {
             print(said, own(chip), core)?;

@@ -12,6 +12,7 @@ mod reads;
 mod registers;
 mod run;
 mod setup;
+mod singles;
 
 pub use evictor::Named;
 pub use run::{LabLeft, LabRun, run_lab};

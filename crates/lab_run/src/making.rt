@@ -67,6 +67,8 @@ impl Bench {
             | Action::Invalidate
             | Action::Put { .. }
             | Action::Get { .. }
+            | Action::Load { .. }
+            | Action::Store { .. }
             | Action::Print => self.act(step.line, step.core, &step.action),
         }
     }

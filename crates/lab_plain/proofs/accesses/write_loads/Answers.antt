@@ -1,5 +1,5 @@
 use Rattle.std.proofs.Common.{rules}
-use Rattle.lab_plain.proofs.lines.write_loads.Goals as goal
+use Rattle.lab_plain.proofs.accesses.write_loads.Goals as goal
 
 -- Answered by name, so that a body which turns this is refused at once, with no search for what else might be written.
 pub returns : goal.returns

@@ -1,6 +1,6 @@
 use Rattle.std.proofs.Common.{rules}
-use Rattle.lab_plain.proofs.lines.write_stores.Goals as goal
+use Rattle.lab_plain.proofs.accesses.access_of.Goals as goal
 
 -- Answered by name, so that a body which turns this is refused at once, with no search for what else might be written.
 pub returns : goal.returns
-returns g c = search rules
+returns c = search rules
