@@ -1,6 +1,6 @@
 //! The top call: a program of its own over the library. `rcce_io` gives it files and sinks, `outcomes` the reading of a file, the
 //! statuses and what is written at the end, `lab_reader` the grammar, and `lab_run` the run of the steps, by the cores of `put_get` and
-//! the chip of `lab_chip`.
+//! the chip of `chip_memory`.
 
 ghost use Rattle.std.specs.Prelude.{◌≡◌, ◌≤◌, codes, length, map, string_bytes, Some, None, Ok};
 ghost use Rattle.std.specs.Option.{option_copied};

@@ -12,8 +12,9 @@ use Rattle.scc_proto.specs.Ports.{record_in}
 use Rattle.scc_proto.proofs.Tests.{same_or_other, true_not_false}
 use Rattle.put_get.specs.Cores.{Private}
 use Rattle.put_get.specs.HeapStores.{AwaitsHeap}
-use Rattle.lab_chip.specs.Chips.{LabChipView, all_events, of_rank_all, lab_sight, with_turn}
-use Rattle.lab_chip.proofs.ChipLaws.{events_of-append, own_events, other_events}
+use Rattle.chip_memory.specs.Chips.{TurnChipView, all_events, of_rank_all, turn_sight, with_turn}
+use Rattle.scc_proto.proofs.Messages.ChunkRecords.{events_of-append}
+use Rattle.chip_memory.proofs.ListLaws.{own_events, other_events}
 use Rattle.lab_reader.specs.declared.places.HeapLine.{HeapLine}
 use Rattle.lab_reader.specs.declared.places.HeapWord.{HeapWord}
 use Rattle.lab_reader.specs.declared.steps.Action.{Action}
@@ -30,34 +31,34 @@ use Rattle.lab_run.proofs.TurnLaws.{rank_kept, setup_kept}
 
 -- ---- records of a chip
 
-pub record_own : (chip : LabChipView) → record_at chip chip.rank ≡ record_in (lab_sight chip)
+pub record_own : (chip : TurnChipView) → record_at chip chip.rank ≡ record_in (turn_sight chip)
 unfolding record_in
 record_own chip = ap (record_of chip.setup chip.rank) (events_of-append chip.rank chip.before (of_rank_all chip.rank chip.own) ∙ ap (λ (l : List Event). events_of chip.rank chip.before ++ l) (own_events chip.rank chip.own))
 
-record_before : (chip : LabChipView) (k : ℕ) → k ≢ chip.rank → record_at chip k ≡ record_of chip.setup k (events_of k chip.before)
+record_before : (chip : TurnChipView) (k : ℕ) → k ≢ chip.rank → record_at chip k ≡ record_of chip.setup k (events_of k chip.before)
 record_before chip k other = ap (record_of chip.setup k)
     (events_of-append k chip.before (of_rank_all chip.rank chip.own) ∙ ap (λ (l : List Event). events_of k chip.before ++ l) (other_events chip.rank k chip.own other) ∙ append-nil (events_of k chip.before))
 
 -- the records of the others stay
-pub record_other : (old new : LabChipView) (k : ℕ) → new ≡ record old { own = new.own } → k ≢ old.rank → record_at new k ≡ record_at old k
+pub record_other : (old new : TurnChipView) (k : ℕ) → new ≡ record old { own = new.own } → k ≢ old.rank → record_at new k ≡ record_at old k
 record_other old new k turn other =
-    record_before new k (λ same. other (same ∙ ap (λ (c : LabChipView). c.rank) turn))
+    record_before new k (λ same. other (same ∙ ap (λ (c : TurnChipView). c.rank) turn))
     ∙ (λ i. record_of (turn i).setup k (events_of k (turn i).before))
     ∙ sym (record_before old k other)
 
-all_turned : (chip : LabChipView) (k : ℕ) → all_events (with_turn chip k) ≡ all_events chip
+all_turned : (chip : TurnChipView) (k : ℕ) → all_events (with_turn chip k) ≡ all_events chip
 all_turned chip k = append-nil (all_events chip)
 
-pub memory_turned : (chip : LabChipView) (k : ℕ) → memory_in (with_turn chip k) ≡ memory_in chip
+pub memory_turned : (chip : TurnChipView) (k : ℕ) → memory_in (with_turn chip k) ≡ memory_in chip
 unfolding memory_in
 memory_turned chip k = ap (memory_from zeros) (all_turned chip k)
 
-record_turned : (chip : LabChipView) (k r : ℕ) → record_at (with_turn chip k) r ≡ record_at chip r
+record_turned : (chip : TurnChipView) (k r : ℕ) → record_at (with_turn chip k) r ≡ record_at chip r
 record_turned chip k r = ap (λ (l : List RankEvent). records_of chip.setup l r) (all_turned chip k)
 
 -- ---- another turn
 
-pub bench_turned : (chip : LabChipView) (k : ℕ) (cores : List CoreHolds) (holders : List (Option ℕ)) → IsBench chip cores holders → IsBench (with_turn chip k) cores holders
+pub bench_turned : (chip : TurnChipView) (k : ℕ) (cores : List CoreHolds) (holders : List (Option ℕ)) → IsBench chip cores holders → IsBench (with_turn chip k) cores holders
 bench_turned chip k cores holders bench = record {
   setup = bench.setup;
   ranks = bench.ranks;
@@ -73,7 +74,7 @@ bench_turned chip k cores holders bench = record {
 pub core_there : (cores : List Private) (me : ℕ) (d : Private) → me < length cores → core_at (map holds_of cores) me ≡ holds_of (slice_index_or cores me d)
 core_there cores me d below = get_or-map holds_of cores me d holds_nothing below
 
-pub ready_there : (chip : LabChipView) (cores : List CoreHolds) (holders : List (Option ℕ)) (core : Private) → IsBench chip cores holders → chip.rank < 48 → core_at cores chip.rank ≡ holds_of core
+pub ready_there : (chip : TurnChipView) (cores : List CoreHolds) (holders : List (Option ℕ)) (core : Private) → IsBench chip cores holders → chip.rank < 48 → core_at cores chip.rank ≡ holds_of core
     → MayGoOn core chip
 ready_there chip cores holders core bench below is = record {
   setup = bench.setup;
@@ -88,12 +89,12 @@ core_here cores me h below = get_or-set_same cores me h holds_nothing below
 core_elsewhere : (cores : List CoreHolds) (me k : ℕ) (h : CoreHolds) → k ≢ me → core_at (slice_set cores me h) k ≡ core_at cores k
 core_elsewhere cores me k h other = get_or-set_other cores me k h holds_nothing other
 
-pub bench_kept : (old new : LabChipView) (cores : List CoreHolds) (holders : List (Option ℕ)) (d : Private) → IsBench old cores holders → old.rank < 48 → MadeHeapAccesses old new → MayGoOn d new
+pub bench_kept : (old new : TurnChipView) (cores : List CoreHolds) (holders : List (Option ℕ)) (d : Private) → IsBench old cores holders → old.rank < 48 → MadeHeapAccesses old new → MayGoOn d new
     → IsBench new (slice_set cores old.rank (holds_of d)) holders
 bench_kept old new cores holders d bench below kept ready =
     let setup = setup_kept old new kept in
     let rank = rank_kept old new kept in
-    let here : record_at new old.rank ≡ record_in (lab_sight new) = ap (λ (r : ℕ). record_at new r) (sym rank) ∙ record_own new in
+    let here : record_at new old.rank ≡ record_in (turn_sight new) = ap (λ (r : ℕ). record_at new r) (sym rank) ∙ record_own new in
     record {
       setup = subst (λ (x : SetupView). IsLabSetup x) (sym setup) bench.setup;
       ranks = length-set cores old.rank (holds_of d) ∙ bench.ranks;
@@ -113,7 +114,7 @@ bench_kept old new cores holders d bench below kept ready =
     }
 
 -- the stand after a core at work
-pub stand_after : (op : CoreScene → CoreScene) (old new : LabChipView) (cores : List Private) (c d : Private) (holders : List (Option ℕ)) (said told : List Said) (me : ℕ) → core_at (map holds_of cores) me ≡ holds_of c
+pub stand_after : (op : CoreScene → CoreScene) (old new : TurnChipView) (cores : List Private) (c d : Private) (holders : List (Option ℕ)) (said told : List Said) (me : ℕ) → core_at (map holds_of cores) me ≡ holds_of c
     → CoreTurned op c old said d new told
     → stand_of new (slice_set cores me d) holders told ≡ with_scene me (stand_of old cores holders said) (op (scene_at me (stand_of old cores holders said)))
 stand_after op old new cores c d holders said told me is turned =
@@ -123,12 +124,12 @@ stand_after op old new cores c d holders said told me is turned =
     ∙ (λ i. with_scene me (stand_of old cores holders said) (after i))
 
 -- a step that a core made
-pub record ActDone (line me : ℕ) (act : Action) (old new : LabChipView) (cores : List Private) (d : Private) (holders : List (Option ℕ)) (said told : List Said) (stop : Option Stopped) : Type 0 where
+pub record ActDone (line me : ℕ) (act : Action) (old new : TurnChipView) (cores : List Private) (d : Private) (holders : List (Option ℕ)) (said told : List Said) (stop : Option Stopped) : Type 0 where
   pub stand : stand_of new (slice_set cores me d) holders told ≡ (core_done line me act (stand_of old cores holders said)).stand
   pub stopped : stop ≡ (core_done line me act (stand_of old cores holders said)).stop
   pub stands : IsBench new (map holds_of (slice_set cores me d)) holders
 
-act_by : (line : ℕ) (act : Action) (old new : LabChipView) (cores : List Private) (c d : Private) (holders : List (Option ℕ)) (said told : List Said) (stop : Option Stopped)
+act_by : (line : ℕ) (act : Action) (old new : TurnChipView) (cores : List Private) (c d : Private) (holders : List (Option ℕ)) (said told : List Said) (stop : Option Stopped)
     → IsBench old (map holds_of cores) holders → old.rank < 48 → c ≡ slice_index_or cores old.rank c → CoreTurned (after_action old.rank act) c old said d new told
     → stop ≡ act_stop line old.rank act (scene_of c old said) → ActDone line old.rank act old new cores d holders said told stop
 act_by line act old new cores c d holders said told stop bench below value turned stops =
@@ -140,7 +141,7 @@ act_by line act old new cores c d holders said told stop bench below value turne
       stands = subst (λ (l : List CoreHolds). IsBench new l holders) (sym (map-set holds_of cores old.rank d)) (bench_kept old new (map holds_of cores) holders d bench below turned.kept turned.ready);
     }
 
-pub act_done : (line me : ℕ) (act : Action) (old new : LabChipView) (cores : List Private) (c d : Private) (holders : List (Option ℕ)) (said told : List Said) (stop : Option Stopped)
+pub act_done : (line me : ℕ) (act : Action) (old new : TurnChipView) (cores : List Private) (c d : Private) (holders : List (Option ℕ)) (said told : List Said) (stop : Option Stopped)
     → IsBench old (map holds_of cores) holders → old.rank ≡ me → me < 48 → c ≡ slice_index_or cores me c → CoreTurned (after_action old.rank act) c old said d new told
     → stop ≡ act_stop line old.rank act (scene_of c old said) → ActDone line me act old new cores d holders said told stop
 act_done line me act old new cores c d holders said told stop bench turn below value turned stops =
@@ -148,7 +149,7 @@ act_done line me act old new cores c d holders said told stop bench turn below v
     (act_by line act old new cores c d holders said told stop bench (subst (λ (r : ℕ). r < 48) (sym turn) below) (subst (λ (r : ℕ). c ≡ slice_index_or cores r c) (sym turn) value) turned stops)
 
 -- the core that is to act may go on
-pub act_ready : (chip : LabChipView) (cores : List Private) (holders : List (Option ℕ)) (core : Private) (me : ℕ) → IsBench chip (map holds_of cores) holders → chip.rank ≡ me → me < 48
+pub act_ready : (chip : TurnChipView) (cores : List Private) (holders : List (Option ℕ)) (core : Private) (me : ℕ) → IsBench chip (map holds_of cores) holders → chip.rank ≡ me → me < 48
     → core ≡ slice_index_or cores me core → MayGoOn core chip
 act_ready chip cores holders core me bench turn below value =
     ready_there chip (map holds_of cores) holders core bench (subst (λ (r : ℕ). r < 48) (sym turn) below)
@@ -156,12 +157,12 @@ act_ready chip cores holders core me bench turn below value =
 
 -- ---- a step begins
 
-pub begun_stand : (chip new : LabChipView) (k : ℕ) (cores : List Private) (holders : List (Option ℕ)) (said told : List Said) (step : Step) → new ≡ with_turn chip k
+pub begun_stand : (chip new : TurnChipView) (k : ℕ) (cores : List Private) (holders : List (Option ℕ)) (said told : List Said) (step : Step) → new ≡ with_turn chip k
     → told ≡ said ++ Begins step.line step.text ∷ [] → stand_of new cores holders told ≡ with_line_begun step (stand_of chip cores holders said)
 begun_stand chip new k cores holders said told step is prints = λ i. record { memory = (ap memory_in is ∙ memory_turned chip k) i; cores = map holds_of cores; holders = holders; said = prints i }
 
-pub begun_bench : (chip new : LabChipView) (k : ℕ) (cores : List CoreHolds) (holders : List (Option ℕ)) → new ≡ with_turn chip k → IsBench chip cores holders → IsBench new cores holders
-begun_bench chip new k cores holders is bench = subst (λ (c : LabChipView). IsBench c cores holders) (sym is) (bench_turned chip k cores holders bench)
+pub begun_bench : (chip new : TurnChipView) (k : ℕ) (cores : List CoreHolds) (holders : List (Option ℕ)) → new ≡ with_turn chip k → IsBench chip cores holders → IsBench new cores holders
+begun_bench chip new k cores holders is bench = subst (λ (c : TurnChipView). IsBench c cores holders) (sym is) (bench_turned chip k cores holders bench)
 
 -- an action that is none on a register
 pub core_is : (line me : ℕ) (t : Stand) (act : Action)

@@ -14,7 +14,7 @@ use Rattle.put_get.specs.Accesses.{loads_of, stores_of, stores_of_line, whole_li
 use Rattle.put_get.specs.Cores.{Private, Kept, Dropped, Fetch, Held, Loaded, ReadsLine, ReadsWord, Writes, Flushes}
 use Rattle.put_get.specs.Transfers.{Gets, Puts}
 use Rattle.put_get.proofs.FillLemmas.{fills_evictions}
-use Rattle.lab_chip.specs.Chips.{of_rank_all}
+use Rattle.chip_memory.specs.Chips.{of_rank_all}
 use Rattle.lab_plain.specs.declared.said.Said.{Said}
 use Rattle.lab_plain.specs.declared.said.Said.TheVariants.{Answers, Loads, Stores}
 use Rattle.lab_plain.specs.declared.said.Source.TheVariants.{Cache, Words}

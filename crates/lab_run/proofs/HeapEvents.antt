@@ -17,8 +17,10 @@ use Rattle.scc_proto.proofs.Layouts.PlaceMoves.{heap_loaded, heap_stored}
 use Rattle.write_combine.specs.declared.combiner.Out.{Out}
 use Rattle.put_get.specs.Accesses.{loads_of, store_of_word, stores_of_line, stores_of}
 use Rattle.put_get.specs.HeapStores.{IsHeapLine, AwaitsHeap}
-use Rattle.lab_chip.specs.Chips.{LabChipView, all_events, of_rank_all, of_rank, lab_sight}
-use Rattle.lab_chip.proofs.ChipLaws.{chip_did, memory_from-append, run_left}
+use Rattle.chip_memory.specs.Chips.{TurnChipView, all_events, of_rank_all, of_rank, turn_sight}
+use Rattle.scc_proto.proofs.Messages.ChunkRecords.{memory_from-append}
+use Rattle.chip_memory.proofs.ChipLaws.{chip_did}
+use Rattle.chip_memory.proofs.ListLaws.{run_left}
 use Rattle.lab_plain.specs.Scenes.{after_all, line_in}
 use Rattle.lab_run.specs.Turns.{memory_in, MadeHeapAccesses}
 
@@ -88,32 +90,32 @@ after_run r [] memory = refl
 after_run r (e ∷ es) memory = after_run r es (memory_by e.access e.place e.value memory)
 
 -- a chip on which the rank that has its turn made some events more
-all_more : (chip : LabChipView) (events : List Event) → all_events (record chip { own = chip.own ++ events }) ≡ all_events chip ++ of_rank_all chip.rank events
+all_more : (chip : TurnChipView) (events : List Event) → all_events (record chip { own = chip.own ++ events }) ≡ all_events chip ++ of_rank_all chip.rank events
 all_more chip events = ap (λ (l : List RankEvent). chip.before ++ l) (map-append (of_rank chip.rank) chip.own events) ∙ sym (append_assoc chip.before (of_rank_all chip.rank chip.own) (of_rank_all chip.rank events))
 
-pub all_did : (old new : LabChipView) (events : List Event) → Did (lab_sight old) events (lab_sight new) → all_events new ≡ all_events old ++ of_rank_all old.rank events
+pub all_did : (old new : TurnChipView) (events : List Event) → Did (turn_sight old) events (turn_sight new) → all_events new ≡ all_events old ++ of_rank_all old.rank events
 all_did old new events did = ap all_events (chip_did old new events did) ∙ all_more old events
 
-pub memory_did : (old new : LabChipView) (events : List Event) → Did (lab_sight old) events (lab_sight new) → memory_in new ≡ after_all (memory_in old) events
+pub memory_did : (old new : TurnChipView) (events : List Event) → Did (turn_sight old) events (turn_sight new) → memory_in new ≡ after_all (memory_in old) events
 unfolding memory_in
 memory_did old new events did =
     ap (memory_from zeros) (all_did old new events did) ∙ memory_from-append zeros (all_events old) (of_rank_all old.rank events) ∙ after_run old.rank events (memory_from zeros (all_events old))
 
-pub record Went (old new : LabChipView) (events : List Event) : Type 0 where
+pub record Went (old new : TurnChipView) (events : List Event) : Type 0 where
   pub kept : MadeHeapAccesses old new
   pub memory : memory_in new ≡ after_all (memory_in old) events
 
 -- heap accesses of the rank that has its turn, and is in no call
-pub went : (old new : LabChipView) (events : List Event) → IsSetup old.setup → (record_in (lab_sight old)).stage ≡ Idle → AreHeap old.setup events → Did (lab_sight old) events (lab_sight new)
+pub went : (old new : TurnChipView) (events : List Event) → IsSetup old.setup → (record_in (turn_sight old)).stage ≡ Idle → AreHeap old.setup events → Did (turn_sight old) events (turn_sight new)
     → Went old new events
 went old new events valid idle heap did =
     let is = chip_did old new events did in
-    let rests = (quiet (lab_sight old).seat valid (record_in (lab_sight old)) events (ap leaves_heap idle) heap).rests in
-    let rec = record_did (lab_sight old) events (lab_sight new) did in
+    let rests = (quiet (turn_sight old).seat valid (record_in (turn_sight old)) events (ap leaves_heap idle) heap).rests in
+    let rec = record_did (turn_sight old) events (turn_sight new) did in
     let memory = memory_did old new events did in
     record {
       kept = record {
-        turn = is ∙ (λ i. record old { own = sym (ap (λ (c : LabChipView). c.own) is) i });
+        turn = is ∙ (λ i. record old { own = sym (ap (λ (c : TurnChipView). c.own) is) i });
         stage = ap (λ (x : Record). x.stage) rec ∙ rests.stage;
         held = ap (λ (x : Record). x.held) rec ∙ rests.held;
         registers = ap (λ (m : Memory). m.register) memory ∙ registers_kept old.setup events (memory_in old) heap;
@@ -151,7 +153,7 @@ four_words (a ∷ b ∷ c ∷ d ∷ []) long = refl
 four_words (a ∷ b ∷ c ∷ d ∷ e ∷ rest) long = absurd (omega (arith, long))
 
 -- the words that were loaded of a line are those that are shared
-pub words_loaded : (old new : LabChipView) (line : LineAt) (words : List ℕ) → Did (lab_sight old) (loads_of line words) (lab_sight new) → IsRun zeros (all_events new) → length words ≡ 4
+pub words_loaded : (old new : TurnChipView) (line : LineAt) (words : List ℕ) → Did (turn_sight old) (loads_of line words) (turn_sight new) → IsRun zeros (all_events new) → length words ≡ 4
     → words ≡ line_in (memory_in old) line
 unfolding memory_in
 words_loaded old new line words did run long =

@@ -13,8 +13,9 @@ use Rattle.tas_lock.specs.Holds.{IsHolding, IsNotHolding}
 use Rattle.tas_lock.proofs.HoldLemmas.{freed as was_freed, tried}
 use Rattle.put_get.specs.Cores.{Private}
 use Rattle.put_get.specs.HeapStores.{AwaitsHeap}
-use Rattle.lab_chip.specs.Chips.{LabChipView, all_events, of_rank_all, lab_sight}
-use Rattle.lab_chip.proofs.ChipLaws.{chip_did, run_left}
+use Rattle.chip_memory.specs.Chips.{TurnChipView, all_events, of_rank_all, turn_sight}
+use Rattle.chip_memory.proofs.ChipLaws.{chip_did}
+use Rattle.chip_memory.proofs.ListLaws.{run_left}
 use Rattle.lab_plain.specs.declared.said.Said.{Said}
 use Rattle.lab_plain.specs.declared.said.Said.TheVariants.{Frees, Takes}
 use Rattle.lab_plain.specs.declared.said.Stopped.TheVariants.{Holds, HoldsNot}
@@ -31,13 +32,13 @@ none_of None none = refl
 none_of (Some x) some = sym some
 
 -- a register that its core does not have may be read, and one that it has may be freed
-pub may_take : (chip : LabChipView) (cores : List meaning.CoreHolds) (holders : List (Option ℕ)) (k : ℕ) → IsBench chip cores holders → chip.rank < 48 → k < 48 → is_holder chip.rank (holder_of holders k) ≡ false
-    → IsNotHolding (record_in (lab_sight chip)) k
+pub may_take : (chip : TurnChipView) (cores : List meaning.CoreHolds) (holders : List (Option ℕ)) (k : ℕ) → IsBench chip cores holders → chip.rank < 48 → k < 48 → is_holder chip.rank (holder_of holders k) ≡ false
+    → IsNotHolding (record_in (turn_sight chip)) k
 may_take chip cores holders k bench low below not_own =
-    none_of ((record_in (lab_sight chip)).held k) (sym (ap (λ (x : Record). is_some (x.held k)) (record_own chip)) ∙ bench.held chip.rank k low below ∙ not_own)
+    none_of ((record_in (turn_sight chip)).held k) (sym (ap (λ (x : Record). is_some (x.held k)) (record_own chip)) ∙ bench.held chip.rank k low below ∙ not_own)
 
-pub may_free : (chip : LabChipView) (cores : List meaning.CoreHolds) (holders : List (Option ℕ)) (k : ℕ) → IsBench chip cores holders → chip.rank < 48 → k < 48 → is_holder chip.rank (holder_of holders k) ≡ true
-    → IsHolding (record_in (lab_sight chip)) k
+pub may_free : (chip : TurnChipView) (cores : List meaning.CoreHolds) (holders : List (Option ℕ)) (k : ℕ) → IsBench chip cores holders → chip.rank < 48 → k < 48 → is_holder chip.rank (holder_of holders k) ≡ true
+    → IsHolding (record_in (turn_sight chip)) k
 may_free chip cores holders k bench low below own =
     sym (ap (λ (x : Record). is_some (x.held k)) (record_own chip)) ∙ bench.held chip.rank k low below ∙ own
 
@@ -51,20 +52,20 @@ holder_there holders k j h other = get_or-set_other holders k j h None other
 
 -- A bench after one access to a register by the rank that has its turn: what the rank holds, the word and the holder of this register
 -- changed, and nothing else.
-pub record Changed (old new : LabChipView) (k : ℕ) (held : Option FlagWords) (holder : Option ℕ) : Type 0 where
+pub record Changed (old new : TurnChipView) (k : ℕ) (held : Option FlagWords) (holder : Option ℕ) : Type 0 where
   pub turn : new ≡ record old { own = new.own }
-  pub record_is : record_in (lab_sight new) ≡ record (record_in (lab_sight old)) { held = table_with (record_in (lab_sight old)).held k held }
+  pub record_is : record_in (turn_sight new) ≡ record (record_in (turn_sight old)) { held = table_with (record_in (turn_sight old)).held k held }
   pub registers : (memory_in new).register ≡ table_with (memory_in old).register k (held_word holder)
   pub own : is_some held ≡ is_holder old.rank holder
   pub others : (r : ℕ) → r ≢ old.rank → is_holder r holder ≡ false
 
 -- before it, no other rank has the register
-pub bench_changed : (old new : LabChipView) (cores : List meaning.CoreHolds) (holders : List (Option ℕ)) (k : ℕ) (held : Option FlagWords) (holder : Option ℕ) → IsBench old cores holders → old.rank < 48 → k < 48
+pub bench_changed : (old new : TurnChipView) (cores : List meaning.CoreHolds) (holders : List (Option ℕ)) (k : ℕ) (held : Option FlagWords) (holder : Option ℕ) → IsBench old cores holders → old.rank < 48 → k < 48
     → ((r : ℕ) → r ≢ old.rank → is_holder r (holder_of holders k) ≡ false) → Changed old new k held holder → IsBench new cores (slice_set holders k holder)
 bench_changed old new cores holders k held holder bench low below alone changed =
-    let setup = ap (λ (c : LabChipView). c.setup) changed.turn in
-    let rank = ap (λ (c : LabChipView). c.rank) changed.turn in
-    let here : record_at new old.rank ≡ record_in (lab_sight new) = ap (λ (r : ℕ). record_at new r) (sym rank) ∙ record_own new in
+    let setup = ap (λ (c : TurnChipView). c.setup) changed.turn in
+    let rank = ap (λ (c : TurnChipView). c.rank) changed.turn in
+    let here : record_at new old.rank ≡ record_in (turn_sight new) = ap (λ (r : ℕ). record_at new r) (sym rank) ∙ record_own new in
     let place : k < length holders = omega (arith, bench.places, below) in
     record {
       setup = subst (λ (x : SetupView). IsLabSetup x) (sym setup) bench.setup;
@@ -77,10 +78,10 @@ bench_changed old new cores holders k held holder bench low below alone changed 
       held = λ r j within there. same_or_other (is_some ((record_at new r).held j) ≡ is_holder r (holder_of (slice_set holders k holder) j)) r old.rank
           (λ t is. subst (λ (q : ℕ). is_some ((record_at new q).held j) ≡ is_holder q (holder_of (slice_set holders k holder) j)) (sym is)
           (ap (λ (x : Record). is_some (x.held j)) (here ∙ changed.record_is)
-          ∙ same_or_other (is_some (table_with (record_in (lab_sight old)).held k held j) ≡ is_holder old.rank (holder_of (slice_set holders k holder) j)) j k
-          (λ u same. ap (λ (q : ℕ). is_some (table_with (record_in (lab_sight old)).held k held q)) same ∙ ap (λ (o : Option FlagWords). is_some o) (put_here (record_in (lab_sight old)).held k held)
+          ∙ same_or_other (is_some (table_with (record_in (turn_sight old)).held k held j) ≡ is_holder old.rank (holder_of (slice_set holders k holder) j)) j k
+          (λ u same. ap (λ (q : ℕ). is_some (table_with (record_in (turn_sight old)).held k held q)) same ∙ ap (λ (o : Option FlagWords). is_some o) (put_here (record_in (turn_sight old)).held k held)
           ∙ changed.own ∙ sym (ap (λ (o : Option ℕ). is_holder old.rank o) (ap (holder_of (slice_set holders k holder)) same ∙ holder_here holders k holder place)))
-          (λ u other. ap (λ (o : Option FlagWords). is_some o) (put_there (record_in (lab_sight old)).held k held j other)
+          (λ u other. ap (λ (o : Option FlagWords). is_some o) (put_there (record_in (turn_sight old)).held k held j other)
           ∙ sym (ap (λ (x : Record). is_some (x.held j)) (record_own old)) ∙ bench.held old.rank j low there ∙ sym (ap (λ (o : Option ℕ). is_holder old.rank o) (holder_there holders k j holder other)))))
           (λ t ne. ap (λ (x : Record). is_some (x.held j)) (record_other old new r changed.turn ne)
           ∙ bench.held r j within there
@@ -109,35 +110,35 @@ took_is None false word is (inr step) = absurd (omega (arith, step.1, is))
 took_is (Some core) true word is (inl step) = absurd (omega (arith, step.1, is))
 took_is (Some core) true word is (inr step) = absurd (omega (arith, step.0))
 
-pub was_free : (old new : LabChipView) (holder : Option ℕ) (k : ℕ) (took : Bool) → (memory_in old).register k ≡ held_word holder → Did (lab_sight old) (take_of k took ∷ []) (lab_sight new) → IsRun zeros (all_events new)
+pub was_free : (old new : TurnChipView) (holder : Option ℕ) (k : ℕ) (took : Bool) → (memory_in old).register k ≡ held_word holder → Did (turn_sight old) (take_of k took ∷ []) (turn_sight new) → IsRun zeros (all_events new)
     → took ≡ is_none holder
 unfolding memory_in
 was_free old new holder k took is did run =
     took_is holder took ((memory_in old).register k) is
     (run_left zeros (all_events old) (of_rank_all old.rank (take_of k took ∷ [])) (subst (λ (l : List RankEvent). IsRun zeros l) (all_did old new (take_of k took ∷ []) did) run)).0
 
-turn_did : (old new : LabChipView) (events : List _) → Did (lab_sight old) events (lab_sight new) → new ≡ record old { own = new.own }
-turn_did old new events did = let is = chip_did old new events did in is ∙ (λ i. record old { own = sym (ap (λ (c : LabChipView). c.own) is) i })
+turn_did : (old new : TurnChipView) (events : List _) → Did (turn_sight old) events (turn_sight new) → new ≡ record old { own = new.own }
+turn_did old new events did = let is = chip_did old new events did in is ∙ (λ i. record old { own = sym (ap (λ (c : TurnChipView). c.own) is) i })
 
 -- a register that nobody had is the core's
-pub taken_here : (old new : LabChipView) (k : ℕ) → IsNotHolding (record_in (lab_sight old)) k → Did (lab_sight old) (take_of k true ∷ []) (lab_sight new)
+pub taken_here : (old new : TurnChipView) (k : ℕ) → IsNotHolding (record_in (turn_sight old)) k → Did (turn_sight old) (take_of k true ∷ []) (turn_sight new)
     → Changed old new k (Some (record { sent = None; ready = None })) (Some old.rank)
 taken_here old new k free did = record {
   turn = turn_did old new (take_of k true ∷ []) did;
-  record_is = tried (lab_sight old) (lab_sight new) k true free did;
+  record_is = tried (turn_sight old) (turn_sight new) k true free did;
   registers = ap (λ (m : Memory). m.register) (memory_did old new (take_of k true ∷ []) did);
   own = sym (eqb_same old.rank);
   others = λ r ne. eqb_other old.rank r (λ same. ne (sym same));
 }
 
 -- a register that another core has stays as it is
-pub found_taken : (old new : LabChipView) (cores : List meaning.CoreHolds) (holders : List (Option ℕ)) (k : ℕ) → IsBench old cores holders → old.rank < 48 → IsNotHolding (record_in (lab_sight old)) k
-    → Did (lab_sight old) (take_of k false ∷ []) (lab_sight new) → IsBench new cores holders
+pub found_taken : (old new : TurnChipView) (cores : List meaning.CoreHolds) (holders : List (Option ℕ)) (k : ℕ) → IsBench old cores holders → old.rank < 48 → IsNotHolding (record_in (turn_sight old)) k
+    → Did (turn_sight old) (take_of k false ∷ []) (turn_sight new) → IsBench new cores holders
 found_taken old new cores holders k bench low free did =
     let turn = turn_did old new (take_of k false ∷ []) did in
-    let setup = ap (λ (c : LabChipView). c.setup) turn in
-    let rank = ap (λ (c : LabChipView). c.rank) turn in
-    let same : record_in (lab_sight new) ≡ record_in (lab_sight old) = tried (lab_sight old) (lab_sight new) k false free did in
+    let setup = ap (λ (c : TurnChipView). c.setup) turn in
+    let rank = ap (λ (c : TurnChipView). c.rank) turn in
+    let same : record_in (turn_sight new) ≡ record_in (turn_sight old) = tried (turn_sight old) (turn_sight new) k false free did in
     let here : record_at new old.rank ≡ record_at old old.rank = ap (λ (r : ℕ). record_at new r) (sym rank) ∙ record_own new ∙ same ∙ sym (record_own old) in
     let each : (r : ℕ) → record_at new r ≡ record_at old r
     = λ r. same_or_other (record_at new r ≡ record_at old r) r old.rank (λ t is. ap (record_at new) is ∙ here ∙ sym (ap (record_at old) is)) (λ t ne. record_other old new r turn ne) in
@@ -152,10 +153,10 @@ found_taken old new cores holders k bench low free did =
     }
 
 -- a register that was freed is nobody's
-pub freed_here : (old new : LabChipView) (k : ℕ) → IsHolding (record_in (lab_sight old)) k → Did (lab_sight old) (free_of k ∷ []) (lab_sight new) → Changed old new k None None
+pub freed_here : (old new : TurnChipView) (k : ℕ) → IsHolding (record_in (turn_sight old)) k → Did (turn_sight old) (free_of k ∷ []) (turn_sight new) → Changed old new k None None
 freed_here old new k held did = record {
   turn = turn_did old new (free_of k ∷ []) did;
-  record_is = was_freed (lab_sight old) (lab_sight new) k held did;
+  record_is = was_freed (turn_sight old) (turn_sight new) k held did;
   registers = ap (λ (m : Memory). m.register) (memory_did old new (free_of k ∷ []) did);
   own = refl;
   others = λ r ne. refl;
@@ -190,7 +191,7 @@ freed_other line me k t holder other =
     ap (λ (b : Bool). if b then (record { stand = register_freed me k t; stop = None }) else (record { stand = t; stop = Some (HoldsNot line me k) })) other
 
 -- a bench behind a take that was made, with what it comes to
-pub record TakeDone (line me k : ℕ) (expect : Option Bool) (took : Bool) (old new : LabChipView) (cores : List Private) (holders : List (Option ℕ)) (said : List Said) : Type 0 where
+pub record TakeDone (line me k : ℕ) (expect : Option Bool) (took : Bool) (old new : TurnChipView) (cores : List Private) (holders : List (Option ℕ)) (said : List Said) : Type 0 where
   pub stand : stand_of new cores (slice_set holders k (if took then Some me else holder_of holders k)) (said ++ Takes me k took ∷ []) ≡ (take_made line me k expect (stand_of old cores holders said) (holder_of holders k)).stand
   pub stop : unmet_take line took expect ≡ (take_made line me k expect (stand_of old cores holders said) (holder_of holders k)).stop
   pub stands : IsBench new (map holds_of cores) (slice_set holders k (if took then Some me else holder_of holders k))
@@ -199,8 +200,8 @@ none_is : (o : Option ℕ) → is_none o ≡ true → o ≡ None
 none_is None none = refl
 none_is (Some x) none = absurd (true_not_false (sym none))
 
-take_by : (took : Bool) (line k : ℕ) (expect : Option Bool) (old new : LabChipView) (cores : List Private) (holders : List (Option ℕ)) (said : List Said) → IsBench old (map holds_of cores) holders
-    → old.rank < 48 → k < 48 → is_holder old.rank (holder_of holders k) ≡ false → Did (lab_sight old) (take_of k took ∷ []) (lab_sight new) → took ≡ is_none (holder_of holders k)
+take_by : (took : Bool) (line k : ℕ) (expect : Option Bool) (old new : TurnChipView) (cores : List Private) (holders : List (Option ℕ)) (said : List Said) → IsBench old (map holds_of cores) holders
+    → old.rank < 48 → k < 48 → is_holder old.rank (holder_of holders k) ≡ false → Did (turn_sight old) (take_of k took ∷ []) (turn_sight new) → took ≡ is_none (holder_of holders k)
     → TakeDone line old.rank k expect took old new cores holders said
 take_by true line k expect old new cores holders said bench low below other did found =
     let done = taken_other line old.rank k expect (stand_of old cores holders said) (holder_of holders k) other in
@@ -223,8 +224,8 @@ take_by false line k expect old new cores holders said bench low below other did
           (found_taken old new (map holds_of cores) holders k bench low (may_take old (map holds_of cores) holders k bench low below other) did);
     }
 
-pub take_done : (took : Bool) (line me k : ℕ) (expect : Option Bool) (old new : LabChipView) (cores : List Private) (holders : List (Option ℕ)) (said : List Said) → IsBench old (map holds_of cores) holders
-    → old.rank ≡ me → me < 48 → k < 48 → is_holder me (holder_of holders k) ≡ false → Did (lab_sight old) (take_of k took ∷ []) (lab_sight new) → IsRun zeros (all_events new)
+pub take_done : (took : Bool) (line me k : ℕ) (expect : Option Bool) (old new : TurnChipView) (cores : List Private) (holders : List (Option ℕ)) (said : List Said) → IsBench old (map holds_of cores) holders
+    → old.rank ≡ me → me < 48 → k < 48 → is_holder me (holder_of holders k) ≡ false → Did (turn_sight old) (take_of k took ∷ []) (turn_sight new) → IsRun zeros (all_events new)
     → TakeDone line me k expect took old new cores holders said
 take_done took line me k expect old new cores holders said bench turn low below other did run =
     subst (λ (r : ℕ). TakeDone line r k expect took old new cores holders said) turn
@@ -232,13 +233,13 @@ take_done took line me k expect old new cores holders said bench turn low below 
     (was_free old new (holder_of holders k) k took (bench.registers k below) did run))
 
 -- a bench behind a free
-pub record FreeDone (line me k : ℕ) (old new : LabChipView) (cores : List Private) (holders : List (Option ℕ)) (said : List Said) : Type 0 where
+pub record FreeDone (line me k : ℕ) (old new : TurnChipView) (cores : List Private) (holders : List (Option ℕ)) (said : List Said) : Type 0 where
   pub stand : stand_of new cores (slice_set holders k None) (said ++ Frees me k ∷ []) ≡ (free_made line me k (stand_of old cores holders said) (holder_of holders k)).stand
   pub stop : None ≡ (free_made line me k (stand_of old cores holders said) (holder_of holders k)).stop
   pub stands : IsBench new (map holds_of cores) (slice_set holders k None)
 
-pub free_done : (line me k : ℕ) (old new : LabChipView) (cores : List Private) (holders : List (Option ℕ)) (said : List Said) → IsBench old (map holds_of cores) holders
-    → old.rank ≡ me → me < 48 → k < 48 → is_holder me (holder_of holders k) ≡ true → Did (lab_sight old) (free_of k ∷ []) (lab_sight new) → FreeDone line me k old new cores holders said
+pub free_done : (line me k : ℕ) (old new : TurnChipView) (cores : List Private) (holders : List (Option ℕ)) (said : List Said) → IsBench old (map holds_of cores) holders
+    → old.rank ≡ me → me < 48 → k < 48 → is_holder me (holder_of holders k) ≡ true → Did (turn_sight old) (free_of k ∷ []) (turn_sight new) → FreeDone line me k old new cores holders said
 free_done line me k old new cores holders said bench turn low below own did =
     let done = freed_own line me k (stand_of old cores holders said) (holder_of holders k) own in
     let low_here = subst (λ (r : ℕ). r < 48) (sym turn) low in

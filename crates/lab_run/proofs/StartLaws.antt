@@ -7,7 +7,7 @@ use Rattle.scc_proto.specs.Words.{Memory, zeros}
 use Rattle.scc_proto.proofs.PortLaws.{record_of-nil}
 use Rattle.put_get.specs.Cores.{Private}
 use Rattle.put_get.specs.HeapStores.{AwaitsHeap}
-use Rattle.lab_chip.specs.Chips.{LabChipView, new_chip}
+use Rattle.chip_memory.specs.Chips.{TurnChipView, new_chip}
 use Rattle.lab_plain.specs.Meaning as meaning
 use Rattle.lab_plain.specs.Meaning.{Stand, core_at, holder_of, holds_nothing, is_holder, lab_start}
 use Rattle.lab_run.specs.Turns.{IsLabSetup, memory_in}
@@ -31,14 +31,14 @@ new_stands s lab = record {
   registers = λ k below. ap (λ (m : Memory). m.register k) (memory_new s) ∙ sym (ap held_word (get_or-replicate 48 k nobody nobody below));
 }
 
-pub new_bench : (s : SetupView) (chip : LabChipView) (cores : List Private) (holders : List (Option ℕ)) → IsLabSetup s → chip ≡ new_chip s 0 → map holds_of cores ≡ replicate 48 holds_nothing
+pub new_bench : (s : SetupView) (chip : TurnChipView) (cores : List Private) (holders : List (Option ℕ)) → IsLabSetup s → chip ≡ new_chip s 0 → map holds_of cores ≡ replicate 48 holds_nothing
     → holders ≡ replicate 48 None → IsBench chip (map holds_of cores) holders
 new_bench s chip cores holders lab is nothing none =
-    subst (λ (c : LabChipView). IsBench c (map holds_of cores) holders) (sym is)
+    subst (λ (c : TurnChipView). IsBench c (map holds_of cores) holders) (sym is)
     (subst (λ (l : List meaning.CoreHolds). IsBench (new_chip s 0) l holders) (sym nothing)
     (subst (λ (h : List (Option ℕ)). IsBench (new_chip s 0) (replicate 48 holds_nothing) h) (sym none) (new_stands s lab)))
 
-pub new_stand : (s : SetupView) (chip : LabChipView) (cores : List Private) (holders : List (Option ℕ)) → chip ≡ new_chip s 0 → map holds_of cores ≡ replicate 48 holds_nothing
+pub new_stand : (s : SetupView) (chip : TurnChipView) (cores : List Private) (holders : List (Option ℕ)) → chip ≡ new_chip s 0 → map holds_of cores ≡ replicate 48 holds_nothing
     → holders ≡ replicate 48 None → stand_of chip cores holders [] ≡ lab_start
 unfolding lab_start
 new_stand s chip cores holders is nothing none =

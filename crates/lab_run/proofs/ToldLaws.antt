@@ -8,7 +8,7 @@ use Rattle.scc_proto.specs.Ports.{Did}
 use Rattle.line_cache.specs.declared.cache.Entry.{Entry}
 use Rattle.write_combine.specs.declared.combiner.Out.{Out}
 use Rattle.put_get.specs.Accesses.{stores_of, stores_of_line}
-use Rattle.lab_chip.specs.Chips.{LabChipView, all_events, of_rank_all, lab_sight, with_turn}
+use Rattle.chip_memory.specs.Chips.{TurnChipView, all_events, of_rank_all, turn_sight, with_turn}
 use Rattle.lab_plain.specs.declared.said.Said.{Said}
 use Rattle.lab_plain.specs.declared.said.Said.TheVariants.{Begins, Caches}
 use Rattle.lab_plain.specs.Scenes.{say_buffer, say_left, say_lines, say_stores}
@@ -21,7 +21,7 @@ accesses-append [] b = refl
 accesses-append (s ∷ a) b = ap (λ (l : List RankEvent). accesses_told s ++ l) (accesses-append a b) ∙ sym (append_assoc (accesses_told s) (accesses_of a) (accesses_of b))
 
 -- one thing after another
-pub told_both : (a b c : LabChipView) (x y z : List Said) → IsTold a x b y → IsTold b y c z → IsTold a x c z
+pub told_both : (a b c : TurnChipView) (x y z : List Said) → IsTold a x b y → IsTold b y c z → IsTold a x c z
 told_both a b c x y z first second = record {
   more = first.more ++ second.more;
   prints = second.prints ∙ ap (λ (l : List Said). l ++ second.more) first.prints ∙ append_assoc x first.more second.more;
@@ -30,18 +30,18 @@ told_both a b c x y z first second = record {
 }
 
 -- more was printed, and none of it is an access
-pub told_more : (chip : LabChipView) (said more end : List Said) → end ≡ said ++ more → accesses_of more ≡ [] → IsTold chip said chip end
+pub told_more : (chip : TurnChipView) (said more end : List Said) → end ≡ said ++ more → accesses_of more ≡ [] → IsTold chip said chip end
 told_more chip said more end prints none = record {
   more = more;
   prints = prints;
   makes = sym (ap (λ (l : List RankEvent). all_events chip ++ l) none ∙ append-nil (all_events chip));
 }
 
-pub told_none : (chip : LabChipView) (said : List Said) → IsTold chip said chip said
+pub told_none : (chip : TurnChipView) (said : List Said) → IsTold chip said chip said
 told_none chip said = told_more chip said [] said (sym (append-nil said)) refl
 
 -- what the port did was printed
-pub told_by : (s t : LabChipView) (events : List Event) (said more end : List Said) → Did (lab_sight s) events (lab_sight t) → end ≡ said ++ more → accesses_of more ≡ of_rank_all s.rank events → IsTold s said t end
+pub told_by : (s t : TurnChipView) (events : List Event) (said more end : List Said) → Did (turn_sight s) events (turn_sight t) → end ≡ said ++ more → accesses_of more ≡ of_rank_all s.rank events → IsTold s said t end
 told_by s t events said more end did prints same = record {
   more = more;
   prints = prints;
@@ -49,12 +49,12 @@ told_by s t events said more end did prints same = record {
 }
 
 -- all accesses so far were printed, and so they are now
-pub all_told : (s t : LabChipView) (said told : List Said) → IsTold s said t told → all_events s ≡ accesses_of said → all_events t ≡ accesses_of told
+pub all_told : (s t : TurnChipView) (said told : List Said) → IsTold s said t told → all_events s ≡ accesses_of said → all_events t ≡ accesses_of told
 all_told s t said told tells before =
     tells.makes ∙ ap (λ (l : List RankEvent). l ++ accesses_of tells.more) before ∙ sym (accesses-append said tells.more) ∙ sym (ap accesses_of tells.prints)
 
 -- a step begins
-pub begun_told : (chip new : LabChipView) (k line : ℕ) (text : List ℕ) (said told : List Said) → new ≡ with_turn chip k → told ≡ said ++ Begins line text ∷ [] → all_events chip ≡ accesses_of said
+pub begun_told : (chip new : TurnChipView) (k line : ℕ) (text : List ℕ) (said told : List Said) → new ≡ with_turn chip k → told ≡ said ++ Begins line text ∷ [] → all_events chip ≡ accesses_of said
     → all_events new ≡ accesses_of told
 begun_told chip new k line text said told is prints before =
     ap all_events is ∙ append-nil (all_events chip) ∙ before ∙ sym (ap accesses_of prints ∙ accesses-append said (Begins line text ∷ []) ∙ append-nil (accesses_of said))

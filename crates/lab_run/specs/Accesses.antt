@@ -3,7 +3,7 @@ use Rattle.std.specs.Prelude.{List, [], ◌∷◌, ◌++◌}
 use Rattle.scc_base.specs.Events.{load_of, store_of, take_of, free_of}
 use Rattle.scc_proto.specs.Words.{RankEvent}
 use Rattle.put_get.specs.Accesses.{loads_of, stores_of_line}
-use Rattle.lab_chip.specs.Chips.{of_rank, of_rank_all}
+use Rattle.chip_memory.specs.Chips.{of_rank, of_rank_all}
 use Rattle.lab_plain.specs.declared.said.Said.{Said}
 use Rattle.lab_plain.specs.declared.said.Said.TheVariants as said
 

@@ -2,7 +2,7 @@
 use Rattle.std.specs.Prelude.{◌≡◌, map, Option}
 use Rattle.lab_plain.specs.declared.said.Stopped.{Stopped}
 use Rattle.lab_plain.specs.Meaning.{Done, Stand, lab_start}
-use Rattle.lab_chip.specs.Chips.{all_events}
+use Rattle.chip_memory.specs.Chips.{all_events}
 use Rattle.lab_run.specs.declared.bench.Bench.{Bench}
 use Rattle.lab_run.specs.Accesses.{accesses_of}
 use Rattle.lab_run.specs.Stands.{IsBench, holds_of, stand_of}

@@ -7,7 +7,7 @@ use Rattle.scc_proto.specs.Ports.{Sight, Did}
 use Rattle.line_cache.specs.Lines.{IsCache}
 use Rattle.put_get.specs.Cores.{Private, ReadsWord, Writes, Flushes}
 use Rattle.put_get.specs.Transfers.{Gets, Puts}
-use Rattle.lab_chip.specs.Chips.{of_rank_all}
+use Rattle.chip_memory.specs.Chips.{of_rank_all}
 use Rattle.lab_plain.specs.declared.said.Said.{Said}
 use Rattle.lab_plain.specs.Scenes.{CoreScene, after_all, after_flushing, after_invalidate, answer}
 use Rattle.lab_plain.specs.Scenes.{line_got, line_in, line_put, word_read, word_written}

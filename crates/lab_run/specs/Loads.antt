@@ -4,7 +4,7 @@ use Rattle.scc_base.specs.Places.{LineAt}
 use Rattle.line_cache.specs.Lines.{with_filled_line}
 use Rattle.put_get.specs.Accesses.{loads_of}
 use Rattle.put_get.specs.Cores.{Private}
-use Rattle.lab_chip.specs.Chips.{LabChipView, all_events, of_rank_all}
+use Rattle.chip_memory.specs.Chips.{TurnChipView, all_events, of_rank_all}
 use Rattle.lab_plain.specs.Scenes.{is_evicted, lines_after_evictor, line_in}
 use Rattle.lab_run.specs.declared.reads.Loaded.{Loaded}
 use Rattle.lab_run.specs.Turns.{MadeHeapAccesses, MayGoOn, memory_in}
@@ -12,8 +12,8 @@ use Rattle.lab_run.specs.Turns.{MadeHeapAccesses, MayGoOn, memory_in}
 -- A line was loaded: its words are the shared ones, by four loads; it came in, and the named line left, if it was cached then;
 -- the shared words stayed. Seven parameters: what was asked (the line to load, the one to leave), what the load gave, and
 -- the core and the chip before and after.
-pub record LoadsLine (evict : Option LineAt) (c : Private) (s : LabChipView) (line : LineAt) (loaded : Loaded) (d : Private)
-    (t : LabChipView) : Type 0 where
+pub record LoadsLine (evict : Option LineAt) (c : Private) (s : TurnChipView) (line : LineAt) (loaded : Loaded) (d : Private)
+    (t : TurnChipView) : Type 0 where
   pub words : loaded.words ≡ line_in (memory_in s) line
   pub left : loaded.left ≡ is_evicted evict (with_filled_line c.lines line (line_in (memory_in s) line))
   pub lines : d.lines ≡ lines_after_evictor evict (with_filled_line c.lines line (line_in (memory_in s) line))

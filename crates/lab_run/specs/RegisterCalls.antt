@@ -4,7 +4,7 @@ use Rattle.scc_base.specs.Events.{take_of, free_of}
 use Rattle.scc_base.specs.declared.events.Event.{Event}
 use Rattle.scc_proto.specs.Ports.{Sight, Did}
 use Rattle.scc_proto.specs.Words.{IsStep}
-use Rattle.lab_chip.specs.Chips.{of_rank_all}
+use Rattle.chip_memory.specs.Chips.{of_rank_all}
 use Rattle.lab_plain.specs.declared.said.Said.{Said}
 use Rattle.lab_plain.specs.declared.said.Said.TheVariants as said
 use Rattle.lab_plain.specs.Meaning.{Done, Stand, free_made, holder_of, is_holder, register_freed, register_read, take_made, unmet_take}

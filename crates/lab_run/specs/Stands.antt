@@ -5,7 +5,7 @@ use Rattle.scc_proto.specs.Histories.{IsPermittedRun, records_of}
 use Rattle.scc_proto.specs.Words.{IsRun, zeros}
 use Rattle.put_get.specs.Cores.{Private}
 use Rattle.put_get.specs.HeapStores.{AwaitsHeap}
-use Rattle.lab_chip.specs.Chips.{LabChipView, all_events}
+use Rattle.chip_memory.specs.Chips.{TurnChipView, all_events}
 use Rattle.lab_plain.specs.declared.said.Said.{Said}
 use Rattle.lab_plain.specs.Meaning.{Done, CoreHolds, Stand, core_at, holder_of, holds_nothing, is_holder}
 use Rattle.lab_run.specs.Accesses.{accesses_of}
@@ -18,7 +18,7 @@ abbrev pub holds_of : Private → CoreHolds
 holds_of core = record { lines = core.lines; out = core.out }
 
 -- the cores over the chip, which core has each register, and what was printed
-abbrev pub stand_of : LabChipView → List Private → List (Option ℕ) → List Said → Stand
+abbrev pub stand_of : TurnChipView → List Private → List (Option ℕ) → List Said → Stand
 stand_of chip cores holders said = record { memory = memory_in chip; cores = map holds_of cores; holders = holders; said = said }
 
 -- 48 cores that hold nothing
@@ -26,7 +26,7 @@ pub record AreNew (cores : List Private) : Type 0 where
   pub nothing : map holds_of cores ≡ replicate 48 holds_nothing
 
 -- the record of a rank of a chip
-abbrev pub record_at : LabChipView → ℕ → Record
+abbrev pub record_at : TurnChipView → ℕ → Record
 record_at chip r = records_of chip.setup (all_events chip) r
 
 -- the value of a register: 1 where some core has it, and else 0
@@ -35,7 +35,7 @@ held_word holder = if is_some holder then 1 else 0
 
 -- A lab's chip between two steps: no call of any rank is open, in each write-combining buffer stands a heap line or none, a rank
 -- holds exactly the registers that its core has, and a register is 1 exactly where some core has it.
-pub record IsBench (chip : LabChipView) (cores : List CoreHolds) (holders : List (Option ℕ)) : Type 0 where
+pub record IsBench (chip : TurnChipView) (cores : List CoreHolds) (holders : List (Option ℕ)) : Type 0 where
   pub setup : IsLabSetup chip.setup
   pub ranks : length cores ≡ 48
   pub places : length holders ≡ 48

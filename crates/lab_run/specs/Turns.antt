@@ -9,17 +9,17 @@ use Rattle.scc_proto.specs.Histories.{memory_from}
 use Rattle.scc_proto.specs.Ports.{record_in}
 use Rattle.put_get.specs.Cores.{Private}
 use Rattle.put_get.specs.HeapStores.{AwaitsHeap}
-use Rattle.lab_chip.specs.Chips.{LabChipView, all_events, lab_sight}
+use Rattle.chip_memory.specs.Chips.{TurnChipView, all_events, turn_sight}
 use Rattle.lab_plain.specs.declared.said.Said.{Said}
 use Rattle.lab_plain.specs.Scenes.{CoreScene}
 use Rattle.lab_run.specs.Accesses.{accesses_of}
 
 -- the shared words as the events of a chip have left them
-unfoldable pub memory_in : LabChipView → Memory
+unfoldable pub memory_in : TurnChipView → Memory
 memory_in chip = memory_from zeros (all_events chip)
 
 -- a core at work, and what was printed
-abbrev pub scene_of : Private → LabChipView → List Said → CoreScene
+abbrev pub scene_of : Private → TurnChipView → List Said → CoreScene
 scene_of core chip said = record { memory = memory_in chip; lines = core.lines; out = core.out; said = said }
 
 -- the setup of a lab: 48 ranks with line flags, rank r on core r, and no communicator but the world
@@ -31,22 +31,22 @@ pub record IsLabSetup (s : SetupView) : Type 0 where
   pub comms : s.comms ≡ world_alone
 
 -- a core may go on: no call of its rank is open, and in its write-combining buffer stands a heap line or none
-pub record MayGoOn (core : Private) (chip : LabChipView) : Type 0 where
+pub record MayGoOn (core : Private) (chip : TurnChipView) : Type 0 where
   pub setup : IsLabSetup chip.setup
   pub below : chip.rank < 48
-  pub idle : (record_in (lab_sight chip)).stage ≡ Idle
+  pub idle : (record_in (turn_sight chip)).stage ≡ Idle
   pub awaits : AwaitsHeap chip.setup core.out
 
 -- The rank that has its turn made heap accesses alone: it is the same turn of the same chip, the rank's record has the same stage
 -- and holds the same registers, and the registers are as they were.
-pub record MadeHeapAccesses (old new : LabChipView) : Type 0 where
+pub record MadeHeapAccesses (old new : TurnChipView) : Type 0 where
   pub turn : new ≡ record old { own = new.own }
-  pub stage : (record_in (lab_sight new)).stage ≡ (record_in (lab_sight old)).stage
-  pub held : (record_in (lab_sight new)).held ≡ (record_in (lab_sight old)).held
+  pub stage : (record_in (turn_sight new)).stage ≡ (record_in (turn_sight old)).stage
+  pub held : (record_in (turn_sight new)).held ≡ (record_in (turn_sight old)).held
   pub registers : (memory_in new).register ≡ (memory_in old).register
 
 -- More was printed, and on the chip those accesses were made that were printed, each once and in their order, and no others.
-pub record IsTold (s : LabChipView) (said : List Said) (t : LabChipView) (told : List Said) : Type 0 where
+pub record IsTold (s : TurnChipView) (said : List Said) (t : TurnChipView) (told : List Said) : Type 0 where
   pub more : List Said
   pub prints : told ≡ said ++ more
   pub makes : all_events t ≡ all_events s ++ accesses_of more
@@ -54,7 +54,7 @@ pub record IsTold (s : LabChipView) (said : List Said) (t : LabChipView) (told :
 -- A turn of a core: it changed the shared words, what it holds and what was printed as a function says, and may go on. The
 -- accesses that were printed are the chip's. Seven parameters: the function, and what a scene is made of (the core, the
 -- chip, the accesses printed), before and after.
-pub record CoreTurned (op : CoreScene → CoreScene) (c : Private) (s : LabChipView) (said : List Said) (d : Private) (t : LabChipView)
+pub record CoreTurned (op : CoreScene → CoreScene) (c : Private) (s : TurnChipView) (said : List Said) (d : Private) (t : TurnChipView)
     (told : List Said) : Type 0 where
   pub scene : scene_of d t told ≡ op (scene_of c s said)
   pub ready : MayGoOn d t

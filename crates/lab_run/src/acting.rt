@@ -9,7 +9,7 @@ use crate::moves::{flush, get, own, put, write_line, write_word};
 use crate::prints::print;
 use crate::reads::{read_line, read_word};
 use crate::singles::{load, store};
-use lab_chip::LabChip;
+use chip_memory::TurnChip;
 use lab_plain::{Said, Stopped};
 use lab_reader::{Action, HeapLine, HeapWord};
 use put_get::Core;
@@ -69,7 +69,7 @@ fn check_line(
 /// The core that has its turn acts. Why the lab stops at it, if it does. (Registers are read elsewhere.)
 pub(crate) fn act(
     core: &mut Core<Named>,
-    chip: &mut LabChip,
+    chip: &mut TurnChip,
     said: &mut Vec<Said>,
     line: u32,
     action: &Action,

@@ -9,7 +9,7 @@ use crate::acting::act;
 use crate::bench::Bench;
 use crate::evictor::Named;
 use crate::setup::lab_setup;
-use lab_chip::LabChip;
+use chip_memory::TurnChip;
 use lab_plain::{Said, Stopped};
 use lab_reader::{Action, Step};
 use put_get::Core;
@@ -33,7 +33,7 @@ impl Bench {
     pub(crate) fn new(alloc: Global) -> Result<Bench, AllocError>
         ensures { IfOk result IsNewBench }
     {
-        let chip = LabChip::new(alloc, lab_setup(), Rank::of(0))?;
+        let chip = TurnChip::new(alloc, lab_setup(), Rank::of(0))?;
         let cores = new_cores(alloc)?;
         Ok(Bench {
             chip,

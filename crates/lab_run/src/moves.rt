@@ -4,14 +4,14 @@ ghost use Rattle.std.specs.Prelude.{◌≡◌, ◌++◌, [], ◌∷◌, true, On
 ghost use Rattle.line_cache.specs.Lines.{with_filled_line};
 ghost use Rattle.write_combine.specs.Combining.{handed_out};
 ghost use Rattle.put_get.specs.Accesses.{loads_of};
-ghost use Rattle.lab_chip.specs.Chips.{all_events, of_rank_all};
+ghost use Rattle.chip_memory.specs.Chips.{all_events, of_rank_all};
 ghost use Rattle.lab_plain.specs.declared.said.Said.TheVariants.{Answers, Stores};
 ghost use Rattle.lab_plain.specs.Scenes.{after_flushing, line_got, line_in, line_put, line_stored, line_written, say_got, say_stores, word_written};
 ghost use Rattle.lab_run.specs.Turns.{MadeHeapAccesses, MayGoOn, CoreTurned, memory_in, scene_of};
 
 use crate::evictor::Named;
 use crate::reads::{Loaded, load_line};
-use lab_chip::LabChip;
+use chip_memory::TurnChip;
 use lab_plain::{Said, Source};
 use lab_reader::{HeapLine, HeapWord};
 use put_get::Core;
@@ -21,7 +21,7 @@ use std::alloc::AllocError;
 use write_combine::Out;
 
 /// The core that has its turn.
-pub(crate) fn own(chip: &LabChip) -> CoreId
+pub(crate) fn own(chip: &TurnChip) -> CoreId
     ensures { result ≡ chip.now.rank }
 {
     CoreId::of(chip.rank().number())
@@ -41,7 +41,7 @@ fn say_stores(said: &mut Vec<Said>, core: CoreId, out: &Out) -> Result<(), Alloc
 }
 
 /// Says what leaves the write-combining buffer where all of it does.
-fn say_flush(core: &Core<Named>, chip: &LabChip, said: &mut Vec<Said>) -> Result<(), AllocError>
+fn say_flush(core: &Core<Named>, chip: &TurnChip, said: &mut Vec<Said>) -> Result<(), AllocError>
     ensures { OnOk result (said.new.items ≡ said.old.items ++ say_stores chip.now.rank core.now.out) }
 {
     match core.buffered() {
@@ -53,7 +53,7 @@ fn say_flush(core: &Core<Named>, chip: &LabChip, said: &mut Vec<Said>) -> Result
 /// Says what leaves it where a word of a line is written.
 fn say_handed_out(
     core: &Core<Named>,
-    chip: &LabChip,
+    chip: &TurnChip,
     said: &mut Vec<Said>,
     line: Line,
 ) -> Result<(), AllocError>
@@ -74,7 +74,7 @@ fn say_handed_out(
 /// Stores what the write-combining buffer holds.
 pub(crate) fn flush(
     core: &mut Core<Named>,
-    chip: &mut LabChip,
+    chip: &mut TurnChip,
     said: &mut Vec<Said>,
 ) -> Result<(), AllocError>
     requires ready { MayGoOn core.old chip.old }
@@ -89,7 +89,7 @@ pub(crate) fn flush(
 /// Writes a word.
 pub(crate) fn write_word(
     core: &mut Core<Named>,
-    chip: &mut LabChip,
+    chip: &mut TurnChip,
     said: &mut Vec<Said>,
     at: HeapWord,
     value: u64,
@@ -108,7 +108,7 @@ pub(crate) fn write_word(
 /// Writes the four words of a line, one after the other.
 pub(crate) fn write_line(
     core: &mut Core<Named>,
-    chip: &mut LabChip,
+    chip: &mut TurnChip,
     said: &mut Vec<Said>,
     at: HeapLine,
     words: &[u64; 4],
@@ -144,7 +144,7 @@ fn say_line(
 /// Puts a whole line, where nothing waits in the buffer.
 fn store_line(
     core: &mut Core<Named>,
-    chip: &mut LabChip,
+    chip: &mut TurnChip,
     said: &mut Vec<Said>,
     at: HeapLine,
     words: &[u64; 4],
@@ -164,7 +164,7 @@ fn store_line(
 /// Puts a whole line.
 pub(crate) fn put(
     core: &mut Core<Named>,
-    chip: &mut LabChip,
+    chip: &mut TurnChip,
     said: &mut Vec<Said>,
     at: HeapLine,
     words: &[u64; 4],
@@ -178,7 +178,7 @@ pub(crate) fn put(
 }
 
 /// The words of a line that is got, where nothing waits in the buffer. No line is evicted.
-fn get_line(core: &mut Core<Named>, chip: &mut LabChip, at: HeapLine) -> [u64; 4]
+fn get_line(core: &mut Core<Named>, chip: &mut TurnChip, at: HeapLine) -> [u64; 4]
     requires ready { MayGoOn core.old chip.old }
     requires empty { core.old.out ≡ None }
     ensures words { result ≡ line_in (memory_in chip.old) at }
@@ -218,7 +218,7 @@ fn say_got(
 /// Gets a whole line.
 pub(crate) fn get(
     core: &mut Core<Named>,
-    chip: &mut LabChip,
+    chip: &mut TurnChip,
     said: &mut Vec<Said>,
     at: HeapLine,
 ) -> Result<[u64; 4], AllocError>

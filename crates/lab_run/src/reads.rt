@@ -11,7 +11,7 @@ ghost use Rattle.lab_run.specs.Turns.{MayGoOn, CoreTurned, memory_in, scene_of};
 
 use crate::evictor::Named;
 use crate::moves::{answer, own};
-use lab_chip::LabChip;
+use chip_memory::TurnChip;
 use lab_plain::{Said, Source};
 use lab_reader::{HeapLine, HeapWord};
 use line_cache::Entry;
@@ -94,7 +94,7 @@ fn leaving(entries: &[Entry], new: Line, evict: &Option<HeapLine>) -> Option<usi
 /// The words of a line that is not cached, from the shared words. The line that is named leaves, if it is cached then.
 pub(crate) fn load_line(
     core: &mut Core<Named>,
-    chip: &mut LabChip,
+    chip: &mut TurnChip,
     at: HeapLine,
     evict: &Option<HeapLine>,
 ) -> Loaded
@@ -127,7 +127,7 @@ fn say_evicted(said: &mut Vec<Said>, evict: &Option<HeapLine>, left: bool) -> Re
 /// Reads a word whose line is not cached.
 fn load_word(
     core: &mut Core<Named>,
-    chip: &mut LabChip,
+    chip: &mut TurnChip,
     said: &mut Vec<Said>,
     at: HeapWord,
     evict: &Option<HeapLine>,
@@ -153,7 +153,7 @@ fn load_word(
 /// Reads a word that does not wait in the buffer.
 fn fetch_word(
     core: &mut Core<Named>,
-    chip: &mut LabChip,
+    chip: &mut TurnChip,
     said: &mut Vec<Said>,
     at: HeapWord,
     evict: &Option<HeapLine>,
@@ -177,7 +177,7 @@ fn fetch_word(
 /// Reads a word.
 pub(crate) fn read_word(
     core: &mut Core<Named>,
-    chip: &mut LabChip,
+    chip: &mut TurnChip,
     said: &mut Vec<Said>,
     at: HeapWord,
     evict: &Option<HeapLine>,
@@ -199,7 +199,7 @@ pub(crate) fn read_word(
 /// Reads the four words of a line, one after the other.
 pub(crate) fn read_line(
     core: &mut Core<Named>,
-    chip: &mut LabChip,
+    chip: &mut TurnChip,
     said: &mut Vec<Said>,
     at: HeapLine,
     evict: &Option<HeapLine>,

@@ -7,7 +7,7 @@ ghost use Rattle.lab_run.specs.Stands.{HasDoneLab};
 
 use crate::bench::Bench;
 use crate::evictor::Named;
-use lab_chip::LabChip;
+use chip_memory::TurnChip;
 use lab_plain::{Said, Stopped};
 use lab_reader::Step;
 use put_get::Core;
@@ -16,7 +16,7 @@ use std::alloc::{AllocError, Global};
 /// What a lab left: its chip, with the list of all events that its cores have made, and its cores.
 #[derive(Drop)]
 pub struct LabLeft {
-    pub chip: LabChip,
+    pub chip: TurnChip,
     pub cores: Vec<Core<Named>>,
 }
 

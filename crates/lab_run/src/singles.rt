@@ -7,7 +7,7 @@ ghost use Rattle.lab_run.specs.Turns.{MayGoOn, CoreTurned, memory_in};
 
 use crate::evictor::Named;
 use crate::moves::{answer, own};
-use lab_chip::LabChip;
+use chip_memory::TurnChip;
 use lab_plain::{Said, Source};
 use lab_reader::HeapWord;
 use put_get::Core;
@@ -17,7 +17,7 @@ use std::alloc::AllocError;
 /// Loads a word by one access.
 pub(crate) fn load(
     core: &Core<Named>,
-    chip: &mut LabChip,
+    chip: &mut TurnChip,
     said: &mut Vec<Said>,
     at: HeapWord,
 ) -> Result<u64, AllocError>
@@ -44,7 +44,7 @@ pub(crate) fn load(
 /// Stores a word by one access.
 pub(crate) fn store(
     core: &Core<Named>,
-    chip: &mut LabChip,
+    chip: &mut TurnChip,
     said: &mut Vec<Said>,
     at: HeapWord,
     value: u64,

@@ -29,8 +29,6 @@ mod listed_ports;
 #[cfg(test)]
 mod locks;
 #[cfg(test)]
-mod lone_ports;
-#[cfg(test)]
 mod messages;
 #[cfg(test)]
 mod names;
@@ -42,6 +40,8 @@ mod private_lines;
 mod stalled_calls;
 #[cfg(test)]
 mod steps;
+#[cfg(test)]
+mod turn_chips;
 #[cfg(test)]
 mod waiting_messages;
 #[cfg(test)]

@@ -1,30 +1,26 @@
 -- Machines that follow the ranks of a chip: what they show of the next event, and what it leaves.
 use Rattle.std.proofs.Common.{◌≡◌, ◌≢◌, ℕ, zero, suc, ◌+◌, ◌<◌, List, [], ◌∷◌, ◌++◌, length, slice_index_or, slice_set, Option, Some, Ok, refl, sym, ◌∙◌, ap, subst, arith}
 use Rattle.std.specs.Prelude.{slice_get, ◌↔◌}
-use Rattle.std.proofs.lemmas.List.{length-set, map-append}
+use Rattle.std.proofs.lemmas.List.{length-set}
 use Rattle.std.proofs.lemmas.Option.{slice_get_read}
 use Rattle.scc_base.specs.Setups.{SetupView, IsSetup}
 use Rattle.scc_base.specs.declared.calls.Call.{Call}
 use Rattle.scc_base.specs.declared.events.Event.{Event}
-use Rattle.scc_proto.specs.Histories.{memory_from, records_from}
+use Rattle.scc_proto.specs.Histories.{records_from}
 use Rattle.scc_proto.specs.Records.{IsPermitted, record_after}
 use Rattle.scc_proto.specs.Stages.{Record, blank}
 use Rattle.scc_proto.specs.Tables.{table_with}
-use Rattle.scc_proto.specs.Words.{Memory, zeros, memory_after, RankEvent}
+use Rattle.scc_proto.specs.Words.{zeros, RankEvent}
+use Rattle.scc_proto.proofs.Messages.ChunkRecords.{memory_from-append}
 use Rattle.scc_proto.proofs.Tests.{put_here, put_there, same_or_other}
 use Rattle.record_machine.specs.Following.{Adds, FinishesCall, FollowsRecord}
 use Rattle.record_machine.specs.Next.{allowed_for}
 use Rattle.record_machine.specs.declared.machines.Machine.{Machine}
 use Rattle.record_machine.specs.declared.next.NextEvent.{NextEvent}
-use Rattle.trace_judge.specs.Followed.{FollowsAt, IsFollowed, bytes_shown, run_made}
+use Rattle.trace_judge.specs.Followed.{FollowsAt, IsFollowed, bytes_shown}
 use Rattle.trace_judge.specs.Judged.{judged_after, judged_by}
-use Rattle.trace_judge.specs.declared.judge.Made.{Made}
 
 -- ---- one event more
-
-pub memory_pushed : (memory : Memory) (run : List RankEvent) (e : RankEvent) → memory_from memory (run ++ e ∷ []) ≡ memory_after (memory_from memory run) e.event
-memory_pushed memory [] e = refl
-memory_pushed memory (x ∷ run) e = memory_pushed (memory_after memory x.event) run e
 
 -- the records with one event more of a rank
 abbrev pub records_after : SetupView → (ℕ → Record) → RankEvent → ℕ → Record
@@ -35,10 +31,7 @@ records_pushed s records [] e = refl
 records_pushed s records (x ∷ run) e = records_pushed s (records_after s records x) run e
 
 pub judged_pushed : (s : SetupView) (run : List RankEvent) (e : RankEvent) → judged_by s (run ++ e ∷ []) ≡ judged_after (judged_by s run) e
-judged_pushed s run e = λ i. record { setup = s; memory = memory_pushed zeros run e i; records = records_pushed s (λ r. blank) run e i }
-
-pub run_pushed : (made : List Made) (m : Made) → run_made (made ++ m ∷ []) ≡ run_made made ++ record { rank = m.rank; event = m.event } ∷ []
-run_pushed made m = map-append (λ (x : Made). record { rank = x.rank; event = x.event }) made (m ∷ [])
+judged_pushed s run e = λ i. record { setup = s; memory = memory_from-append zeros run (e ∷ []) i; records = records_pushed s (λ r. blank) run e i }
 
 -- ---- one item of a list, changed
 
@@ -66,13 +59,13 @@ shown_read (y ∷ xs) (suc i) x below read = shown_read xs i x (omega (arith, be
 
 -- ---- before the first event
 
-pub nothing_made : (s : SetupView) (memory : Memory) (machines : List Machine) → IsSetup s → memory ≡ zeros → length machines ≡ s.nue
-    → ((r : ℕ) → r < s.nue → FollowsAt s r blank (slice_get machines r)) → IsFollowed s memory machines []
-nothing_made s memory machines valid clear count follows = record { valid = valid; words = clear; count = count; follows = follows }
+pub nothing_made : (s : SetupView) (machines : List Machine) → IsSetup s → length machines ≡ s.nue
+    → ((r : ℕ) → r < s.nue → FollowsAt s r blank (slice_get machines r)) → IsFollowed s machines []
+nothing_made s machines valid count follows = record { valid = valid; count = count; follows = follows }
 
 -- ---- the next event
 
-module _ (s : SetupView) (memory : Memory) (machines : List Machine) (run : List RankEvent) (followed : IsFollowed s memory machines run)
+module _ (s : SetupView) (machines : List Machine) (run : List RankEvent) (followed : IsFollowed s machines run)
     (r : ℕ) (below : r < s.nue) (e : Event) (m : Machine) (at : m ≡ slice_index_or machines r m) where
   abbrev own : Record
   own = records_from s (λ k. blank) run r
@@ -125,10 +118,9 @@ module _ (s : SetupView) (memory : Memory) (machines : List Machine) (run : List
         (λ t is. subst (λ (x : ℕ). FollowsAt s x (records_after s (records_from s (λ y. blank) run) made x) (slice_get (slice_set machines r n) x)) is here)
         (λ t other. there k (λ is. other (sym is)) under)
 
-    pub followed_on : (now : Memory) → now ≡ memory_after memory e → IsFollowed s now (slice_set machines r n) (run ++ made ∷ [])
-    followed_on now is = record {
+    pub followed_on : IsFollowed s (slice_set machines r n) (run ++ made ∷ [])
+    followed_on = record {
       valid = followed.valid;
-      words = is ∙ ap (λ (x : Memory). memory_after x e) followed.words ∙ sym (memory_pushed zeros run made);
       count = length-set machines r n ∙ followed.count;
       follows = λ k under. subst (λ (records : ℕ → Record). FollowsAt s k (records k) (slice_get (slice_set machines r n) k)) (sym (records_pushed s (λ x. blank) run made)) (each k under);
     }
@@ -171,8 +163,3 @@ one_more s n machines m count follows own first r below =
     (subst (λ (k : ℕ). FollowsAt s n blank (slice_get (machines ++ m ∷ []) k)) count
     (subst (λ (o : Option Machine). FollowsAt s n blank o) (sym (get_push_last machines m)) (own.0, own.1, first))))
     (λ t other. subst (λ (o : Option Machine). FollowsAt s r blank o) (sym (get_push_front machines m r (omega (arith, below, other, count)))) (follows r (omega (arith, below, other))))
-
-pub made_pushed : (history later : List Made) (h : Made) (r : ℕ) (e : Event) → later ≡ history ++ h ∷ [] → h ≡ record { rank = r; event = e }
-    → run_made later ≡ run_made history ++ record { rank = r; event = e } ∷ []
-made_pushed history later h r e pushed is =
-    ap run_made pushed ∙ run_pushed history h ∙ ap (λ (x : Made). run_made history ++ record { rank = x.rank; event = x.event } ∷ []) is

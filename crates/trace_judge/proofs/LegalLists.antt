@@ -1,40 +1,21 @@
 -- Lists of events that are taken as a whole.
-use Rattle.std.proofs.Common.{◌≡◌, ℕ, ◌+◌, ◌<◌, ◌⊎◌, inl, inr, Bool, true, false, ◌&&◌, ◌||◌, ◌==◌, if◌then◌else◌, List, [], ◌∷◌, Option, Some, None, Result, Ok, refl, arith}
+use Rattle.std.proofs.Common.{◌≡◌, ℕ, ◌+◌, ◌<◌, Bool, true, false, if◌then◌else◌, List, [], ◌∷◌, Option, Some, None, Result, Ok, refl}
 use Rattle.std.specs.Prelude.{IsOk}
-use Rattle.std.proofs.lemmas.Bool.Decides.{nat_tests}
 use Rattle.std.proofs.lemmas.List.Elements.{All-head, All-tail}
 use Rattle.record_machine.specs.Next.{allowed_for}
 use Rattle.record_machine.specs.declared.next.NextEvent.{NextEvent}
 use Rattle.scc_base.specs.Events.{IsEvent}
-use Rattle.scc_base.specs.Places.{WordAt}
 use Rattle.scc_base.specs.Setups.{SetupView}
-use Rattle.scc_base.specs.declared.events.Access.{Access}
-use Rattle.scc_base.specs.declared.events.Access.TheVariants.{Load, Store, Take, Free}
 use Rattle.scc_proto.specs.Histories.{IsPermittedRun, memory_from, records_from}
 use Rattle.scc_proto.specs.Records.{is_permitted, IsPermitted}
 use Rattle.scc_proto.specs.Stages.{Record}
-use Rattle.scc_proto.specs.Words.{Memory, IsStepBy, IsStep, IsRun, RankEvent}
+use Rattle.scc_proto.specs.Words.{Memory, IsStep, IsRun, RankEvent}
 use Rattle.trace_judge.specs.Judged.{Judged, judged_after}
-use Rattle.trace_judge.specs.Rulings.{AreRankEvents, RefusedAt, stands_by, stands_at, is_step_by, is_step, refusal_of, ruling_from, unless_refused}
+use Rattle.chip_memory.specs.Steps.{stands_at, is_step}
+use Rattle.chip_memory.proofs.StepLaws.{step_told, step_tested}
+use Rattle.trace_judge.specs.Rulings.{AreRankEvents, RefusedAt, refusal_of, ruling_from, unless_refused}
 use Rattle.trace_judge.specs.declared.judge.Refusal.{Refusal}
 use Rattle.trace_judge.specs.declared.judge.Refusal.TheVariants.{OtherValue, NotPermitted}
-
--- the test tells what a step is
-step_told : (a : Access) (place : WordAt) (value : ℕ) (memory : Memory) → is_step_by a value (stands_by a place memory) ≡ true → IsStepBy a place value memory
-step_told Load place value memory test = grind (arith, nat_tests)
-step_told Store place value memory test = tt
-step_told Take place value memory test = took value (memory.register place.core) test
-  where
-    took : (v found : ℕ) → ((v == 1 && found == 0) || (v == 0 && found == 1)) ≡ true → ((v ≡ 1) × (found ≡ 0)) ⊎ ((v ≡ 0) × (found ≡ 1))
-    took v found t = grind (arith, nat_tests)
-step_told Free place value memory test = tt
-
-step_tested : (a : Access) (place : WordAt) (value : ℕ) (memory : Memory) → IsStepBy a place value memory → is_step_by a value (stands_by a place memory) ≡ true
-step_tested Load place value memory step = grind (arith, nat_tests)
-step_tested Store place value memory step = refl
-step_tested Take place value memory (inl found) = let one = found.0 in let free = found.1 in grind (arith, nat_tests)
-step_tested Take place value memory (inr found) = let none = found.0 in let held = found.1 in grind (arith, nat_tests)
-step_tested Free place value memory step = refl
 
 abbrev IsTaken : Judged → RankEvent → Type 0
 IsTaken j e = IsStep j.memory e.event × IsPermitted j.setup e.rank (j.records e.rank) e.event

@@ -1,4 +1,3 @@
 pub mod FollowFacts
 pub mod LegalLists
-pub mod MemoryFacts
 pub mod RefusalFacts

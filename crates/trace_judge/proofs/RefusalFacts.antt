@@ -8,7 +8,8 @@ use Rattle.scc_proto.specs.Records.{is_permitted, IsPermitted}
 use Rattle.scc_proto.specs.Stages.{blank}
 use Rattle.scc_proto.specs.Words.{Memory, zeros, RankEvent}
 use Rattle.trace_judge.specs.Judged.{judged_by}
-use Rattle.trace_judge.specs.Rulings.{stands_at, is_step, refusal_of}
+use Rattle.chip_memory.specs.Steps.{is_step, stands_at}
+use Rattle.trace_judge.specs.Rulings.{refusal_of}
 use Rattle.trace_judge.specs.declared.judge.Refusal.{Refusal}
 use Rattle.trace_judge.specs.declared.judge.Refusal.TheVariants.{OtherValue, NotPermitted}
 
@@ -19,25 +20,25 @@ not_true : (b : Bool) → (b ≡ true → ⊥) → b ≡ false
 not_true true never = absurd (never refl)
 not_true false never = refl
 
-module _ (s : SetupView) (memory : Memory) (run : List RankEvent) (e : RankEvent) (words : memory ≡ memory_from zeros run) where
+module _ (s : SetupView) (run : List RankEvent) (e : RankEvent) where
+  abbrev memory : Memory
+  memory = memory_from zeros run
+
   abbrev permitted : Bool
   permitted = is_permitted s e.rank (records_from s (λ k. blank) run e.rank) e.event
 
   abbrev allowed : NextEvent
   allowed = allowed_for s (records_from s (λ k. blank) run e.rank) e.event
 
-  same_words : choose (is_step memory e.event) permitted allowed (stands_at memory e.event) ≡ refusal_of (judged_by s run) e
-  same_words = ap (λ (m : Memory). choose (is_step m e.event) permitted allowed (stands_at m e.event)) words
-
   pub refused_value : (step : Bool) (found : ℕ) → step ≡ is_step memory e.event → step ≡ false → found ≡ stands_at memory e.event → Some (OtherValue found) ≡ refusal_of (judged_by s run) e
   refused_value step found told is value =
-      ap (λ (n : ℕ). Some (OtherValue n)) value ∙ sym (ap (λ (b : Bool). choose b permitted allowed (stands_at memory e.event)) (sym told ∙ is)) ∙ same_words
+      ap (λ (n : ℕ). Some (OtherValue n)) value ∙ sym (ap (λ (b : Bool). choose b permitted allowed (stands_at memory e.event)) (sym told ∙ is))
 
   pub refused_none : (step : Bool) → step ≡ is_step memory e.event → step ≡ true → IsPermitted s e.rank (records_from s (λ k. blank) run e.rank) e.event → None ≡ refusal_of (judged_by s run) e
   refused_none step told is may =
-      sym (ap (λ (b : Bool). choose b permitted allowed (stands_at memory e.event)) (sym told ∙ is) ∙ ap (λ (b : Bool). choose true b allowed (stands_at memory e.event)) may) ∙ same_words
+      sym (ap (λ (b : Bool). choose b permitted allowed (stands_at memory e.event)) (sym told ∙ is) ∙ ap (λ (b : Bool). choose true b allowed (stands_at memory e.event)) may)
 
   pub refused_permit : (step : Bool) → step ≡ is_step memory e.event → step ≡ true → (IsPermitted s e.rank (records_from s (λ k. blank) run e.rank) e.event → ⊥)
       → (why : Refusal) → why ≡ NotPermitted allowed → Some why ≡ refusal_of (judged_by s run) e
   refused_permit step told is never why same =
-      ap (λ (w : Refusal). Some w) same ∙ sym (ap (λ (b : Bool). choose b permitted allowed (stands_at memory e.event)) (sym told ∙ is) ∙ ap (λ (b : Bool). choose true b allowed (stands_at memory e.event)) (not_true permitted never)) ∙ same_words
+      ap (λ (w : Refusal). Some w) same ∙ sym (ap (λ (b : Bool). choose b permitted allowed (stands_at memory e.event)) (sym told ∙ is) ∙ ap (λ (b : Bool). choose true b allowed (stands_at memory e.event)) (not_true permitted never))

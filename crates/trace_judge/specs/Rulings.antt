@@ -1,48 +1,18 @@
 -- What a judge says of an event, and of a list of events (this project's profile).
-use Rattle.std.specs.Prelude.{ℕ, ◌+◌, ◌<◌, ◌==◌, ◌&&◌, ◌||◌, Bool, true, if◌then◌else◌, List, [], ◌∷◌, Option, Some, None, Result, Ok, Err, All}
+use Rattle.std.specs.Prelude.{ℕ, ◌+◌, ◌<◌, if◌then◌else◌, List, [], ◌∷◌, Option, Some, None, Result, Ok, Err, All}
 use Rattle.scc_base.specs.Events.{IsEvent}
-use Rattle.scc_base.specs.Places.{WordAt}
 use Rattle.scc_base.specs.Setups.{SetupView}
-use Rattle.scc_base.specs.declared.events.Access.{Access}
-use Rattle.scc_base.specs.declared.events.Access.TheVariants.{Load, Store, Take, Free}
 use Rattle.scc_base.specs.declared.calls.Call.{Call}
 use Rattle.scc_base.specs.declared.events.Event.{Event}
 use Rattle.scc_proto.specs.Records.{is_permitted}
 use Rattle.record_machine.specs.Next.{allowed_for}
 use Rattle.scc_proto.specs.Stages.{Record}
-use Rattle.scc_proto.specs.Tables.{table_with}
-use Rattle.scc_proto.specs.Words.{Memory, word_at, RankEvent}
+use Rattle.scc_proto.specs.Words.{RankEvent}
+use Rattle.chip_memory.specs.Steps.{is_step, stands_at}
 use Rattle.trace_judge.specs.declared.judge.Refusal.{Refusal}
 use Rattle.trace_judge.specs.declared.judge.Refusal.TheVariants.{OtherValue, NotPermitted}
 use Rattle.record_machine.specs.Following.{Adds}
 use Rattle.trace_judge.specs.Judged.{Judged, JudgeView, bytes_at, chip_of, judged_after}
-
--- what stands where an access is: the word at its place, or the register of its core
-abbrev pub stands_by : Access → WordAt → Memory → ℕ
-stands_by Load place memory = word_at memory place
-stands_by Store place memory = word_at memory place
-stands_by Take place memory = memory.register place.core
-stands_by Free place memory = memory.register place.core
-
--- what stands where an event is
-abbrev pub stands_at : Memory → Event → ℕ
-stands_at memory e = stands_by e.access e.place memory
-
--- the memory with another value in a core's register
-abbrev pub register_changed : Memory → ℕ → ℕ → Memory
-register_changed memory core value = record memory { register = table_with memory.register core value }
-
--- an access with `value` is a step where `found` stands: a load tells what it found, a take has 1 where it found 0, and 0
--- where it found 1, and a store and a free always are
-abbrev pub is_step_by : Access → (value found : ℕ) → Bool
-is_step_by Load value found = found == value
-is_step_by Store value found = true
-is_step_by Take value found = (value == 1 && found == 0) || (value == 0 && found == 1)
-is_step_by Free value found = true
-
--- the event is a step of the memory, as a test
-abbrev pub is_step : Memory → Event → Bool
-is_step memory e = is_step_by e.access e.value (stands_at memory e)
 
 -- why an event is refused that is a step: the record of its rank does not permit it, and allows something else
 abbrev pub permit_refusal : SetupView → ℕ → Record → Event → Option Refusal

@@ -6,10 +6,9 @@ ghost use Rattle.record_machine.specs.Next.{allowed_for};
 ghost use Rattle.scc_proto.specs.Stages.{Record, blank};
 ghost use Rattle.trace_judge.specs.Followed.{FollowsAt};
 
-use crate::memory::ChipWords;
+use chip_memory::ChipWords;
 use record_machine::{Machine, NextEvent};
 use scc_base::{Call, Event, Rank, Setup};
-use scc_proto::History;
 use std::alloc::{AllocError, Global};
 use std::marker::Model;
 
@@ -22,33 +21,13 @@ pub enum Refusal {
     NotPermitted { next: NextEvent },
 }
 
-/// An event that was taken, and the rank that made it.
-#[derive(Drop)]
-struct Made {
-    rank: Rank,
-    event: Event,
-}
-
 /// The whole memory of a chip and the record of each of its ranks, which take the ranks' events one after the other. Memory is
-/// taken in `new` alone. The list of the events that were taken stands in proofs alone.
+/// taken in `new` alone.
 #[derive(Drop)]
 pub struct Judge {
     setup: Setup,
     words: ChipWords,
     machines: Vec<Machine>,
-    history: History<Made>,
-}
-
-// The event of a rank, as the list of events has it.
-fn held(rank: Rank, event: &Event) -> Made
-    ensures gives { result ≡ record { rank = rank; event = event.now } }
-{
-    let event = Event {
-        access: event.access,
-        place: event.place,
-        value: event.value,
-    };
-    Made { rank, event }
 }
 
 // Why an event is refused that the machine of its rank does not permit.
@@ -62,14 +41,14 @@ fn not_permitted(machine: &Machine, event: &Event) -> Refusal
 }
 
 impl Model for Judge {
-    ghost use Rattle.trace_judge.specs.Followed.{IsFollowed, bytes_shown, chip_memory, run_made};
+    ghost use Rattle.trace_judge.specs.Followed.{IsFollowed, bytes_shown};
     ghost use Rattle.trace_judge.specs.Judged.{JudgeView};
 
     ghost Value = { JudgeView };
 
-    ghost view = { λ j. record { setup = j.setup; run = run_made j.history.items; bytes = bytes_shown j.machines.items } };
+    ghost view = { λ j. record { setup = j.setup; run = j.words; bytes = bytes_shown j.machines.items } };
 
-    ghost invariant = { λ j. IsFollowed j.setup (chip_memory j.words) j.machines.items (run_made j.history.items) };
+    ghost invariant = { λ j. IsFollowed j.setup j.machines.items j.words };
 }
 
 // A machine for each rank.
@@ -103,7 +82,6 @@ impl Judge {
             setup,
             words,
             machines,
-            history: History::new(),
         })
     }
 
@@ -133,15 +111,14 @@ impl Judge {
         ensures unchanged { OnErr result (self.new ≡ self.old) }
     {
         if !self.words.is_step(event) {
-            let found = self.words.stands_at(event);
+            let found = self.words.stands_at(event.access, event.place);
             return Err(Refusal::OtherValue { found });
         }
         let machine = &mut self.machines[rank.number() as usize];
         let taken = machine.take(event);
         match taken {
             Ok(call) => {
-                self.words.make(event);
-                self.history = self.history.and(&held(rank, event));
+                self.words.make(rank, event);
                 Ok(call)
             }
             Err(_) => Err(not_permitted(machine, event)),

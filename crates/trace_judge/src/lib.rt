@@ -3,7 +3,6 @@
 
 mod judge;
 mod laws;
-mod memory;
 
 pub use judge::{Judge, Refusal};
 pub use laws::{event_law, legal_law, messages_law, ruling_law};

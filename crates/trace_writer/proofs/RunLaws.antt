@@ -4,32 +4,22 @@ use Rattle.std.proofs.lemmas.List.{map-append}
 use Rattle.rcce_io.specs.Sending.{joined_texts}
 use Rattle.scc_base.specs.Events.{IsEvent}
 use Rattle.scc_base.specs.Setups.{SetupView}
-use Rattle.scc_proto.specs.Histories.{IsPermittedRun, memory_from, records_from}
-use Rattle.scc_proto.specs.Records.{IsPermitted, record_after}
-use Rattle.scc_proto.specs.Stages.{Record, blank}
-use Rattle.scc_proto.specs.Tables.{table_with}
-use Rattle.scc_proto.specs.Words.{IsRun, IsStep, Memory, RankEvent, memory_after, zeros}
+use Rattle.scc_proto.specs.Records.{IsPermitted}
+use Rattle.scc_proto.specs.Stages.{blank}
+use Rattle.scc_proto.specs.Words.{IsStep, RankEvent, zeros}
+use Rattle.scc_proto.proofs.Messages.ChunkRecords.{run-append}
+use Rattle.chip_memory.proofs.ListLaws.{permitted_more}
 use Rattle.trace_judge.specs.Judged.{judged_by}
 use Rattle.trace_writer.specs.Desks.{IsLegalRun}
 use Rattle.trace_writer.specs.Lines.{event_line, first_lines, trace_text}
 
 -- ---- runs
 
-steps_more : (memory : Memory) (run : List RankEvent) (e : RankEvent) → IsRun memory run → IsStep (memory_from memory run) e.event → IsRun memory (run ++ e ∷ [])
-steps_more memory [] e none step = (step, tt)
-steps_more memory (x ∷ run) e (first, rest) step = (first, steps_more (memory_after memory x.event) run e rest step)
-
-permitted_more : (s : SetupView) (records : ℕ → Record) (run : List RankEvent) (e : RankEvent) → IsPermittedRun s records run → e.rank < s.nue → IsEvent e.event
-    → IsPermitted s e.rank (records_from s records run e.rank) e.event → IsPermittedRun s records (run ++ e ∷ [])
-permitted_more s records [] e none below event may = (below, event, may, tt)
-permitted_more s records (x ∷ run) e (low, made, first, rest) below event may =
-    (low, made, first, permitted_more s (table_with records x.rank (record_after s x.rank (records x.rank) x.event)) run e rest below event may)
-
 -- a legal run with one event more, which is a step and permitted
 pub legal_more : (s : SetupView) (run : List RankEvent) (e : RankEvent) → IsLegalRun s run → e.rank < s.nue → IsEvent e.event
     → IsStep (judged_by s run).memory e.event × IsPermitted s e.rank ((judged_by s run).records e.rank) e.event → IsLegalRun s (run ++ e ∷ [])
 legal_more s run e legal below event (step, may) = record {
-  steps = steps_more zeros run e legal.steps step;
+  steps = run-append zeros run (e ∷ []) legal.steps (step, tt);
   permitted = permitted_more s (λ r. blank) run e legal.permitted below event may;
 }
 

@@ -1,6 +1,6 @@
 use Rattle.std.proofs.Common.{rules, [], ◌∷◌, ◌≡◌, ◌<◌, ◌∙◌, ap, ℕ, true, List, Option, None, map, slice_set, subst, sym}
 use Rattle.scc_base.specs.Events.{free_of}
-use Rattle.lab_chip.specs.Chips.{of_rank}
+use Rattle.chip_memory.specs.Chips.{of_rank}
 use Rattle.lab_plain.specs.declared.said.Said.TheVariants.{Frees}
 use Rattle.lab_plain.specs.Meaning.{holder_of, is_holder}
 use Rattle.lab_run.specs.Stands.{IsBench, holds_of, stand_of}

@@ -1,5 +1,5 @@
 use Rattle.std.proofs.Common.{◌∙◌, ℕ, List, Option, None, ap, refl, replicate, sym}
-use Rattle.lab_chip.specs.Chips.{all_events, new_chip}
+use Rattle.chip_memory.specs.Chips.{all_events, new_chip}
 use Rattle.lab_run.specs.Accesses.{accesses_of}
 use Rattle.lab_run.specs.Stands.{stand_of}
 use Rattle.lab_run.proofs.StartLaws.{new_bench, new_stand}

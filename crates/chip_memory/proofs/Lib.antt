@@ -1,0 +1,4 @@
+pub mod ChipLaws
+pub mod ListLaws
+pub mod StepLaws
+pub mod WordLaws

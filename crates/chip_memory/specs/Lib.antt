@@ -1,0 +1,2 @@
+pub mod Chips
+pub mod Steps
