@@ -6,7 +6,7 @@ use Rattle.scc_proto.specs.Permission.{leaves_heap}
 use Rattle.scc_proto.specs.Words.{IsRun, RankEvent, word_at, zeros}
 use Rattle.scc_proto.specs.Ports.{Did, MayMake, record_in}
 use Rattle.put_get.specs.Cores.{Private}
-use Rattle.chip_memory.proofs.ChipLaws.{run_left}
+use Rattle.chip_memory.proofs.ListLaws.{run_left}
 use Rattle.chip_memory.specs.Chips.{TurnChipView, all_events, of_rank_all, turn_sight}
 use Rattle.lab_reader.specs.Places.{IsInHeap}
 use Rattle.lab_plain.specs.declared.said.Said.{Said}
