@@ -268,7 +268,7 @@ def bad_step(it: Lines) -> Found | None:
     verb, rest = words[2], words[3:]
     if verb.text not in forms:
         return Found(f"{verb.text} is no step{alike(verb.text, list(forms))}", verb, "core C " + "|".join(forms))
-    more = {"read": " [evict LINE] [expect HEX|HEX4]", "get": " [expect HEX4]", "take": " [expect took|taken]"}.get(verb.text, "")
+    more = {"read": " [evict LINE] [expect HEX|HEX4]", "get": " [expect HEX4]", "load": " [expect HEX]", "take": " [expect took|taken]"}.get(verb.text, "")
     told = " | ".join(forms[verb.text]) + more
     by_word = bool(rest) and "." in rest[0].text
     form = [it for it in forms[verb.text] if ("WORD" in it) == by_word] or forms[verb.text]
@@ -282,7 +282,7 @@ def _options(verb: str, texts: list[str], by_word: bool) -> list[Test]:
     tests: list[Test] = []
     if verb == "read" and texts[:1] == ["evict"]:
         tests, texts = [one_of("evict"), LAB_TESTS["LINE"]], texts[2:]
-    if texts and verb in ("read", "get", "take"):
+    if texts and verb in ("read", "get", "load", "take"):
         value: list[Test] = [one_of("took", "taken")] if verb == "take" else [_hex_value] * (1 if by_word else 4)
         return [*tests, one_of("evict", "expect") if verb == "read" and not tests else one_of("expect"), *value]
     return tests

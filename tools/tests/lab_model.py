@@ -3,10 +3,16 @@
 It has no part in a program, and nothing is proved of it. It does word by word what the page says, so that the page and the program are compared."""
 from __future__ import annotations
 
+import os
+import pathlib
 import random
+import subprocess
+import tempfile
 
 WORDS, CACHE_LINES, FIRST_HEAP = range(4), 512, 225
 CORES, LINES = 3, 3
+# how many labs are compared, and of how many steps
+LABS, STEPS = 20, 300
 VERBS = ("write", "write", "read", "read", "flush", "invalidate", "put", "get", "load", "load", "store", "store", "take", "free", "print")
 Line = tuple[int, int]
 
@@ -162,3 +168,19 @@ def drawn_lab(seed: int, steps: int) -> tuple[str, str]:
         lab.append(f"core {core} {verb}{words}\n")
         model.out[begins] = f"line {len(lab)}: {lab[-1][:-1]}"
     return "".join(lab), "".join(f"{line}\n" for line in model.out)
+
+
+def check_labs(write: bool) -> tuple[int, list[str]]:
+    """Labs that are drawn: what rccelab prints of each is what the model says."""
+    wrong = []
+    with tempfile.TemporaryDirectory() as folder:
+        file = pathlib.Path(folder, "drawn.lab")
+        for seed in range(LABS):
+            lab, told = drawn_lab(seed, STEPS)
+            file.write_text(lab, encoding="ascii")
+            ran = subprocess.run([f"{os.environ['RCCE_PROGRAMS']}/rccelab", str(file)], stdout=subprocess.PIPE, stderr=subprocess.PIPE, check=False)
+            if (ran.returncode, ran.stdout.decode(), ran.stderr) != (0, told, b""):
+                lines = zip(ran.stdout.decode().splitlines(), told.splitlines())
+                first = next((f"{one}, and the model says {other}" for one, other in lines if one != other), ran.stderr.decode() or "another length")
+                wrong.append(f"rccelab, drawn lab {seed}: {first}")
+    return LABS, wrong
