@@ -3,11 +3,13 @@
 // as it takes effect.
 #pragma once
 #include <array>
+#include <chrono>
 #include <condition_variable>
 #include <cstdint>
 #include <map>
 #include <mutex>
 #include <random>
+#include <thread>
 #include <utility>
 #include <vector>
 
@@ -76,10 +78,11 @@ public:
         if (has_changed) waits.assign(waits.size(), false);
         is_used = true;
     }
-    // A rank has polled in vain, by its last access.
+    // A rank's poll, its last access, has failed. In threads it leaves its processor for a while.
     void fail(int rank) {
+        if (in_threads) return std::this_thread::sleep_for(std::chrono::microseconds(50));
         std::unique_lock lock(mutex);
-        waits[rank] = !in_threads;
+        waits[rank] = true;
     }
     void end(int rank) {
         std::unique_lock lock(mutex);

@@ -18,7 +18,7 @@ PORTS = pathlib.Path(__file__).resolve().parents[2] / "bench/ports"
 # the calls of a rank of the program that the logs are of: two rounds of a send, a receive and two barriers
 WHOLE = 8
 # runs without a fault, by the words of the emulator
-RUNS = ("--seed 2", "--seed 3 --bits", "--threads", "--threads --bits", "--seed 4 --bytes 3600 --ranks 2", "--seed 5 --bytes 6700 --bits --rounds 1",
+RUNS = ("--seed 2", "--seed 3 --bits", "--threads --rounds 1", "--threads --bits --rounds 1", "--seed 4 --bytes 3600 --ranks 2", "--seed 5 --bytes 6700 --bits --rounds 1",
         "--seed 6 --bytes 0 --ranks 5", "--seed 7 --bytes 3584 --by-core")
 
 
@@ -120,4 +120,4 @@ def build(folder: str) -> str | None:
 
 def run(emulator: str, *words: str) -> str:
     """What the emulator writes."""
-    return subprocess.run([emulator, *words], stdout=subprocess.PIPE, stderr=subprocess.DEVNULL, text=True, timeout=60).stdout
+    return subprocess.run([emulator, *words], stdout=subprocess.PIPE, stderr=subprocess.DEVNULL, text=True, timeout=300).stdout
