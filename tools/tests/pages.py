@@ -191,7 +191,7 @@ def _over_node(node: str, path: str, name: str, text: str) -> list[str]:
     # a lane for who acts in the steps that are shown alone, and as many steps as there is room for
     for lanes, steps in ((found["lanes"], 43), (found["narrow"], 10)):
         acting, ever = ({it["who"] for it in page["steps"][first:]} for first in (max(0, count - steps), 0))
-        drawn = lanes.count("stroke-dasharray")
+        drawn = lanes.count("lane-line")
         wrong += [] if len(acting) <= drawn <= len(ever) and lanes.count("middle") == min(count, steps) else [f"{drawn} lanes, {lanes.count('middle')} steps"]
     wrong += [] if 'width="312"' in found["narrow"] else ["the lanes are wider than a narrow window"]
     wrong += [] if found["scrolled"] and all(it > 0 for it in found["scrolled"]) else ["a word out of sight is not brought into it"]
