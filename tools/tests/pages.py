@@ -73,10 +73,9 @@ def _replayed(path: str) -> list[str]:
     """Where the words of the last step of a lab are not those that its output tells."""
     text = pathlib.Path(path).read_text(encoding="ascii")
     shown: dict[str, list[str]] = {}
-    for step in of_lab(Lab(path, text.encode()))["steps"]:
-        for place, value in step["words"]:
-            line, _, word = place.rpartition(".")
-            shown.setdefault(line, ["0"] * 4)[int(word)] = value
+    for line in (line for step in of_lab(Lab(path, text.encode()))["steps"] for line in step.get("said", [])):
+        if stored := re.fullmatch(r"s(\d+)\.(\d+)\.(\d) (\w+)", line):
+            shown.setdefault(f"{stored[1]}:{int(stored[2]) - 225}", ["0"] * 4)[int(stored[3])] = stored[4]
     words, _ = last_state(text)
     # its accesses are a trace
     accesses = "".join(f"{line}\n" for line in text.split("\n") if re.match(r"\d+ (load|store|take|free) ", line))
@@ -86,15 +85,24 @@ def _replayed(path: str) -> list[str]:
 
 
 def _too_long(called: Any, folder: str) -> list[str]:
-    """A trace of one event more than a page shows is refused in one line."""
-    text = "rcce trace 1 nue 1 layout words hosts 0\n" + f"0 load 0.225.0 {0:016x}\n" * (MOST_STEPS + 1)
+    """A trace of one step more than a page shows is refused in one line, which tells a way to a page; equal polls are one step."""
+    head = "rcce trace 1 nue 1 layout words hosts 0\n"
+    text = head + "".join(f"0 load 0.225.{at % 2} {0:016x}\n0 store 0.226.0 {0:016x}\n" for at in range(MOST_STEPS // 2)) + f"0 load 0.225.0 {0:016x}\n"
     pathlib.Path(folder, "long.trace").write_text(text, encoding="ascii")
     ran = called(["page", "long.trace"], folder)
-    told = b"long.trace:1: TooLong: at most 20,000 steps, and here are 20,001; a page of the first ones: head -n 20000 long.trace | page -\n"
+    told = b"long.trace:1: TooLong: at most 20,000 steps, and here are 20,001; a page of a part: page --from 2 --to 19502 long.trace\n"
     wrong = [] if (ran.returncode, ran.stdout, ran.stderr) == (2, b"", told) else [f"a long trace: {ran.returncode} {ran.stderr!r:.300}"]
     # and the way that it tells is one
-    ran = called(["page", "-"], folder, "".join(text.splitlines(True)[:MOST_STEPS]).encode())
-    return wrong + ([] if (ran.returncode, ran.stderr) == (0, b"") else [f"the first steps of a long trace: {ran.returncode} {ran.stderr!r:.300}"])
+    ran = called(["page", "--from", "2", "--to", "19502", "long.trace"], folder)
+    wrong += [] if ran.returncode == 0 and len(_data_of(ran.stdout)["steps"]) == 19_501 else [f"a part of a long trace: {ran.returncode} {ran.stderr!r:.300}"]
+    ran = called(["page", "--from", "30000", "long.trace"], folder)
+    wrong += [] if (ran.returncode, ran.stderr[:24]) == (2, b"long.trace:1: NoSteps: n") else [f"a part without a step: {ran.returncode} {ran.stderr!r:.300}"]
+    polls = head + f"0 store 0.225.0 {7:016x} # f\u00fcr M\u00fcller \u2014 \u8ab2\u984c\n" + f"0 load 0.225.0 {7:016x}\n" * (MOST_STEPS + 1) + f"0 store 0.225.0 {8:016x}\n"
+    page = _data_of(called(["page", "-"], folder, polls.encode()).stdout)
+    wrong += [] if [it["letter"] for it in page["steps"]] == ["s", "p", "s"] else [f"equal polls: {len(page['steps'])} steps"]
+    wrong += [] if page["script"] and page["script"][0][1].endswith("# f\u00fcr M\u00fcller \u2014 \u8ab2\u984c") else ["a comment of a trace in another language"]
+    page = _data_of(called(["page", "--from", "3", "-"], folder, polls.encode()).stdout)
+    return wrong + ([] if page.get("start", {}).get("words") == [["0.225.0", "7"]] else ["a part does not begin with the words that are there"])
 
 
 def _data_of(page: bytes) -> Any:
@@ -143,9 +151,9 @@ def _ways(count: int) -> list[list[Any]]:
 
     two = min(2, count)
     ways = [key("ArrowRight", 1), key("ArrowRight", two), key("ArrowLeft", two - 1), key("End", count), key("ArrowRight", count), key("Home", 0), key("ArrowLeft", 0)]
-    # in a part that scrolls the keys are not the page's
-    ways += [["ArrowRight", 0, "#0", False], ["#2.5", two, f"#{two}", True], ["#last", count, f"#{count}", True], key("#no", 0), key("#-3", 0), key("#1", 1)]
-    return ways + [button("to-last", count), button("back", count - 1), button("to-first", 0), button("forward", 1), ["slider", two, f"step {two} of {count}", True]]
+    # in a part that scrolls, in a field and at a button keys are not the page's
+    ways += [["ArrowRight", 0, "#0", False], ["End", 0, "#0", False], [" ", 0, "#0", False], ["#2.5", two, f"#{two}", True], ["#last", count, f"#{count}", True], key("#no", 0), key("#-3", 0), key("#1", 1)]
+    return ways + [button("to-last", count), button("back", count - 1), button("to-first", 0), button("forward", 1), ["slider", two, "", True]]
 
 
 def _tables(page: Any) -> Iterator[dict[str, list[str]]]:
@@ -165,13 +173,15 @@ def _over_node(node: str, path: str, name: str, text: str) -> list[str]:
     found = json.loads(ran.stdout)
     count = found["count"]
     wrong = [] if found["opens"] == 0 else ["it does not open at its first step"]
-    wrong += [f"{made} is to be {wanted}" for made, wanted in zip(found["went"], _ways(count)) if made != wanted]
+    ways = _ways(count)
+    ways[-1][2] = found["said"][min(2, count)]
+    wrong += [f"{made} is to be {wanted}" for made, wanted in zip(found["went"], ways) if made != wanted] + _moves_over_node(found)
     wrong += [] if found["same"] else ["backward it shows another state than forward"]
     said = found["said"]
     wrong += [] if len(said) == count + 1 and all(it.startswith(f"Step {at} of {count}, line ") for at, it in enumerate(said) if at) else [f"it says {said!r:.300}"]
     words, held = last_state(text) if name.endswith(".out") else _words_of(text)
     held = ["core 0 holds nothing", "core 1 cached 0:0 0old 0 0 0"] if name.startswith("stopped") else held
-    page, last = _data_of(pathlib.Path(path).read_bytes()), {line: [cell.split()[0] for cell in cells] for line, cells in found["tables"][-1].items()}
+    page, last = found["data"], {line: [cell.split()[0] for cell in cells] for line, cells in found["tables"][-1].items()}
     wrong += [f"line {line} shows {last.get(line)}, not {values}" for line, values in words.items() if last.get(line) != values]
     wrong += [] if found["held"] == held else [f"the cores hold {found['held']}, not {held}"]
     wrong += [] if found["tables"] == list(_tables(page)) else ["the words of a step are not those that its steps stored, with what it stores and loads"]
@@ -181,7 +191,7 @@ def _over_node(node: str, path: str, name: str, text: str) -> list[str]:
     # a lane for who acts in the steps that are shown alone, and as many steps as there is room for
     for lanes, steps in ((found["lanes"], 43), (found["narrow"], 10)):
         acting, ever = ({it["who"] for it in page["steps"][first:]} for first in (max(0, count - steps), 0))
-        drawn = lanes.count("stroke-dasharray")
+        drawn = lanes.count("lane-line")
         wrong += [] if len(acting) <= drawn <= len(ever) and lanes.count("middle") == min(count, steps) else [f"{drawn} lanes, {lanes.count('middle')} steps"]
     wrong += [] if 'width="312"' in found["narrow"] else ["the lanes are wider than a narrow window"]
     wrong += [] if found["scrolled"] and all(it > 0 for it in found["scrolled"]) else ["a word out of sight is not brought into it"]
@@ -189,6 +199,22 @@ def _over_node(node: str, path: str, name: str, text: str) -> list[str]:
     registers = [data["kind"] == "lab" or bool(step["registers"]) for data in [page] for step in page["steps"]]
     wrong += [] if found["acting"] == [[it, True] for it in registers] else ["the core that acts, its tile or the register is not brought into sight"]
     return wrong
+
+
+def _moves_over_node(found: Any) -> list[str]:
+    """What is wrong with how a page plays, seeks and searches, and with what it says while it plays."""
+    count, steps = found["count"], found["data"]["steps"]
+    played = [[at, "Pause" if at < count else "Play"] for at in range(count + 1)] + [[0, "Pause"], [0, "Play"]]
+    wrong = [] if found["played"] == played else [f"it plays {found['played']!r:.200}"]
+    wrong += [] if found["live"] == ["off", "polite", "off", "same"] else [f"a state is not said once: {found['live']}"]
+    for at, went in enumerate(found["sought"]):
+        stores = [step for step, it in enumerate(steps, 1) if it["words"]]
+        own = [step for step, it in enumerate(steps, 1) if at and it["who"] == steps[at - 1]["who"]]
+        wanted = [side for those in (stores, own) for side in ([step for step in those if step < at][-1:], [step for step in those if step > at][:1])]
+        wrong += [] if went == [[*(it or [at]), str(not it).lower()] for it in wanted] else [f"from step {at} it seeks to {went}"]
+    clicked = [[step, f"#{step}", "#0"] for step in range(1, min(count, 200) + 1)]
+    wrong += [] if found["clicked"] == clicked else [f"clicks lead to {found['clicked']!r:.200}"]
+    return wrong + ([] if found["searched"] == [[count, "in 1 step"], [count, "in no steps"]] else [f"a search leads to {found['searched']}"])
 
 
 def _alone(text: str) -> list[str]:
@@ -250,10 +276,10 @@ def _reader_faults(browser: Browser, count: int) -> list[str]:
     """What a screen reader would miss: the slider with the step in words, the regions by name, the tables by caption; and the picture."""
     nodes = browser.ask("Accessibility.getFullAXTree")["nodes"]
     told = [(it.get("role", {}).get("value"), it.get("name", {}).get("value", "")) for it in nodes if not it.get("ignored")]
-    wanted = [("slider", "step"), ("button", "Forward"), ("button", "Back"), ("region", "What the cores hold"), ("region", "The words of the buffers in use"),
+    wanted = [("slider", "Step"), ("button", "Forward"), ("button", "Back"), ("region", "What the cores hold"), ("region", "The words of the buffers in use, as hex digits"),
               ("heading", "The lines"), ("heading", "The lanes"), ("heading", "The mesh")]
     wrong = [f"a screen reader finds no {role} {name}" for role, name in wanted if (role, name) not in told]
-    wrong += [] if browser.run("find('slider').getAttribute('aria-valuetext')") == f"step {count} of {count}" else ["the slider does not say the step"]
+    wrong += [] if browser.run("find('slider').getAttribute('aria-valuetext')") .startswith(f"Step {count} of {count}, ") else ["the slider does not say the step"]
     shot = browser.ask("Page.captureScreenshot", format="png")["data"]
     width, height = struct.unpack(">II", base64.b64decode(shot[:64])[16:24])
     return wrong + ([] if width > 1000 and height > 500 else [f"a screenshot of {width} by {height}"])

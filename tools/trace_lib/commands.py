@@ -16,7 +16,7 @@ from rcce_lib.progress import Progress
 from rcce_lib.programs import Programs, version
 from rcce_lib.stops import OWN_FAILURE, Fault, Refused, Stop
 from rcce_lib.words import Parser
-from trace_lib import pages, viewers
+from trace_lib import pages, trace_pages, viewers
 from trace_lib.labs import Lab
 from trace_lib.texts import read_trace
 
@@ -61,17 +61,20 @@ def _viewer_text(words: argparse.Namespace, given: Given, programs: Programs) ->
 
 def page(argv: list[str]) -> int:
     """The command page."""
-    return _command(_parser("page", PAGE, "the trace, or the output of a lab").parse_args(argv), _page_text)
+    parser = _parser("page", PAGE, "the trace, or the output of a lab")
+    parser.add_argument("--from", metavar="LINE", dest="first", type=int, default=0, help="the first line of the trace, or of the lab, that is shown")
+    parser.add_argument("--to", metavar="LINE", dest="last", type=int, help="and the last one")
+    return _command(parser.parse_args(argv), _page_text)
 
 
 def _page_text(words: argparse.Namespace, given: Given, programs: Programs) -> Iterator[str]:
     """The text of a page."""
     if given.data.startswith(b"line "):
-        return pages.page_of(given.name, LAB_PAGE, pages.of_lab(Lab(given.name, given.data)))
+        return pages.page_of(given.name, LAB_PAGE, pages.of_lab(Lab(given.name, given.data), words.first, words.last))
     if not given.data.startswith(b"rcce trace"):
         is_lab = LAB.match(given.data) is not None
         raise Refused(Fault(given.name, 1, "NotRun" if is_lab else "Neither", NOT_RUN if is_lab else NEITHER))
-    return pages.page_of(given.name, TRACE_PAGE, pages.of_trace(read_trace(given.name, given.data)))
+    return pages.page_of(given.name, TRACE_PAGE, trace_pages.of_trace(read_trace(given.name, given.data), words.first, words.last))
 
 
 def _parser(name: str, about: str, what: str) -> Parser:

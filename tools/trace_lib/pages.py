@@ -9,105 +9,93 @@ import shlex
 from typing import Any, Iterator
 
 from rcce_lib.stops import Fault, Refused
-from trace_lib.calls import calls_of
-from trace_lib.labs import FIRST_HEAP, Drop, Fill, Lab, Line, Step, Write
-from trace_lib.texts import Event, Trace
-from trace_lib.viewers import chunks_of
-from trace_lib.words import Role
+from trace_lib.labs import ANSWER, FIRST_HEAP, HOLDS, LOAD_STORE, Drop, Fill, Lab, Line, Step, Write
 
 MOST_STEPS = 20_000
 HERE = os.path.dirname(os.path.realpath(__file__))
 Object = dict[str, Any]
-TRACE_LETTERS = {"load": "l", "store": "s", "take": "t", "free": "f"}
 LAB_LETTERS = {"write": "w", "read": "r", "flush": "f", "invalidate": "i", "put": "p", "get": "g", "load": "l", "store": "s", "take": "t", "free": "F", "print": "h"}
+
+# the page's own style and scripts, in their order
+STYLE, SCRIPTS = "page.css", ("page_state.js", "page_tables.js", "page_lanes.js", "page_moves.js")
 
 
 def page_of(name: str, about: str, data: Object) -> Iterator[str]:
     """The document of a page with its data."""
-    if len(data["steps"]) > MOST_STEPS:
-        way = f"a page of the first ones: head -n {MOST_STEPS} {'' if name == '-' else shlex.quote(name) + ' '}| page -"
-        raise Refused(Fault(name, 1, "TooLong", f"at most {MOST_STEPS:,} steps, and here are {len(data['steps']):,}; {way}"))
-    with open(f"{HERE}/page.html", encoding="utf-8") as file:
-        page = file.read()
+    lines = [line for line, _ in data["script"]]
+    if not lines and data["is part"]:
+        raise Refused(Fault(name, 1, "NoSteps", "no step is of these lines; without --from and --to the page has all"))
+    if len(lines) > MOST_STEPS:
+        # (a row of polls that is cut may be more steps than it was)
+        part = f"page --from {lines[0]} --to {lines[MOST_STEPS - 500]}{'' if name == '-' else ' ' + shlex.quote(name)}"
+        raise Refused(Fault(name, 1, "TooLong", f"at most {MOST_STEPS:,} steps, and here are {len(lines):,}; a page of a part: {part}"))
     # in a script's text only its end and comments could be read as more than data
     embedded = json.dumps(data, separators=(",", ":")).replace("<", "\\u003c")
     # a file's name may have bytes that are no UTF-8
     title = os.path.basename(name).encode("utf-8", "surrogateescape").decode("utf-8", "replace")
     parts = {"TITLE": html.escape(title), "ABOUT": html.escape(about), "DATA": embedded}
-    yield re.sub("@(TITLE|ABOUT|DATA)@", lambda found: parts[found[1]], page)
+    parts |= {"STYLE": _own(STYLE), "SCRIPT": "\n".join(map(_own, SCRIPTS))}
+    yield re.sub("@(TITLE|ABOUT|STYLE|SCRIPT|DATA)@", lambda found: parts[found[1]], _own("page.html"))
 
 
-def _letters(letters: dict[str, str]) -> str:
+def _own(name: str) -> str:
+    """The text of a file beside this one."""
+    with open(f"{HERE}/{name}", encoding="utf-8") as file:
+        return file.read()
+
+
+def letters_of(letters: dict[str, str]) -> str:
     """What the letters of the lanes say."""
     return "A letter a step: " + ", ".join(f"{letter} {verb}" for verb, letter in letters.items()) + "."
 
 
-def of_trace(trace: Trace) -> Object:
-    """The data of a trace: a step an event, a lane a rank."""
-    used: dict[tuple[int, int], list[Role]] = {}
-    for event in trace.events:
-        if event.line >= 0:
-            used.setdefault((event.core, event.line), [trace.setup.role(event.core, event.line, word) for word in range(4)])
-    calls = calls_of(trace)
-    words: dict[str, int] = {}
-    return {
-        "kind": "trace",
-        "lanes": [{"name": f"rank {rank}, core {core}", "core": core} for rank, core in enumerate(trace.setup.hosts)],
-        "letters": _letters(TRACE_LETTERS),
-        "lines": [[f"{core}.{line}", _what(roles)] for (core, line), roles in sorted(used.items())],
-        "registers": sorted({event.core for event in trace.events if event.line < 0}),
-        "script": [[event.at, str(event)] for event in trace.events],
-        "spans": [[span.rank, span.first, span.last, str(span)] for spans in calls for span in spans],
-        "arrows": [[*start, *end] for start, end in chunks_of(calls)],
-        "steps": [_event_step(number, event, words) for number, event in enumerate(trace.events)],
-    }
-
-
-def _what(roles: list[Role]) -> str:
-    """What the words of a line are for, in short."""
-    first = roles[0]
-    if first.sort == "header":
-        return f"header of {first.one}: kind, comm, length, posted"
-    if first.sort == "chunk":
-        return f"chunk words {first.other} to {first.other + 3} of {first.one}"
-    return ", ".join(dict.fromkeys(str(role) for role in roles if role.sort != "nobody's")) or "nobody's"
-
-
-def _event_step(number: int, event: Event, words: dict[str, int]) -> Object:
-    """The step of an event."""
-    says, stored, loaded, registers = f"rank {event.rank} ", [], [], []
-    if event.access == "store":
-        says += f"stores {event.value:x} at {event.place}, which was {words.get(event.place, 0):x}: {event.role}."
-        stored, words[event.place] = [[event.place, f"{event.value:x}"]], event.value
-    elif event.access == "load":
-        says += f"loads {event.place} and finds {event.value:x}: {event.role}."
-        loaded = [event.place]
-    elif event.access == "take":
-        says += f"takes the register of core {event.core}." if event.value else f"finds the register of core {event.core} taken."
-        registers = [[event.core, f"taken by rank {event.rank}"]] if event.value else []
-    else:
-        says += f"frees the register of core {event.core}."
-        registers = [[event.core, "free"]]
-    return {"line": number, "who": event.rank, "letter": TRACE_LETTERS[event.access], "says": says, "words": stored, "loads": loaded,
-            "registers": registers, "caches": [], "buffers": [], "cores": [event.core]}
-
-
-def of_lab(lab: Lab) -> Object:
-    """The data of a lab: a step a line, a lane a core; an arrow goes from the step that stored a word to the first one of another core that loads it."""
-    cores = sorted(lab.cores)
-    used = {line for step in lab.steps for line, *_ in [*step.stored, *step.loaded]}
-    used |= {line for step in lab.steps for line in _held_lines(step)}
+def of_lab(lab: Lab, first: int = 0, last: int | None = None) -> Object:
+    """The data of a lab, of its lines from one to another alone: a step a line, a lane a core; an arrow goes from the step that stored a word to the first
+    one of another core that loads it."""
+    before = [step for step in lab.steps if step.line < first]
+    steps = [step for step in lab.steps if step.line >= first and (last is None or step.line <= last)]
+    cores, start = sorted(lab.cores), _start(before)
+    used = {line for step in steps for line, *_ in [*step.stored, *step.loaded]} | {line for step in [*before, *steps] for line in _held_lines(step)}
     return {
         "kind": "lab",
+        "is part": len(steps) < len(lab.steps),
         "lanes": [{"name": f"core {core}", "core": core} for core in cores],
-        "letters": _letters(LAB_LETTERS),
+        "letters": letters_of(LAB_LETTERS),
         "lines": [[_name(line), f"line {line[1]} of the heap of core {line[0]}, line {FIRST_HEAP + line[1]} of its buffer"] for line in sorted(used)],
         "registers": sorted({core for step in lab.steps for core, _ in step.registers}),
-        "script": [[step.line, step.text] for step in lab.steps],
+        "start": start,
+        "script": [[step.line, step.text] for step in steps],
         "spans": [],
-        "arrows": list(_arrows(lab, cores)),
-        "steps": [_lab_step(number, step, cores) for number, step in enumerate(lab.steps)],
+        "arrows": list(_arrows(steps, cores)),
+        "steps": list(_lab_steps(steps, cores)),
     }
+
+
+def _start(steps: list[Step]) -> Object:
+    """What the words, the registers and the cores hold behind these steps."""
+    words, registers, buffers = {}, {}, {}
+    caches: dict[int, dict[Line, list[int]]] = {}
+    for step in steps:
+        words.update({f"{_name(line)}.{word}": f"{value:x}" for line, word, value in step.stored})
+        registers.update(dict(step.registers))
+        buffers[step.core] = _buffer(step)
+        cache = caches.setdefault(step.core, {})
+        for change in step.changes:
+            if isinstance(change, Fill):
+                cache[change.line] = list(change.words)
+            elif isinstance(change, Write):
+                cache[change.line][change.word] = change.value
+            elif change.line:
+                del cache[change.line]
+            else:
+                cache.clear()
+    held = [[core, [_change(Fill(line, values)) for line, values in cache.items()]] for core, cache in caches.items()]
+    return {"words": _pairs(words), "registers": _pairs(registers), "caches": held, "buffers": _pairs(buffers)}
+
+
+def _pairs(told: dict[Any, Any]) -> list[list[Any]]:
+    """The keys with their values."""
+    return [[key, value] for key, value in told.items()]
 
 
 def _name(line: Line) -> str:
@@ -129,34 +117,46 @@ def _change(it: Fill | Write | Drop) -> list[Any]:
     return [_name(it.line)] if it.line else []
 
 
-def _arrows(lab: Lab, cores: list[int]) -> Iterator[list[int]]:
+def _arrows(steps: list[Step], cores: list[int]) -> Iterator[list[int]]:
     """From the step that stored a word to the first step of each other core that loads it."""
     stored: dict[tuple[Line, int], int] = {}
     shown: set[tuple[int, int]] = set()
-    for number, step in enumerate(lab.steps):
+    for number, step in enumerate(steps):
         for line, word in step.loaded:
             source = stored.get((line, word))
-            if source is not None and lab.steps[source].core != step.core and (source, step.core) not in shown:
+            if source is not None and steps[source].core != step.core and (source, step.core) not in shown:
                 shown.add((source, step.core))
-                yield [cores.index(lab.steps[source].core), source, cores.index(step.core), number]
+                yield [cores.index(steps[source].core), source, cores.index(step.core), number]
         for line, word, _ in step.stored:
             stored[line, word] = number
 
 
-def _lab_step(number: int, step: Step, cores: list[int]) -> Object:
-    """The step of a line of a lab."""
-    stored = [[f"{_name(line)}.{word}", f"{value:x}"] for line, word, value in step.stored]
-    places = {line[0] for line, *_ in [*step.stored, *step.loaded]} | {core for core, _ in step.registers}
-    buffer = step.buffer and [_name(step.buffer[0]), [None if value is None else f"{value:x}" for value in step.buffer[1]]]
-    return {
-        "line": number,
-        "who": cores.index(step.core),
-        "letter": LAB_LETTERS[step.verb],
-        "says": "\n".join([step.text, *step.said]),
-        "words": stored,
-        "loads": [f"{_name(line)}.{word}" for line, word in step.loaded],
-        "registers": step.registers,
-        "caches": [[step.core, [_change(it) for it in step.changes]]] if step.changes else [],
-        "buffers": [[step.core, buffer]],
-        "cores": sorted(places),
-    }
+def _buffer(step: Step) -> list[Any] | None:
+    """What is in a core's write-combining buffer behind a step."""
+    return [_name(step.buffer[0]), [None if value is None else f"{value:x}" for value in step.buffer[1]]] if step.buffer else None
+
+
+def _lab_steps(steps: list[Step], cores: list[int]) -> Iterator[Object]:
+    """The steps of lines of a lab, without the fields that say nothing. What they store and load, their accesses say."""
+    buffers: dict[int, list[Any] | None] = {}
+    for step in steps:
+        buffer = _buffer(step)
+        shown = {
+            "who": cores.index(step.core),
+            "letter": LAB_LETTERS[step.verb],
+            "said": [_short(line) for line in step.said if not HOLDS.fullmatch(line)],
+            "registers": step.registers,
+            "caches": [[step.core, [_change(it) for it in step.changes]]] if step.changes else [],
+            "buffers": [[step.core, buffer]] if step.core not in buffers or buffers[step.core] != buffer else [],
+        }
+        buffers[step.core] = buffer
+        yield {name: value for name, value in shown.items() if value != []}
+
+
+def _short(line: str) -> str:
+    """An access or an answer in short, as page_state.js reads it; any other line as it is."""
+    if found := LOAD_STORE.fullmatch(line):
+        return f"{found[2][0]}{found[3]}.{found[4]}.{found[5]} {found[6].lstrip('0') or '0'}"
+    if (found := ANSWER.fullmatch(line)) and found[2]:
+        return f"a{found[2]}:{found[3]}.{found[4]} {found[5].lstrip('0') or '0'} {found[6][0]}"
+    return line

@@ -14,7 +14,7 @@ LONGEST_LINE, MOST_LINES, MOST_BYTES = 255, 16_777_216, 1_073_741_824
 NUMBER = r"(0|[1-9]\d{0,4})"
 HEAD = re.compile(rf"rcce trace 1 nue {NUMBER} layout (words|bits) hosts ((?:{NUMBER},)*{NUMBER})")
 COMM = re.compile(rf"comm {NUMBER} {NUMBER} (mod|div) {NUMBER}")
-EVENT = re.compile(rf"{NUMBER} (load|store|take|free) {NUMBER}\.(?:(register)|{NUMBER}\.([0-3])) ([0-9a-f]{{16}})(?: #.*)?", re.S)
+EVENT = re.compile(rf"{NUMBER} (load|store|take|free) {NUMBER}\.(?:(register)|{NUMBER}\.([0-3])) ([0-9a-f]{{16}})(?: #(.*))?", re.S)
 
 
 class Event(NamedTuple):
@@ -28,6 +28,15 @@ class Event(NamedTuple):
     word: int
     value: int
     role: Role
+    # what stands behind the sign # of its line, a character a byte; nothing where there is none
+    written: str | None = None
+
+    @property
+    def comment(self) -> str:
+        """What is said of the event: its comment as it is written, or what its word is for."""
+        if self.written is None:
+            return str(self.role)
+        return self.written.strip().encode("latin-1").decode("utf-8", "replace")
 
     @property
     def place(self) -> str:
@@ -35,7 +44,7 @@ class Event(NamedTuple):
         return f"{self.core}.register" if self.role is REGISTER else f"{self.core}.{self.line}.{self.word}"
 
     def __str__(self) -> str:
-        return f"{self.rank} {self.access} {self.place} {self.value:016x} # {self.role}"
+        return f"{self.rank} {self.access} {self.place} {self.value:016x} # {self.comment}"
 
 
 @dataclass
@@ -49,7 +58,7 @@ class Trace:
 
 def read_trace(name: str, data: bytes) -> Trace:
     """The trace of a file."""
-    # a byte is one character here, since a line's length is told in bytes; its comment is skipped, and what is shown is made from the place
+    # a byte is one character here, since a line's length is told in bytes
     lines = data.decode("latin-1").split("\n")
     whole = lines.pop() == ""
 
@@ -109,6 +118,6 @@ def read_event(setup: Setup, at: int, line: str) -> Event | None:
     if rank >= setup.ues or core > 47 or (access in ("take", "free")) != bool(found[4]):
         return None
     if found[4]:
-        return Event(at, rank, access, core, -1, -1, value, REGISTER) if value <= (access == "take") else None
+        return Event(at, rank, access, core, -1, -1, value, REGISTER, found[8]) if value <= (access == "take") else None
     place = int(found[5]), int(found[6])
-    return Event(at, rank, access, core, *place, value, setup.role(core, *place)) if place[0] < 256 else None
+    return Event(at, rank, access, core, *place, value, setup.role(core, *place), found[8]) if place[0] < 256 else None
