@@ -1,4 +1,5 @@
 use Rattle.std.proofs.Common.{◌++◌, ◌∷◌, [], ◌∙◌, ap, subst, sym}
+use Rattle.std.proofs.lemmas.List.{append_assoc}
 use Rattle.scc_base.specs.Places.{WordAt, line_of_word}
 use Rattle.scc_proto.specs.Words.{word_at}
 use Rattle.lab_reader.specs.Places.{IsInHeap}
@@ -22,7 +23,8 @@ returns-clause-turned c =
     subst (λ (p : WordAt). CoreTurned (after_load s.rank p) core s said core t c.answer.new.said.items) is
     (read_alone core s t place v said c.answer.new.said.items c.requires.ready heap c.load-value.ensures.did (word_loaded s t place v c.load-value.ensures.did c.tells.ensures.run)
     (c.in_ok-answer.ensures ∙ (λ i. c.in_ok-push.ensures.items i ++ Answers (sym is i) v Words ∷ [])
-    ∙ (λ i. said ++ LoadsWord (c.own-me.ensures i) place v ∷ [] ++ Answers place v Words ∷ [])))
+    ∙ (λ i. said ++ LoadsWord (c.own-me.ensures i) place v ∷ [] ++ Answers place v Words ∷ [])
+    ∙ append_assoc said (LoadsWord s.rank place v ∷ []) (Answers place v Words ∷ [])))
 
 pub returns-clause-answers : goal.returns-clause-answers
 returns-clause-answers c =
