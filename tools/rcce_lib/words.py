@@ -215,21 +215,24 @@ def do_audit(work: Work) -> int:
 
 
 def do_lab(work: Work) -> int:
-    """Does the steps of a lab, in its order or in every order."""
-    from rcce_lib import lab_orders, labs
+    """Does the steps of a lab."""
+    from rcce_lib import labs
 
-    asked = work.words
-    if asked.show is not None and not asked.action:
-        work.parser.error("--show is for rcce lab orders")
-    given = work.read(asked.lab)
-    if asked.show is not None:
-        text = lab_orders.shown(work.programs, work.scratch, given, asked.show)
-        return work.answer({"command": "lab orders", "status": 0, "text": text}, lambda found, paint: str(found["text"]))
-    if asked.action:
-        return work.answer(lab_orders.orders(work.programs, work.scratch, given), lab_orders.text_of)
-    if asked.json:
+    given = work.read(work.words.lab)
+    if work.words.json:
         return work.answer(labs.lab_object(work.programs, given), lambda found, paint: "")
     return labs.run(work.programs, given)
+
+
+def do_lab_orders(work: Work) -> int:
+    """Runs a lab in every order of its steps."""
+    from rcce_lib import lab_orders
+
+    given = work.read(work.words.lab)
+    if work.words.show is None:
+        return work.answer(lab_orders.orders(work.programs, work.scratch, given), lab_orders.text_of)
+    text = lab_orders.shown(work.programs, work.scratch, given, work.words.show)
+    return work.answer({"command": "lab orders", "status": 0, "text": text}, lambda found, paint: str(found["text"]))
 
 
 def do_trace(work: Work) -> int:
@@ -292,10 +295,11 @@ def build_parser() -> Parser:
     add("log", "print the log of a run's calls", do_log)
     audit = add("audit", "tell whether a log is legal, and why it is not", do_audit, script=False)
     audit.add_argument("log", metavar="LOG", help="the log, or - for standard input")
-    lab = add("lab", "do the steps of a lab, in its order or in every order, and tell what is wrong with one that is refused", do_lab, script=False)
-    lab.add_argument("action", nargs="?", choices=("orders",), help="run the lab in every order of its steps, each core's own in theirs, and count the outcomes")
-    lab.add_argument("--show", metavar="OUTCOME", help="with orders: print the lab in the first order with this outcome, as '1 0'")
+    lab = add("lab", "do the steps of a lab, and tell what is wrong with one that is refused", do_lab, script=False)
     lab.add_argument("lab", metavar="LAB", help="the lab, or - for standard input")
+    orders = add("lab orders", "run a lab in every order of its steps, each core's own in theirs, and count the outcomes", do_lab_orders, script=False)
+    orders.add_argument("--show", metavar="OUTCOME", help="print the lab in the first order with this outcome, as '1 0'")
+    orders.add_argument("lab", metavar="LAB", help="the lab, or - for standard input")
     trace = add("trace", "tell whether a trace is legal, and what stood before the event that is not", do_trace, script=False)
     trace.add_argument("--keep-going", action="store_true", help="leave out each event that is refused, judge the rest, and count by rank; "
                        "what is refused later may come of what was before")
@@ -352,6 +356,8 @@ def add_run(sub: argparse.ArgumentParser) -> None:
 
 def main(argv: list[str]) -> int:
     """Does what the words ask, and gives the status."""
+    if argv[:2] == ["lab", "orders"]:
+        argv = ["lab orders", *argv[2:]]
     words = build_parser().parse_args(argv)
     scratch = Scratch()
     try:
