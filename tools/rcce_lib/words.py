@@ -356,8 +356,9 @@ def add_run(sub: argparse.ArgumentParser) -> None:
 
 def main(argv: list[str]) -> int:
     """Does what the words ask, and gives the status."""
-    if argv[:2] == ["lab", "orders"]:
-        argv = ["lab orders", *argv[2:]]
+    at = argv.index("orders") if "orders" in argv else 0
+    if argv[:1] == ["lab"] and all(it.startswith("-") for it in argv[1:at]) and at:
+        argv = ["lab orders", *argv[1:at], *argv[at + 1 :]]
     words = build_parser().parse_args(argv)
     scratch = Scratch()
     try:
