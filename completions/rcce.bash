@@ -45,7 +45,8 @@ _rcce() {
     rcceaudit:) options='-log -nue --help --version' ;;
     rccelab:) options='--help --version' ;;
     rcce-trace:) options='--help --version -o --calls' ;;
-    rcce-page:) options='--help --version -o' ;;
+    rcce-page:) options='--help --version -o --from --to' ;;
+    rcce-trace-from:) options='--help --version' ;;
     rccetrace:) options='-calls -nue -f -evict -serial -bits -gen --help --version' ;;
     rccecoll:)
       [ "$COMP_CWORD" -ne 1 ] || _rcce_words '--help --version' "$word"
@@ -79,4 +80,4 @@ _rcce() {
   esac
 }
 
-complete -F _rcce rcce rcce-trace rcce-page rccerun rccecheck rccemesh rcceaudit rccecoll rccelab rccetrace
+complete -F _rcce rcce rcce-trace rcce-page rcce-trace-from rccerun rccecheck rccemesh rcceaudit rccecoll rccelab rccetrace
