@@ -5,16 +5,16 @@ ghost use Rattle.lab_reader.specs.Faults.{lab_kind_name};
 
 use std::alloc::{AllocError, AllocFailed};
 
-/// What is wrong in a line.
+/// What is wrong with a line.
 #[derive(Clone, Copy)]
 pub enum LabKind {
-    /// The file has more bytes than a lab may have.
+    /// The file is longer than `MOST_LAB_BYTES`.
     TooLong,
-    /// A byte outside a comment is no blank and no printable character.
+    /// A byte outside a comment is neither a blank nor a printable character.
     NotText,
     /// A line does not begin with `core C`.
     BadCore,
-    /// What follows is no step.
+    /// The words after `core C` are no step.
     BadStep,
 }
 
@@ -32,14 +32,14 @@ impl LabKind {
     }
 }
 
-/// The first fault of a file. Lines count from 1; line 0 stands for the file as a whole.
+/// The first fault of a file. Lines count from 1; line 0 means the whole file.
 #[derive(Clone, Copy)]
 pub struct LabFault {
     pub line: u32,
     pub kind: LabKind,
 }
 
-/// Why a reading stops: the file has a fault, or no memory is left.
+/// Why a reading stops: the file has a fault, or memory ran out.
 #[derive(Clone, Copy)]
 pub enum LabStop {
     Fault(LabFault),

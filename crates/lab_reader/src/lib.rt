@@ -1,4 +1,4 @@
-//! Labs: lists of raw steps of several cores, and how they are read.
+//! Labs and their reader: a lab is a list of raw steps of several cores.
 #![tactic(auto)]
 
 mod faults;

@@ -48,7 +48,7 @@ impl HeapLine {
         CoreId::of(self.core)
     }
 
-    /// Its number in a lab.
+    /// The number of the line in a lab, from 0 to 30.
     pub fn number(self) -> u8
         ensures gives { result ≡ heap_number self }
         ensures valid { IsInHeap self }
@@ -56,7 +56,7 @@ impl HeapLine {
         self.line - FIRST
     }
 
-    /// The line of the core's buffer.
+    /// The line in the core's buffer.
     pub fn line(self) -> Line
         ensures gives { result ≡ self }
         ensures valid { IsInHeap self }
@@ -98,14 +98,14 @@ impl HeapWord {
     ghost use Rattle.scc_base.specs.Places.{line_of_word};
     ghost use Rattle.lab_reader.specs.Places.{IsInHeap};
 
-    /// The line in which the word lies.
+    /// The heap line that has the word.
     pub fn line(self) -> HeapLine
         ensures gives { result ≡ line_of_word self }
     {
         self.line
     }
 
-    /// The number of the word in its line.
+    /// The number of the word in its line, from 0 to 3.
     pub fn number(self) -> u8
         ensures gives { result ≡ self.word }
         ensures valid { IsInHeap (line_of_word self) × (self.word < 4) }
@@ -113,7 +113,7 @@ impl HeapWord {
         self.word
     }
 
-    /// The word of the core's buffer.
+    /// The word's place in the core's buffer.
     pub fn place(self) -> Place
         ensures gives { result ≡ self }
     {

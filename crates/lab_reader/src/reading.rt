@@ -1,4 +1,4 @@
-//! What the lines of a file say, one after another.
+//! Parses the lines of a lab's file, one after another.
 
 ghost use Rattle.std.specs.Prelude.{◌≡◌, ◌<◌, ◌^◌, length, map};
 ghost use Rattle.lab_reader.specs.Faults.{LabGives};
@@ -36,7 +36,7 @@ fn fault(line: u32, kind: LabKind) -> LabStop
     LabStop::Fault(LabFault { line, kind })
 }
 
-/// A lab of which some lines are read, and whether none of them had words.
+/// A lab in the middle of its reading, and whether no line had words yet.
 #[derive(Drop)]
 struct Reader {
     opening: bool,
@@ -65,7 +65,7 @@ impl Reader {
         }
     }
 
-    /// Takes a step of a core, by the words behind `core C`.
+    /// Adds a step of a core, by the words after `core C`.
     fn read_action(
         &mut self,
         alloc: Global,
@@ -90,7 +90,7 @@ impl Reader {
         Ok(())
     }
 
-    /// Takes a step, by the words of its line.
+    /// Adds a step, by the words of its line.
     fn read_step(
         &mut self,
         alloc: Global,
@@ -151,7 +151,7 @@ fn read_lines(alloc: Global, reader: &mut Reader, lines: &[&[u8]]) -> Result<(),
     Ok(())
 }
 
-/// Reads a lab, or tells its first fault with its line and kind.
+/// Reads a lab, or returns its first fault with its line and kind.
 pub fn read_lab(alloc: Global, bytes: &[u8]) -> Result<Vec<Step>, LabStop>
     ensures { LabGives (λ steps. steps.items) result (lab_of bytes.now) }
 {

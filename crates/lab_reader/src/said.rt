@@ -1,4 +1,4 @@
-//! What the words of a line say.
+//! Parses the words of a line.
 
 ghost use Rattle.std.specs.Prelude.{◌≡◌, ◌≤◌, IfSome, map};
 ghost use Rattle.lab_reader.specs.Said.{action_said, bare_said, core_said, expected_line, expected_take, expected_word, four_said, free_said, get_said, line_at_said, load_said, heap_line_said, put_said, read_after, read_behind, read_said, store_said, take_named, take_said, verb_said, word_said, write_line_said, write_said, write_word_said};
@@ -9,7 +9,7 @@ use crate::words::{cut_at, value_said};
 use scc_base::CoreId;
 use texts::number_in;
 
-/// A core.
+/// A core, by its number.
 pub(crate) fn core_said(word: &[u8]) -> Option<CoreId>
     ensures { result ≡ core_said word.now }
 {
@@ -24,7 +24,7 @@ fn line_at_said(core: CoreId, word: &[u8]) -> Option<HeapLine>
     Some(HeapLine::new(core, number as u8))
 }
 
-/// A heap line: `L` at the own core, or `K:L`.
+/// A heap line: `L` on its own core, or `K:L`.
 fn line_said(own: CoreId, word: &[u8]) -> Option<HeapLine>
     ensures { result ≡ heap_line_said own word.now }
 {
@@ -34,7 +34,7 @@ fn line_said(own: CoreId, word: &[u8]) -> Option<HeapLine>
     }
 }
 
-/// A word of a heap line: `L.W` at the own core, or `K:L.W`.
+/// A word of a heap line: `L.W` on its own core, or `K:L.W`.
 fn word_said(own: CoreId, word: &[u8]) -> Option<HeapWord>
     ensures { result ≡ word_said own word.now }
 {
@@ -104,7 +104,7 @@ fn put_said(own: CoreId, words: &[&[u8]]) -> Option<Action>
     }
 }
 
-/// What may stand behind a read of a word: a value that is expected.
+/// What may follow a read of a word: the value that is expected.
 fn expected_word(words: &[&[u8]]) -> Option<Option<u64>>
     ensures { result ≡ expected_word (map (λ word. word.now) words.now) }
 {
@@ -115,7 +115,7 @@ fn expected_word(words: &[&[u8]]) -> Option<Option<u64>>
     }
 }
 
-/// What may stand behind a read of a line: four values that are expected.
+/// What may follow a read of a line: the four values that are expected.
 fn expected_line(words: &[&[u8]]) -> Option<Option<[u64; 4]>>
     ensures { result ≡ expected_line (map (λ word. word.now) words.now) }
 {
@@ -128,7 +128,7 @@ fn expected_line(words: &[&[u8]]) -> Option<Option<[u64; 4]>>
     }
 }
 
-/// What a take is to answer.
+/// The expected answer of a take.
 fn take_named(word: &[u8]) -> Option<bool>
     ensures { result ≡ take_named word.now }
 {
@@ -141,7 +141,7 @@ fn take_named(word: &[u8]) -> Option<bool>
     }
 }
 
-/// What may stand behind a take: whether it is to take the register.
+/// What may follow a take: whether it must take the register.
 fn expected_take(words: &[&[u8]]) -> Option<Option<bool>>
     ensures { result ≡ expected_take (map (λ word. word.now) words.now) }
 {
@@ -152,7 +152,7 @@ fn expected_take(words: &[&[u8]]) -> Option<Option<bool>>
     }
 }
 
-/// The read of a word or of a line, by what stands behind `evict LINE`, if that is there.
+/// The read of a word or of a line, by the words after `evict LINE`, if that is there.
 fn read_behind(own: CoreId, at: &[u8], evict: Option<HeapLine>, words: &[&[u8]]) -> Option<Action>
     ensures { result ≡ read_behind own at.now evict (map (λ word. word.now) words.now) }
 {
@@ -170,7 +170,7 @@ fn read_behind(own: CoreId, at: &[u8], evict: Option<HeapLine>, words: &[&[u8]])
     }
 }
 
-/// The read of a word or of a line, by all that stands behind.
+/// The read of a word or of a line, by all words after it.
 fn read_after(own: CoreId, at: &[u8], words: &[&[u8]]) -> Option<Action>
     ensures { result ≡ read_after own at.now (map (λ word. word.now) words.now) }
 {
@@ -255,14 +255,14 @@ fn free_said(words: &[&[u8]]) -> Option<Action>
     }
 }
 
-/// An action that has no more words.
+/// An action that has no arguments.
 fn bare_said(action: Action, words: &[&[u8]]) -> Option<Action>
     ensures { result ≡ bare_said action (map (λ word. word.now) words.now) }
 {
     if words.is_empty() { Some(action) } else { None }
 }
 
-/// What a core does, by a verb and the words behind it.
+/// A core's action, by its verb and the words after it.
 pub(crate) fn action_said(own: CoreId, words: &[&[u8]]) -> Option<Action>
     ensures { result ≡ action_said own (map (λ word. word.now) words.now) }
 {

@@ -15,7 +15,7 @@ pub enum Action {
         at: HeapLine,
         words: [u64; 4],
     },
-    /// Reads a word. At a fill the line behind `evict` leaves, and then the value behind `expect` has to have come.
+    /// Reads a word. At a fill, the cache drops the line `evict`. The value must equal `expect`, if there is one.
     ReadWord {
         at: HeapWord,
         evict: Option<HeapLine>,
@@ -36,17 +36,17 @@ pub enum Action {
         at: HeapLine,
         expect: Option<[u64; 4]>,
     },
-    /// Loads a word by one access, past what the core holds. Where a value is expected, it has to come.
+    /// Loads a word by one access, past the cache and the buffer. The value must equal `expect`, if there is one.
     Load {
         at: HeapWord,
         expect: Option<u64>,
     },
-    /// Stores a word by one access, past what the core holds.
+    /// Stores a word by one access, past the cache and the buffer.
     Store {
         at: HeapWord,
         value: u64,
     },
-    /// Reads a core's test-and-set register. Where something is expected: whether it takes it.
+    /// Reads a core's test-and-set register. `expect` states whether the read must take it.
     Take {
         register: CoreId,
         expect: Option<bool>,
@@ -57,7 +57,7 @@ pub enum Action {
     Print,
 }
 
-/// A step: the number of its line, the line as it stands in the file, the core, and what it does.
+/// A step: the number of its line, the text of the line in the file, the core, and what the core does.
 #[derive(Drop)]
 pub struct Step {
     pub line: u32,

@@ -1,18 +1,18 @@
-//! Words: values, and words that are cut.
+//! Words: values, and words that a mark cuts in two.
 
 ghost use Rattle.std.specs.Prelude.{◌≡◌, ◌<◌, ◌≤◌, ◌==◌, IfSome, length, option_map};
 ghost use Rattle.std.specs.List.{position};
 ghost use Rattle.lab_reader.specs.Words.{cut_at, hex_digit, value_said};
 ghost use Rattle.lab_reader.specs.Cuts.{cut_of};
 
-/// A word that was cut: what stands before the mark, and behind it.
+/// A word that was cut at a mark: the parts before and after it.
 #[derive(Clone, Copy)]
 pub(crate) struct Parts<'a> {
     pub(crate) front: &'a [u8],
     pub(crate) back: &'a [u8],
 }
 
-/// The place of the first byte of a kind.
+/// The place of the first byte that equals the mark.
 fn place_of(word: &[u8], mark: u8) -> Option<usize>
     ensures found { result ≡ position (λ b. b == mark) word.now }
     ensures within { IfSome result (λ at. at < length word.now) }
@@ -20,7 +20,7 @@ fn place_of(word: &[u8], mark: u8) -> Option<usize>
     word.iter().position(|b| *b == mark)
 }
 
-/// A word, cut at the first byte of a kind.
+/// A word, cut at the first byte that equals the mark.
 pub(crate) fn cut_at(word: &[u8], mark: u8) -> Option<Parts<'_>>
     ensures { option_map cut_of result ≡ cut_at mark word.now }
 {
@@ -46,7 +46,7 @@ fn hex_digit(b: u8) -> Option<u8>
     }
 }
 
-/// The value of hex digits, as long as it has at most 64 bits.
+/// The value of hex digits, if it has at most 64 bits.
 pub(crate) fn value_said(word: &[u8]) -> Option<u64>
     ensures { result ≡ value_said word.now }
 {

@@ -2,7 +2,7 @@ use Rattle.std.proofs.Common.{◌≡◌, drop, map}
 use Rattle.lab_reader.specs.Reading.{lab_lines_said}
 use Rattle.lab_reader.proofs.reading.read_lines.Given as goal
 
--- the lines that are left, behind those so far, say what all of them say
+-- the lines that remain, read after those so far, parse to what all of them parse to
 abbrev pub invariant-loop-line : goal.invariant-loop-line
 invariant-loop-line l = record {
   number : l.number ≡ l.line-index;
