@@ -1,4 +1,4 @@
--- A core whose write-combining buffer is empty between its calls, and whose copies are as the shared words are.
+-- A core whose write-combining buffer is empty between its calls, and whose copies equal the shared words.
 use Rattle.std.proofs.Common.{◌≡◌, ℕ, zero, suc, ◌<◌, ◌==◌, ◌&&◌, Bool, true, false, not, if◌then◌else◌, unwrap_or, List, [], ◌∷◌, ◌++◌, drop, length, slice_index, slice_set, Option, None, Some, refl, sym, ◌∙◌, ap, subst, arith}
 use Rattle.scc_base.specs.Places.{LineAt, WordAt, line_of_word, word_of_line, same_line}
 use Rattle.scc_base.specs.Events.{store_of}
@@ -15,7 +15,7 @@ use Rattle.lab_examples.specs.Alone.{LoneCall, FlushedWrite, LinePut, WordRead, 
 
 -- ---- copies
 
--- each copy is as the shared words are
+-- each copy equals the shared words
 abbrev pub AreCopies : Memory → List Entry → Type 0
 AreCopies m [] = Unit {0}
 AreCopies m (e ∷ es) = (e.words ≡ line_in m e.line) × AreCopies m es
@@ -116,13 +116,13 @@ one_by m core line v (suc (suc (suc (suc w)))) below = absurd (omega (arith, bel
 
 -- ---- a line is stored
 
--- the words of a line, stored in this order
+-- the shared words after a store of a line's words in this order
 abbrev stored_up : Memory → LineAt → List ℕ → Memory
 stored_up m line words =
     memory_after (memory_after (memory_after (memory_after m (store_of (word_of_line line 0) (slice_index words 0))) (store_of (word_of_line line 1) (slice_index words 1)))
     (store_of (word_of_line line 2) (slice_index words 2))) (store_of (word_of_line line 3) (slice_index words 3))
 
--- the words of a line that was stored, in either order
+-- the words of a line after its store, in either order
 module _ (line : LineAt) (words : List ℕ) where
   put_one : (m : Memory) (k : ℕ) → k < 4 → line_in (memory_after m (store_of (word_of_line line k) (slice_index words k))) line ≡ slice_set (line_in m line) k (slice_index words k)
   put_one m k below = line_here m (word_of_line line k) (slice_index words k) below
@@ -184,18 +184,18 @@ module _ (line : LineAt) (words : List ℕ) where
 
 -- ---- one call
 
--- nothing waits in the buffer, and each copy is as the shared words are
+-- the buffer is empty, and each copy equals the shared words
 pub record IsUpToDate (s : CoreScene) : Type 0 where
   pub out : s.out ≡ None
   pub copies : AreCopies s.memory s.lines
 
--- a call left a core so, and did to the shared words and answered what they would alone
+-- a call kept this, and changed the shared words and answered as it would without a cache and a buffer
 pub record CallDone (me : ℕ) (call : LoneCall) (s : CoreScene) : Type 0 where
   pub up : IsUpToDate (scene_after_call me call s)
   pub memory : (scene_after_call me call s).memory ≡ words_after_call call s.memory
   pub answer : call_answer me call s ≡ words_answer call s.memory
 
--- a read of a word: the shared words stay, and copies are copies
+-- a read of a word changes no shared word, and copies stay copies
 record ReadDone (s t : CoreScene) : Type 0 where
   up : IsUpToDate t
   memory : t.memory ≡ s.memory
@@ -228,7 +228,7 @@ answer_is p s up below =
     ∙ ap (λ (l : List ℕ). slice_index l p.word) (copy_or_words s (line_of_word p) (cached_words s.lines (line_of_word p)) refl up)
     ∙ word_in_line p.word (s.memory.word p.core p.line) below
 
--- a flush where nothing waits
+-- a flush of an empty buffer
 nothing_flushed : (me : ℕ) (s : CoreScene) → IsUpToDate s → (after_flushing me s).memory ≡ s.memory
 nothing_flushed me s up = λ i. after_all s.memory (stores_of (up.out i))
 

@@ -1,7 +1,7 @@
 -- The lessons: the texts of `lessons/NAME.lab`, their comments left out.
 use Rattle.std.specs.Prelude.{ℕ, List, ◌++◌, codes}
 
--- an old copy is read
+-- a core reads an old copy
 abbrev pub old_copy : List ℕ
 old_copy =
     codes "\n\ncore 1 read 0:0.0 expect 0\n"
@@ -9,7 +9,7 @@ old_copy =
     ++ codes "core 0 flush\n"
     ++ codes "core 1 read 0:0.0 expect 2a\n"
 
--- a written word waits
+-- a written word waits in the buffer
 abbrev pub write_waits : List ℕ
 write_waits =
     codes "\n\ncore 0 write 0.0 2a\n"
@@ -28,7 +28,7 @@ flag_overtakes =
     ++ codes "core 1 read 0:0.0 expect 2a\n"
     ++ codes "core 1 read 0:0.1 expect 2b\n"
 
--- two bits of one word are changed at once
+-- two cores change two bits of one word at once
 abbrev pub two_bits : List ℕ
 two_bits =
     codes "\n\ncore 1 invalidate\n"

@@ -1,7 +1,7 @@
--- The same, mended: the texts of `lessons/mended/NAME.lab`, their comments left out.
+-- The lessons, mended: the texts of `lessons/mended/NAME.lab`, their comments left out.
 use Rattle.std.specs.Prelude.{ℕ, List, ◌++◌, codes}
 
--- an old copy is read: mended
+-- a core reads an old copy: mended
 abbrev pub old_copy_mended : List ℕ
 old_copy_mended =
     codes "\n\ncore 1 invalidate\n"
@@ -11,7 +11,7 @@ old_copy_mended =
     ++ codes "core 1 invalidate\n"
     ++ codes "core 1 read 0:0.0 expect 2a\n"
 
--- a written word waits: mended
+-- a written word waits in the buffer: mended
 abbrev pub write_waits_mended : List ℕ
 write_waits_mended =
     codes "\n\ncore 0 write 0.0 2a\n"
@@ -30,7 +30,7 @@ flag_overtakes_mended =
     ++ codes "core 1 read 0:0.0 expect 2a\n"
     ++ codes "core 1 read 0:0.1 expect 2b\n"
 
--- two bits of one word are changed at once: mended
+-- two cores change two bits of one word at once: mended
 abbrev pub two_bits_mended : List ℕ
 two_bits_mended =
     codes "\n\ncore 1 take 0 expect took\n"

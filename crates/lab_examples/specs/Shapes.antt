@@ -1,4 +1,4 @@
--- Small labs that lose nothing, and show what this memory does.
+-- Small labs without an error, which show how this memory behaves.
 use Rattle.std.specs.Prelude.{ℕ, List, ◌++◌, codes}
 
 -- each of two cores writes its word and then reads the other's
@@ -9,7 +9,7 @@ store_buffering =
     ++ codes "core 0 read 1:0.0 expect 0\n"
     ++ codes "core 1 read 0:0.0 expect 0\n"
 
--- a core reads its own word while that waits, and again when it has left
+-- a core reads its own word while the word waits, and again after it has left
 abbrev pub own_word_back : List ℕ
 own_word_back =
     codes "core 0 write 0.0 1\n"
@@ -18,7 +18,7 @@ own_word_back =
     ++ codes "core 0 flush\n"
     ++ codes "core 0 read 0.0 expect 0\n"
 
--- two cores that have a copy of one line each write a word of it
+-- two cores with a copy of one line each write a word of it
 abbrev pub words_of_one_line : List ℕ
 words_of_one_line =
     codes "core 0 read 0 expect 0 0 0 0\n"
@@ -29,7 +29,7 @@ words_of_one_line =
     ++ codes "core 1 flush\n"
     ++ codes "core 2 read 0:0 expect 1 2 0 0\n"
 
--- a register is taken, found taken, freed, and taken again; then a core frees it that does not have it
+-- a core takes a register, another finds it taken; it is freed and taken again; then a core frees it that does not have it
 abbrev pub register_taken_twice : List ℕ
 register_taken_twice =
     codes "core 0 take 5 expect took\n"
@@ -38,8 +38,8 @@ register_taken_twice =
     ++ codes "core 1 take 5 expect took\n"
     ++ codes "core 0 free 5\n"
 
--- Two cores each get a line and put it back with a word of their own, by single accesses to its words 0 and 1: the puts lie within one
--- another, and behind them neither word is there.
+-- Two cores each get a line, change one word, and put the line back by single accesses to its words 0 and 1. The puts overlap, and after
+-- them both changes are lost.
 abbrev pub two_puts_split : List ℕ
 two_puts_split =
     codes "core 0 load 0.0 expect 0\n"
@@ -62,7 +62,7 @@ flag_before_data =
     ++ codes "core 0 store 0.0 2a\n"
     ++ codes "core 1 load 0:0.0 expect 2a\n"
 
--- a single load passes the copy and the waiting word of its own core, and a single store leaves them as they are
+-- a single load ignores its core's copy and waiting word, and a single store leaves them as they are
 abbrev pub past_what_is_held : List ℕ
 past_what_is_held =
     codes "core 0 read 0 expect 0 0 0 0\n"

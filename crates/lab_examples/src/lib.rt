@@ -1,4 +1,4 @@
-//! Whole labs with what they come to, computed by the definitions.
+//! Whole labs and their results, computed by the definitions.
 #![tactic(auto)]
 
 mod alone;

@@ -17,11 +17,11 @@ use Rattle.lab_plain.specs.declared.said.Stopped.TheVariants as stopped
 abbrev pub hex_value_text : ℕ → List ℕ
 hex_value_text value = hex_text (to_be_bytes w64 value)
 
--- a line as a lab names it: its core, and its number among the heap lines, of which line 225 is the first
+-- a line as a lab names it: its core, and its number among the heap lines, the first of which is line 225
 abbrev pub line_name : LineAt → List ℕ
 line_name line = joined_texts (decimal line.core ∷ codes ":" ∷ decimal (line.line - first_heap) ∷ [])
 
--- a word of a held line: its value, and `-` where it was not written
+-- a word of a held line: its value, or `-` if it was not written
 abbrev pub held_word_text : ℕ → Bool → List ℕ
 held_word_text value written = if written then hex_value_text value else codes "-"
 
@@ -40,7 +40,7 @@ access_text core access at value =
     joined_texts (decimal core ∷ access ∷ decimal at.core ∷ codes "." ∷ decimal at.line ∷ codes "." ∷ decimal at.word ∷ codes " "
     ∷ hex_value_text value ∷ codes " # heap\n" ∷ [])
 
--- the line of the access to one word of a line, where it is made
+-- the line of the access to one word of a line, if it is made
 abbrev pub word_access_text : ℕ → List ℕ → LineAt → List ℕ → List Bool → ℕ → List ℕ
 word_access_text core access line words mask word =
     if slice_index_or mask word false then access_text core access (word_of_line line word) (slice_index words word) else []
@@ -56,17 +56,17 @@ loads_text core line words =
     ∷ word_access_text core (codes " load ") line words all_words 1
     ∷ word_access_text core (codes " load ") line words all_words 2 ∷ word_access_text core (codes " load ") line words all_words 3 ∷ [])
 
--- the lines of the stores of a line, word 3 first, of the words that were written
+-- the lines of the stores of the written words of a line, word 3 first
 abbrev pub stores_text : ℕ → LineAt → List ℕ → List Bool → List ℕ
 stores_text core line words mask =
     joined_texts (word_access_text core (codes " store ") line words mask 3 ∷ word_access_text core (codes " store ") line words mask 2
     ∷ word_access_text core (codes " store ") line words mask 1 ∷ word_access_text core (codes " store ") line words mask 0 ∷ [])
 
--- what a take answers
+-- the name of a take's answer
 abbrev pub take_answer_name : Bool → List ℕ
 take_answer_name took = if took then codes "took" else codes "taken"
 
--- the line of a take, with 1 where it took the register, and the line of what it answers
+-- the line of a take, with 1 if it took the register, and the line of its answer
 abbrev pub takes_text : ℕ → ℕ → Bool → List ℕ
 takes_text core register took =
     joined_texts (decimal core ∷ codes " take " ∷ decimal register ∷ codes ".register " ∷ hex_value_text (if took then 1 else 0)
@@ -77,7 +77,7 @@ abbrev pub frees_text : ℕ → ℕ → List ℕ
 frees_text core register =
     joined_texts (decimal core ∷ codes " free " ∷ decimal register ∷ codes ".register " ∷ hex_value_text 0 ∷ codes " # register\n" ∷ [])
 
--- the line of what a core holds
+-- the line for a line that a core holds
 abbrev pub core_holds_text : ℕ → List ℕ → LineAt → List ℕ → List Bool → List ℕ
 core_holds_text core holds line words mask =
     joined_texts (codes "core " ∷ decimal core ∷ holds ∷ line_name line ∷ codes " "
@@ -86,23 +86,23 @@ core_holds_text core holds line words mask =
     ∷ held_word_text (slice_index words 2) (slice_index_or mask 2 false)
     ∷ codes " " ∷ held_word_text (slice_index words 3) (slice_index_or mask 3 false) ∷ codes "\n" ∷ [])
 
--- the line of a core that holds nothing
+-- the line for a core that holds nothing
 abbrev pub nothing_text : ℕ → List ℕ → List ℕ
 nothing_text core holds = joined_texts (codes "core " ∷ decimal core ∷ holds ∷ codes "nothing\n" ∷ [])
 
--- where an answer came from
+-- the name of the place that answered a read
 abbrev pub source_name : Source → List ℕ
 source_name source.BufferLine = codes "buffer line"
 source_name source.Cache = codes "cache"
 source_name source.Words = codes "words"
 
--- the line of an answer
+-- the line of a read's answer
 abbrev pub answer_text : WordAt → ℕ → Source → List ℕ
 answer_text at value from =
     joined_texts (codes "answer " ∷ line_name (line_of_word at) ∷ codes "." ∷ decimal at.word ∷ codes " " ∷ hex_value_text value
     ∷ codes " from " ∷ source_name from ∷ codes "\n" ∷ [])
 
--- what is printed
+-- the text of what is printed
 abbrev pub said_text : Said → List ℕ
 said_text (said.Begins line text) = joined_texts (codes "line " ∷ decimal line ∷ codes ": " ∷ text ∷ codes "\n" ∷ [])
 said_text (said.Loads core line words) = loads_text core line words
@@ -118,19 +118,19 @@ said_text (said.CachesNothing core) = nothing_text core (codes " caches ")
 said_text (said.Buffers core line words mask) = core_holds_text core (codes " buffers ") line words mask
 said_text (said.BuffersNothing core) = nothing_text core (codes " buffers ")
 
--- the line of a register's stop
+-- the line of a stop at a register
 abbrev pub register_stop_text : ℕ → ℕ → List ℕ → ℕ → List ℕ
 register_stop_text line core holds register =
     joined_texts (codes "line " ∷ decimal line ∷ codes ": core " ∷ decimal core ∷ holds ∷ decimal register ∷ codes "\n" ∷ [])
 
--- the line of another value than was expected
+-- the line of a stop at a value that differs from the expected one
 abbrev pub value_stop_text : ℕ → WordAt → ℕ → ℕ → List ℕ
 value_stop_text line at came expected =
     joined_texts (codes "line " ∷ decimal line ∷ codes ": " ∷ line_name (line_of_word at) ∷ codes "." ∷ decimal at.word ∷ codes " is "
     ∷ hex_value_text came
     ∷ codes ", expected " ∷ hex_value_text expected ∷ codes "\n" ∷ [])
 
--- why a lab stopped
+-- the text of why a lab stopped
 abbrev pub stopped_text : Stopped → List ℕ
 stopped_text (stopped.Value line at came expected) = value_stop_text line at came expected
 stopped_text (stopped.Take line took) =

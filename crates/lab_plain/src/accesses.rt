@@ -9,7 +9,7 @@ use crate::parts::Part::{Number, Text, Value};
 use rcce_io::{Sink, TextSource, WriteFault, write_texts};
 use scc_base::{CoreId, Line, Place};
 
-/// The line of a load or a store of a word, where it is made.
+/// The printed line of a load or a store of a word, if it is made.
 #[derive(Clone, Copy)]
 pub(crate) struct Access<'a> {
     core: CoreId,
@@ -46,7 +46,7 @@ impl TextSource for Access<'_> {
     }
 }
 
-/// The access to one word of a line, where it is made.
+/// The access to one word of a line, if it is made.
 fn access_of<'a>(
     core: CoreId,
     access: &'a str,
@@ -108,7 +108,7 @@ pub(crate) fn write_stores<S: Sink>(
     )
 }
 
-/// Writes the line of an access that is made alone.
+/// Writes the line of a single access.
 pub(crate) fn write_access<S: Sink>(
     sink: &mut S,
     core: CoreId,

@@ -1,4 +1,4 @@
-//! What labs mean, and the lines that they print.
+//! The meaning of labs, and the lines that they print.
 #![tactic(auto)]
 
 mod accesses;

@@ -1,4 +1,4 @@
-//! The lines of what a lab prints.
+//! Writes the lines that a lab prints.
 
 ghost use Rattle.std.specs.Prelude.{◌≡◌};
 ghost use Rattle.rcce_io.specs.Sending.{Sends};
@@ -10,7 +10,7 @@ use crate::said::{Said, Source, Stopped};
 use rcce_io::{Sink, TextSource, WriteFault, write_texts};
 use scc_base::{CoreId, Line, Place};
 
-/// The name of where an answer came from.
+/// The name of the place that answered a read.
 fn source_name(from: Source) -> &'static str
     ensures { result.now ≡ source_name from }
 {
@@ -21,7 +21,7 @@ fn source_name(from: Source) -> &'static str
     }
 }
 
-/// What a take answers.
+/// The name of a take's answer.
 fn take_name(took: bool) -> &'static str
     ensures { result.now ≡ take_answer_name took }
 {
@@ -67,7 +67,7 @@ fn write_free<S: Sink>(sink: &mut S, core: CoreId, register: CoreId) -> Result<(
     )
 }
 
-/// Writes the line of what a core holds.
+/// Writes the line for a line that a core holds.
 fn write_held<S: Sink>(
     sink: &mut S,
     core: CoreId,

@@ -1,9 +1,9 @@
-//! The parts of the lines.
+//! The parts of a printed line.
 
 use rcce_io::{Piece, Sink, TextSource, WriteFault, write_all, write_hex, write_texts};
 use scc_base::{Buf, Line};
 
-/// A part of a line. No memory is taken for its text.
+/// A part of a printed line. Its text takes no memory.
 #[derive(Clone, Copy)]
 pub(crate) enum Part<'a> {
     Text(&'a str),
@@ -13,9 +13,9 @@ pub(crate) enum Part<'a> {
     Number(u32),
     /// A value of 64 bits in 16 hex digits.
     Value(u64),
-    /// Such a value, or `-` for a word that was not written.
+    /// A value of 64 bits, or `-` for a word that was not written.
     Word { value: u64, written: bool },
-    /// A line, as a lab names it.
+    /// A line of a buffer, as a lab names it.
     Line(Line),
 }
 

@@ -3,18 +3,18 @@
 use scc_base::{CoreId, Line, Place};
 use texts::Bytes;
 
-/// Where the answer of a read came from.
+/// The place that answered a read.
 #[derive(Clone, Copy)]
 pub enum Source {
-    /// The write-combining buffer of the core.
+    /// The core's write-combining buffer.
     BufferLine,
-    /// Its cache.
+    /// The core's cache.
     Cache,
     /// The shared words.
     Words,
 }
 
-/// A line that is printed, or several: of accesses to shared words, one each.
+/// One or several printed lines. Accesses to shared words take one line each.
 #[derive(Drop)]
 pub enum Said {
     /// A step begins: its line in the file.
@@ -22,32 +22,32 @@ pub enum Said {
         line: u32,
         text: Bytes,
     },
-    /// The words of a line were loaded.
+    /// A core loaded the words of a line.
     Loads {
         core: CoreId,
         line: Line,
         words: [u64; 4],
     },
-    /// The words of a line that were written were stored.
+    /// A core stored the written words of a line.
     Stores {
         core: CoreId,
         line: Line,
         words: [u64; 4],
         mask: [bool; 4],
     },
-    /// A word was loaded by one access.
+    /// A core loaded a word by one access.
     LoadsWord {
         core: CoreId,
         at: Place,
         value: u64,
     },
-    /// A word was stored by one access.
+    /// A core stored a word by one access.
     StoresWord {
         core: CoreId,
         at: Place,
         value: u64,
     },
-    /// A read answered.
+    /// A read returned a value.
     Answers {
         at: Place,
         value: u64,
@@ -55,58 +55,58 @@ pub enum Said {
     },
     /// A line left the cache.
     Evicted(Line),
-    /// A register was read, and taken or not.
+    /// A core read a register, and took it or found it taken.
     Takes {
         core: CoreId,
         register: CoreId,
         took: bool,
     },
-    /// A register was freed.
+    /// A core freed a register.
     Frees {
         core: CoreId,
         register: CoreId,
     },
-    /// A cached line.
+    /// A line in a core's cache.
     Caches {
         core: CoreId,
         line: Line,
         words: [u64; 4],
     },
-    /// No line is cached.
+    /// The core's cache is empty.
     CachesNothing(CoreId),
-    /// The line in the write-combining buffer.
+    /// The line in a core's write-combining buffer.
     Buffers {
         core: CoreId,
         line: Line,
         words: [u64; 4],
         mask: [bool; 4],
     },
-    /// Nothing is in it.
+    /// The core's write-combining buffer is empty.
     BuffersNothing(CoreId),
 }
 
 /// Why a lab stopped at a step.
 #[derive(Clone, Copy)]
 pub enum Stopped {
-    /// Another value came than was expected.
+    /// A read returned another value than the expected one.
     Value {
         line: u32,
         at: Place,
         came: u64,
         expected: u64,
     },
-    /// A take answered otherwise than was expected.
+    /// A take returned another answer than the expected one.
     Take {
         line: u32,
         took: bool,
     },
-    /// A take by the core that has the register.
+    /// A core tried to take a register that it has already.
     Holds {
         line: u32,
         core: CoreId,
         register: CoreId,
     },
-    /// A free by a core that does not have it.
+    /// A core tried to free a register that it does not have.
     HoldsNot {
         line: u32,
         core: CoreId,
