@@ -1,5 +1,5 @@
-//! `chip_steps KIND COUNT` makes that many accesses to the shared words and prints their number. KIND is
-//! table-load, table-store, port-load, port-store, seat-load or seat-store.
+//! `chip_steps KIND COUNT` makes COUNT accesses to the shared words and prints their number. KIND is table-load, table-store, port-load,
+//! port-store, seat-load or seat-store.
 #![tactic(auto)]
 
 use std::{env, io};

@@ -1,4 +1,4 @@
--- How a team goes on by a turn of one rank.
+-- A team after a turn of one rank.
 use Rattle.std.proofs.Common.{◌≡◌, ◌≢◌, ℕ, ◌<◌, ◌≤◌, List, length, slice_set, slice_index_or, sym, ◌∙◌, ap, subst, arith}
 use Rattle.std.proofs.lemmas.List.{length-set, get_or-set_same, get_or-set_other}
 use Rattle.scc_base.specs.Setups.{SetupView}
@@ -39,7 +39,7 @@ team_goes_on {A} {stands} {chip} {now} {players} team i player lt a =
           other r apart ∙ team.empty r past;
     }
 
--- the same for a rank that the code has made of the place
+-- the same for a rank that the code computed from the place
 pub team_turned : {A : Type 0} {stands : A → SetupView → ℕ → List Event → Type 0} {chip now : ChipView} {players : List A} → IsTeam stands chip players
     → (i r : ℕ) (player : A) → r ≡ i → i < length players → AfterTurn (stands player) chip r now → IsTeam stands now (slice_set players i player)
 team_turned {A} {stands} {chip} {now} {players} team i r player same lt a =

@@ -1,4 +1,4 @@
-//! Ranks that take turns on a chip with one seat: what the crates of tests share.
+//! Ranks that take turns on a chip with one seat, shared by the crates of tests.
 #![tactic(auto)]
 
 mod teams;

@@ -11,7 +11,7 @@ use std::alloc::Global;
 use std::marker::Model;
 use std::test::Fail;
 
-/// A chip of `nue` ranks that was just opened, from the highest core down. `split` is the rule of communicator 8.
+/// A new chip of `nue` ranks, from the highest core down. `split` is the rule of communicator 8.
 pub fn opened(alloc: Global, nue: u8, layout: Layout, split: CommRule) -> Result<Chip, Fail>
     ensures new { IfOk result (λ chip. IsNew (about_in chip) chip) }
     ensures ranks { IfOk result (λ chip. (about_in chip).nue ≡ nue) }
@@ -37,17 +37,17 @@ pub trait Player {
     ghost use Rattle.scc_base.specs.declared.events.Event.{Event};
     ghost use Rattle.scc_proto.specs.Ports.{Did};
 
-    // It stands where the events of this rank stand.
+    // How the player relates to the events of its rank.
     ghost stands: { Self → SetupView → ℕ → List Event → Type 0 };
 
-    /// Makes some events, or none. It answers Done where nothing is left to do.
+    /// Makes some events, or none. It answers Done if nothing is left to do.
     fn turn<P: Port>(&mut self, port: &mut P) -> Turn
         requires stands { stands self.old (P.sight port.old).seat.setup (P.sight port.old).seat.rank (P.sight port.old).events }
         ensures stands { stands self.new (P.sight port.new).seat.setup (P.sight port.new).seat.rank (P.sight port.new).events }
         ensures did { (events : List Event) × Did (P.sight port.old) events (P.sight port.new) };
 }
 
-/// One turn of a rank, by a port of its own over the chip.
+/// One turn of a rank, by that rank's port over the chip.
 pub fn turn_of<M: Player>(chip: &mut Chip, rank: Rank, player: &mut M) -> Turn
     requires whole { IsWhole chip.old }
     requires below { rank < (about_in chip.old).nue }
@@ -58,7 +58,7 @@ pub fn turn_of<M: Player>(chip: &mut Chip, rank: Rank, player: &mut M) -> Turn
     player.turn(&mut port)
 }
 
-/// The ranks of a chip from 0 on, with what each does.
+/// The ranks of a chip from 0 on, with the player of each.
 #[derive(Drop)]
 pub struct Team<M: Player + Drop> {
     chip: Chip,
@@ -81,7 +81,7 @@ impl<M: Player + Drop> Team<M> {
     ghost use Rattle.std.specs.Prelude.{◌≡◌, ◌↔◌, ◌+◌, ◌<◌, ◌≤◌, [], IfOk, IfErr, IsSome};
     ghost use Rattle.scc_mesh.specs.Scenes.{IsNew, about_in};
 
-    /// A team of no rank yet, on a chip that was just opened.
+    /// A team without players, on a new chip.
     pub fn new(alloc: Global, chip: Chip) -> Team<M>
         requires new { IsNew (about_in chip) chip }
         ensures starts { result ≡ record { about = about_in chip; size = 0 } }
@@ -105,7 +105,7 @@ impl<M: Player + Drop> Team<M> {
         Ok(())
     }
 
-    /// One turn of a rank, and None where the rank has no player.
+    /// One turn of a rank, or None if the rank has no player.
     pub fn turn(&mut self, at: usize) -> Option<Turn>
         ensures same { self.new ≡ self.old }
         ensures played { IsSome result ↔ (at < self.old.size) }
@@ -118,7 +118,7 @@ impl<M: Player + Drop> Team<M> {
         Some(turn_of(&mut self.chip, Rank::of(at as u8), player))
     }
 
-    /// One turn of each rank that is named. Whether all of them answered Done.
+    /// One turn of each rank that is named. Returns whether all of them answered Done.
     pub fn round(&mut self, order: &[usize]) -> bool
         ensures same { self.new ≡ self.old }
     {
@@ -129,7 +129,7 @@ impl<M: Player + Drop> Team<M> {
         done
     }
 
-    /// Rounds until all are done, at most `most` of them. How many it took, and 0 where they were not enough.
+    /// Rounds until all players are done, at most `most` of them. Returns how many it took, or 0 if `most` were not enough.
     pub fn rounds(&mut self, order: &[usize], most: u32) -> u32
         ensures same { self.new ≡ self.old }
         ensures within { result ≤ most }
@@ -142,7 +142,7 @@ impl<M: Player + Drop> Team<M> {
         0
     }
 
-    /// The player of a rank, and None where it has none.
+    /// The player of a rank, or None if it has none.
     pub fn player(&self, at: usize) -> Option<&M>
         ensures found { IsSome result ↔ (at < self.now.size) }
     {

@@ -1,4 +1,4 @@
--- What a lab's file comes to.
+-- How a run of `rccelab` on a lab's file ends.
 use Rattle.std.proofs.Common.{◌≡◌, ◌≤◌, ℕ, Bool, true, false, List, [], length, refl, sym, subst, ap, inl, inr, Option, Some, None, Result, Ok, Err}
 use Rattle.std.specs.Prelude.{nat_lt}
 use Rattle.rcce_io.specs.Files.{FilesView}
@@ -25,7 +25,7 @@ use Rattle.lab_run.specs.Stands.{HasDoneLab}
 use Rattle.lab_program.specs.History.{LabTells, WasMadeBy}
 use Rattle.lab_program.specs.Program.{lab_ran_of, steps_plan}
 
--- a lab that is refused
+-- a lab that is rejected
 pub comes_refused : (program file : List ℕ) (said : Result (List Step) LabFault) (fault : LabFault) (kind : List ℕ) (files : FilesView) → said ≡ Err fault → kind ≡ lab_kind_name fault.kind
     → Comes program (steps_plan file said) files files (file_refused program file fault.line kind)
 comes_refused program file said fault kind files same named =
@@ -41,14 +41,14 @@ comes_done program file read steps run files same done =
 
 -- ---- what was read
 
--- a run that prints these bytes
+-- the end of a program that prints these bytes
 abbrev shown : List ℕ → Ran
 shown bytes = record { finished = true; out = bytes; err = [] }
 
 abbrev shown_plan : List ℕ → Plan
 shown_plan bytes = Runs (shown bytes)
 
--- A reading that leads each plan on with these bytes gave them: of a plan that prints what it reads it shows them.
+-- A reading that continues each plan with these bytes returned them: a plan that prints what it reads shows them.
 pub read_gave : (file : List ℕ) (limit : ℕ) (before between : FilesView) (bytes : List ℕ) → ReadsFile file limit before between (Ok bytes) → ReadsAll file limit before between (Ok bytes)
 read_gave file limit before between bytes reads =
     let came = reads [] shown_plan between (run_outcome (shown bytes)) (refl, inl refl) in
@@ -74,7 +74,7 @@ read_gave file limit before between bytes reads =
 
 -- ---- what is left
 
--- by a lab that was run
+-- a lab that was run leaves its chip and its cores
 pub tells_done : (before after : FilesView) (file bytes : List ℕ) (steps : List Step) (run : LabRun) (left : Option LabLeft) → lab_of bytes ≡ Ok steps → length bytes ≤ most_lab_bytes → ReadsAll file most_lab_bytes before after (Ok bytes)
     → HasDoneLab (lab_done steps) run → left ≡ Some run.left → LabTells before after (Some file) left (run_outcome (lab_ran_of run.said.items run.stopped))
 tells_done before after file bytes steps run left same few read done is =
@@ -89,11 +89,11 @@ tells_done before after file bytes steps run left same few read done is =
       made = done.left;
     })
 
--- by a complaint
+-- a run that ends in a complaint leaves nothing
 pub tells_quiet : (before after : FilesView) (program file : List ℕ) (left : Option LabLeft) (why : Complaint) → left ≡ None → LabTells before after (Some file) left (complaint_outcome program why)
 tells_quiet before after program file left why none =
     subst (λ (b : Bool). ByTest b (left ≡ None) (WasMadeBy before after file left (complaint_outcome program why))) (sym (complaint_quiet program why)) none
 
--- by the file that the words name, if they name one
+-- what is left belongs to the file that the words name, if they name one
 pub tells_named : (before after : FilesView) (named file : Option (List ℕ)) (left : Option LabLeft) (o : Outcome) → named ≡ file → LabTells before after named left o → LabTells before after file left o
 tells_named before after named file left o same tells = subst (λ (n : Option (List ℕ)). LabTells before after n left o) same tells

@@ -16,41 +16,41 @@ use Rattle.lab_plain.specs.Meaning.{lab_done}
 use Rattle.lab_plain.specs.Texts.{said_text, stopped_text}
 use Rattle.lab_program.specs.declared.report.Lab.{Lab}
 
--- the line of a stop, if there was one
+-- the line of a stop, if the lab stopped
 abbrev pub stop_text : Option Stopped → List ℕ
 stop_text None = []
 stop_text (Some stopped) = stopped_text stopped
 
--- whether a lab was done to its end, and what it printed
+-- the end of a lab: whether it ran to its end, and what it printed
 abbrev pub lab_ran_of : List Said → Option Stopped → Ran
 lab_ran_of said stopped = record { finished = is_none stopped; out = joined_texts (map said_text said); err = stop_text stopped }
 
--- what a run came to
+-- the end of a lab, from the result of its run
 abbrev pub lab_ran : Lab → Ran
 lab_ran lab = lab_ran_of lab.said.items lab.stopped
 
--- what the steps of a lab come to: their plain meaning
+-- the end of the steps of a lab, by their meaning
 abbrev pub steps_ran : List Step → Ran
 steps_ran steps = lab_ran_of (lab_done steps).stand.said (lab_done steps).stop
 
--- the steps of a lab are done, and the first fault of its text refuses its file
+-- runs the steps of a lab, or rejects its file with the first fault of its text
 abbrev pub steps_plan : List ℕ → Result (List Step) LabFault → Plan
 steps_plan file (Ok steps) = Runs (steps_ran steps)
 steps_plan file (Err fault) = Refuses file fault.line (lab_kind_name fault.kind)
 
--- the bytes of a lab's file
+-- parses the bytes of a lab's file and runs its steps
 abbrev pub lab_bytes_plan : List ℕ → List ℕ → Plan
 lab_bytes_plan file bytes = steps_plan file (lab_of bytes)
 
--- the lab's file has at most 1 MiB
+-- reads a lab's file of at most 1 MiB and runs it
 abbrev pub lab_file_plan : List ℕ → Plan
 lab_file_plan file = Reads file most_lab_bytes (lab_bytes_plan file)
 
--- the words are one file's name
+-- the file that the words name, if they are the name of one file
 abbrev pub lab_file_named : List (List ℕ) → Option (List ℕ)
 lab_file_named (file ∷ []) = if is_option file then None else Some file
 lab_file_named _ = None
 
--- the program, by its name and what it does on its words: `LAB`, and no others
+-- the program `rccelab`: its name, and what it does on its words, which must be `LAB` alone
 abbrev pub rccelab : Program
 rccelab = record { name = codes "rccelab"; plan = λ words. plan_of lab_file_plan (lab_file_named words) }

@@ -1,6 +1,6 @@
-//! The top call: a program of its own over the library. `rcce_io` gives it files and sinks, `outcomes` the reading of a file, the
-//! statuses and what is written at the end, `lab_reader` the grammar, and `lab_run` the run of the steps, by the cores of `put_get` and
-//! the chip of `chip_memory`.
+//! The top call of a separate program over the library. `rcce_io` has its files and sinks. `outcomes` reads the file, and has the statuses
+//! and what is written at the end. `lab_reader` has the grammar. `lab_run` runs the steps, by the cores of `put_get` and the chip of
+//! `chip_memory`.
 
 ghost use Rattle.std.specs.Prelude.{◌≡◌, ◌≤◌, codes, length, map, string_bytes, Some, None, Ok};
 ghost use Rattle.std.specs.Option.{option_copied};
@@ -22,12 +22,11 @@ use outcomes::{Complaint, Status, deliver, is_option, read_file};
 use rcce_io::{Files, Sink};
 use std::alloc::Global;
 
-/// Does the steps of a lab in the order of its file, and prints what they come to. The words are those after the program's
-/// name: `LAB`.
+/// Runs the steps of a lab in the order of its file, and prints their results. The words are those after the program's name: `LAB`.
 ///
-/// The checks go in this order, and the first that refuses counts: the words, the reading of the file, its grammar. Memory is
-/// taken by the reading, the grammar and the steps, before anything is printed. A sink that fails is not written to again, nor
-/// is the other one. The chip and the cores that made the steps are left.
+/// It checks the words, the reading of the file and its grammar in this order, and reports the first fault. The reading, the grammar and
+/// the steps take their memory before anything is printed. If a sink fails, neither sink is written to again. The chip and the cores that
+/// made the steps are left.
 pub fn rccelab<F: Files, O: Sink, E: Sink>(
     alloc: Global,
     words: &[String],
@@ -37,14 +36,14 @@ pub fn rccelab<F: Files, O: Sink, E: Sink>(
     left: &mut Option<LabLeft>,
 ) -> Status
     requires blank { left.old ≡ None }
-    // What is printed and the status are those of the plain meaning of the lab. What is promised has a name for each fact, among
-    // them `output`, the output theorem.
+    // What is printed and the status equal those of the lab's meaning. Each fact that is promised has a name, among them `output`, the
+    // output theorem.
     ensures promises { Promises rccelab (map string_bytes words.now) (F.seen files.old) (F.seen files.new)
         (sinks (O.seen out.old) (E.seen err.old)) (sinks (O.seen out.new) (E.seen err.new)) result }
-    // With the statuses 0 and 3 each access that is printed was made by the chip that is left, once and in this order, and no other;
-    // each was a step of its words and permitted by its rank's record; and its cores hold what the lab's hold at the end. The lab is
-    // that of the bytes which were read, with no fault; if the files tell their contents, it is the file's. With 1, 2, 4 and 5
-    // nothing is left. Where a write failed, it is as the outcome says that was to be written.
+    // With the statuses 0 and 3, the chip that is left made exactly the printed accesses, each once and in order. Each was a step of its
+    // words, and its rank's record permitted it. The cores hold what the lab's cores hold at its end. The lab is parsed from the bytes that
+    // were read, with no fault. If the files report their contents, these are the file's bytes. With 1, 2, 4 and 5 nothing is left. If a
+    // write failed, what is left is that of the outcome that was being written.
     ensures history { EndsWith (LabTells (F.seen files.old) (F.seen files.new) (lab_file_named (map string_bytes words.now)) left.new)
         rccelab (map string_bytes words.now) (F.seen files.old) (F.seen files.new)
         (sinks (O.seen out.old) (E.seen err.old)) (sinks (O.seen out.new) (E.seen err.new)) result }
@@ -53,7 +52,7 @@ pub fn rccelab<F: Files, O: Sink, E: Sink>(
     deliver("rccelab", ending, out, err)
 }
 
-/// The file that the words name, if they are one word that is no option.
+/// The file that the words name, if they are one word that is not an option.
 fn file_named(words: &[String]) -> Option<&str>
     ensures { option_copied result ≡ lab_file_named (map string_bytes words.now) }
 {

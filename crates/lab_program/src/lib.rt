@@ -1,4 +1,4 @@
-//! `rccelab`: does the steps of a lab, and prints what they come to.
+//! `rccelab`: runs the steps of a lab, and prints their results.
 #![tactic(auto)]
 
 mod launcher;

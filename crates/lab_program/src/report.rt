@@ -1,4 +1,4 @@
-//! What a lab came to, as it is written.
+//! The end of a lab, as it is written.
 
 use lab_plain::{Said, Stopped};
 use outcomes::Report;

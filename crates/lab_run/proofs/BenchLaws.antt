@@ -39,7 +39,7 @@ record_before : (chip : TurnChipView) (k : ℕ) → k ≢ chip.rank → record_a
 record_before chip k other = ap (record_of chip.setup k)
     (events_of-append k chip.before (of_rank_all chip.rank chip.own) ∙ ap (λ (l : List Event). events_of k chip.before ++ l) (other_events chip.rank k chip.own other) ∙ append-nil (events_of k chip.before))
 
--- the records of the others stay
+-- the records of the other ranks are unchanged
 pub record_other : (old new : TurnChipView) (k : ℕ) → new ≡ record old { own = new.own } → k ≢ old.rank → record_at new k ≡ record_at old k
 record_other old new k turn other =
     record_before new k (λ same. other (same ∙ ap (λ (c : TurnChipView). c.rank) turn))
@@ -113,7 +113,7 @@ bench_kept old new cores holders d bench below kept ready =
       registers = λ k there. (λ i. kept.registers i k) ∙ bench.registers k there;
     }
 
--- the stand after a core at work
+-- the state after an action of one core
 pub stand_after : (op : CoreScene → CoreScene) (old new : TurnChipView) (cores : List Private) (c d : Private) (holders : List (Option ℕ)) (said told : List Said) (me : ℕ) → core_at (map holds_of cores) me ≡ holds_of c
     → CoreTurned op c old said d new told
     → stand_of new (slice_set cores me d) holders told ≡ with_scene me (stand_of old cores holders said) (op (scene_at me (stand_of old cores holders said)))
@@ -123,7 +123,7 @@ stand_after op old new cores c d holders said told me is turned =
     (λ i. record { memory = memory_in new; cores = map-set holds_of cores me d i; holders = holders; said = told })
     ∙ (λ i. with_scene me (stand_of old cores holders said) (after i))
 
--- a step that a core made
+-- a core made a step
 pub record ActDone (line me : ℕ) (act : Action) (old new : TurnChipView) (cores : List Private) (d : Private) (holders : List (Option ℕ)) (said told : List Said) (stop : Option Stopped) : Type 0 where
   pub stand : stand_of new (slice_set cores me d) holders told ≡ (core_done line me act (stand_of old cores holders said)).stand
   pub stopped : stop ≡ (core_done line me act (stand_of old cores holders said)).stop
@@ -148,7 +148,7 @@ act_done line me act old new cores c d holders said told stop bench turn below v
     subst (λ (r : ℕ). ActDone line r act old new cores d holders said told stop) turn
     (act_by line act old new cores c d holders said told stop bench (subst (λ (r : ℕ). r < 48) (sym turn) below) (subst (λ (r : ℕ). c ≡ slice_index_or cores r c) (sym turn) value) turned stops)
 
--- the core that is to act may go on
+-- the core that runs next may go on
 pub act_ready : (chip : TurnChipView) (cores : List Private) (holders : List (Option ℕ)) (core : Private) (me : ℕ) → IsBench chip (map holds_of cores) holders → chip.rank ≡ me → me < 48
     → core ≡ slice_index_or cores me core → MayGoOn core chip
 act_ready chip cores holders core me bench turn below value =
@@ -164,7 +164,7 @@ begun_stand chip new k cores holders said told step is prints = λ i. record { m
 pub begun_bench : (chip new : TurnChipView) (k : ℕ) (cores : List CoreHolds) (holders : List (Option ℕ)) → new ≡ with_turn chip k → IsBench chip cores holders → IsBench new cores holders
 begun_bench chip new k cores holders is bench = subst (λ (c : TurnChipView). IsBench c cores holders) (sym is) (bench_turned chip k cores holders bench)
 
--- an action that is none on a register
+-- an action that touches no register
 pub core_is : (line me : ℕ) (t : Stand) (act : Action)
     → ((x : HeapWord) × (v : ℕ) × (act ≡ WriteWord x v)) ⊎ (((x : HeapLine) × (v : List ℕ) × (act ≡ WriteLine x v)) ⊎ (((x : HeapWord) × (e : Option HeapLine) × (v : Option ℕ) × (act ≡ ReadWord x e v))
     ⊎ (((x : HeapLine) × (e : Option HeapLine) × (v : Option (List ℕ)) × (act ≡ ReadLine x e v)) ⊎ ((act ≡ Flush) ⊎ ((act ≡ Invalidate) ⊎ (((x : HeapLine) × (v : List ℕ) × (act ≡ Put x v))
@@ -192,25 +192,25 @@ both_ok (Err e) next t p = tt
 
 -- ---- the end of a lab
 
--- a step that stops a lab is its end
+-- a step that stops a lab ends it
 pub stops_there : (t : Stand) (stop : Option Stopped) (next : Stand → Done) → is_some stop ≡ true → unless_stopped t stop next ≡ record { stand = t; stop = stop }
 stops_there t None next some = absurd (true_not_false (sym some))
 stops_there t (Some why) next some = refl
 
--- the steps from one on: it is made, and what follows it unless it stops the lab
+-- the steps from one on: this step is made, then those after it, unless it stops the lab
 pub made_then : (steps : List Step) (n : ℕ) (step : Step) (t : Stand) → n < length steps → step ≡ get_or steps n step
     → steps_done (drop n steps) t ≡ unless_stopped (step_done step t).stand (step_done step t).stop (steps_done (drop (n + 1) steps))
 made_then steps n step t below is =
     at_drop_more (λ (l : List Step). steps_done l t) steps n step below
     ∙ (λ i. unless_stopped (step_done (sym is i) t).stand (step_done (sym is i) t).stop (steps_done (drop (n + 1) steps)))
 
--- a lab that stops at this step has come to its end
+-- a lab that stops at this step has ended
 pub ends_there : (steps : List Step) (n : ℕ) (step : Step) (t u : Stand) (stop : Option Stopped) (done : Done) → n < length steps → step ≡ get_or steps n step
     → steps_done (drop n steps) t ≡ done → u ≡ (step_done step t).stand → stop ≡ (step_done step t).stop → is_some stop ≡ true → done ≡ record { stand = u; stop = stop }
 ends_there steps n step t u stop done below is same stand stops some =
     sym same ∙ made_then steps n step t below is ∙ (λ i. unless_stopped (sym stand i) (sym stops i) (steps_done (drop (n + 1) steps)))
     ∙ stops_there u stop (steps_done (drop (n + 1) steps)) some
 
--- and so has one of which no step is left
+-- a lab with no step left has ended
 pub ends_last : (steps : List Step) (n : ℕ) (t : Stand) (done : Done) → length steps ≤ n → steps_done (drop n steps) t ≡ done → done ≡ record { stand = t; stop = None }
 ends_last steps n t done all same = sym same ∙ at_drop_all (λ (l : List Step). steps_done l t) steps n all

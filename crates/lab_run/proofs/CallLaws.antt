@@ -1,4 +1,4 @@
--- What the calls of put and get's core are to a core of a lab.
+-- The calls of put and get's core, as steps of a lab's core.
 use Rattle.std.proofs.Common.{◌≡◌, ℕ, zero, suc, ◌<◌, ◌≤◌, Bool, true, unwrap_or, List, [], ◌∷◌, ◌++◌, if◌then◌else◌, length, slice_index, Option, None, Some, refl, sym, ◌∙◌, ap, subst, arith}
 use Rattle.std.proofs.lemmas.List.{append-nil}
 use Rattle.scc_base.specs.Places.{LineAt, WordAt, line_of_word}
@@ -79,11 +79,11 @@ put_call me memory old new line words empty puts =
 
 -- ---- reads
 
--- the words of a line that was loaded are the shared ones
+-- the words of a loaded line are the shared ones
 loaded_words : (memory : Memory) (line : LineAt) (words : List ℕ) → AreSteps memory (loads_of line words) → length words ≡ 4 → words ≡ line_in memory line
 loaded_words memory line words steps long = four_words words long ∙ (λ i. sym steps.0 i ∷ sym steps.1.0 i ∷ sym steps.1.1.0 i ∷ sym steps.1.1.1.0 i ∷ [])
 
--- a line came in, and the line that is named left, or none
+-- a line came in, and the named line left, if one was named
 loaded_call : (me : ℕ) (memory : Memory) (old new : CoreAt) (p : WordAt) (words : List ℕ) (evict : Option LineAt) → old.core.out ≡ None → cached_words old.core.lines (line_of_word p) ≡ None
     → Did old.port (loads_of (line_of_word p) words) new.port → words ≡ line_in memory (line_of_word p)
     → new.core.lines ≡ lines_after_evictor evict (with_filled_line old.core.lines (line_of_word p) (line_in memory (line_of_word p))) → new.core.out ≡ old.core.out → IsCall (word_read me p evict) me memory old new
@@ -162,7 +162,7 @@ fetch_evictions : (s t : Sight) (c d : Private) (line : LineAt) (words : List �
 fetch_evictions s t c d line words (Held found same is) = let e : d.evictions ≡ c.evictions = ap (λ (x : Private). x.evictions) is in omega (arith, e)
 fetch_evictions s t c d line words (Loaded none long did fills) = fills_evictions fills
 
--- a line was loaded into an empty cache, and none left
+-- a line was loaded into an empty cache, and no line left
 record FreshLine (s : Sight) (c : Private) (line : LineAt) (words : List ℕ) (t : Sight) (d : Private) : Type 0 where
   long : length words ≡ 4
   did : Did s (loads_of line words) t
@@ -180,7 +180,7 @@ fresh_line s t c d line words none same (Loaded new long did (Kept given is)) = 
 fresh_line s t c d line words none same (Loaded new long did (Dropped at below given is)) =
     let more : d.evictions ≡ suc c.evictions = ap (λ (x : Private). x.evictions) is in absurd (omega (arith, more, same))
 
--- it is read again
+-- the line is read again
 record SameLine (s : Sight) (c : Private) (line : LineAt) (words kept : List ℕ) (t : Sight) (d : Private) : Type 0 where
   words_are : words ≡ kept
   port : t ≡ s
@@ -196,7 +196,7 @@ same_line_read s t c d line words kept lines fetch = by fetch
     by (Held found port is) = record { words_are = ap (λ (o : Option (List ℕ)). unwrap_or o words) (sym found ∙ there); port = port; core = is }
     by (Loaded none long did fills) = no_words (cached_words c.lines line) kept none there
 
--- the words of a line that was read so
+-- the words of a line that was read in this way
 module _ (s : Sight) (c : Private) (line : LineAt) (words : List ℕ) (t : Sight) (d : Private) (empty : c.lines ≡ []) (long : length words ≡ 4) (same : d.evictions ≡ c.evictions) (reads : ReadsLine s c line words t d) where
   first : FreshLine s c line reads.word0.words reads.s1 reads.c1
   first = fresh_line s reads.s1 c reads.c1 line reads.word0.words empty few reads.word0.fetch

@@ -19,7 +19,7 @@ at_place answer from (suc n) (suc k) below =
     let same : from + 1 + k ≡ from + suc k = omega arith in
     at_place answer (from + 1) n k (omega (arith, below)) ∙ ap (λ (j : ℕ). Some (answer j)) same
 
--- an evictor with one answer gives it
+-- an evictor with one possible answer returns it
 answered_so : (answer : ℕ → Option ℕ) (held : ℕ) (r : Option ℕ) → held ≤ most_lines → MayAnswer (answers_of answer) held r → r ≡ answer held
 unfolding answers_of
 answered_so answer held r few given =
@@ -29,7 +29,7 @@ answered_so answer held r few given =
 
 -- ---- places
 
--- the place of a line among lines with one more behind
+-- the place of a line in a list, after it was added at the end
 pub place_new : (es : List Entry) (e : Entry) (line : LineAt) → line ≡ e.line → IsPlaceOf (es ++ e ∷ []) line (Some (length es))
 place_new [] e line is = (sym is, omega arith)
 place_new (x ∷ es) e line is = let rest = place_new es e line is in (rest.0, omega (arith, rest.1))
@@ -48,7 +48,7 @@ place_old es e line (Some at) other place = place_left es e line at place
 less : (a b : ℕ) → a ≢ b → a ≤ b → a < b
 less a b other few = omega (arith, other, few)
 
--- entries that are kept in a new place
+-- the entries that stay when a new one comes in
 cache_front : (es : List Entry) (line : LineAt) (full : Bool) → (length es == most_lines) ≡ full → IsCache es → cached_words es line ≡ None
     → (length (if full then drop 1 es else es) < most_lines) × IsCache (if full then drop 1 es else es) × (cached_words (if full then drop 1 es else es) line ≡ None)
 cache_front es line false not_full cache new =
@@ -83,7 +83,7 @@ some_held (e ∷ es) line (suc at) place = by (same_line e.line line) (some_held
     by true some = refl
     by false some = some
 
--- where a line has a place its words are held
+-- the words of a line that has a place are held
 pub words_held : (es : List Entry) (line : LineAt) (at : Option ℕ) → is_some at ≡ true → IsPlaceOf es line at → (words : List ℕ) × (cached_words es line ≡ Some words)
 words_held es line None some place = absurd (true_not_false (sym some))
 words_held es line (Some at) some place = by (cached_words es line) refl (some_held es line at place)
@@ -131,7 +131,7 @@ named_within (Some line) es (Some at) place = ap (λ (b : Bool). if b then Some 
     within : at < length es → (nat_lt at (length es) && not (0 == 18446744073709551615)) ≡ true
     within below = grind (arith, nat_tests)
 
--- a line came in, and the line that the evictor names left, if it was cached then
+-- a line came in, and the line that the evictor named left, if it was cached then
 pub filled_left : (evict : Option LineAt) (at : Option ℕ) (c : Private) (line : LineAt) (words : List ℕ) (d : Private) → IsCache c.lines → cached_words c.lines line ≡ None
     → IsPlaceIn evict (with_filled_line c.lines line words) at → c.answers ≡ answers_of (named_answer (record { at = at; count = 0 })) → Fills c line words d
     → Leaves evict (with_filled_line c.lines line words) at d.lines × (d.out ≡ c.out)

@@ -1,4 +1,4 @@
--- Accesses to heap words by a rank that is in no call: they are permitted, and leave its stage, what it holds, and the registers.
+-- Accesses to heap words by a rank with no unfinished call are permitted; they change neither its stage, nor what it holds, nor a register.
 use Rattle.std.proofs.Common.{◌≡◌, ℕ, Bool, true, false, if◌then◌else◌, List, [], ◌∷◌, ◌++◌, length, slice_index, slice_index_or, Option, None, Some, refl, sym, ◌∙◌, ap, subst, arith}
 use Rattle.std.proofs.lemmas.List.{append_assoc, map-append}
 use Rattle.scc_base.specs.Places.{LineAt, WordAt, line_of_word, word_of_line}
@@ -30,7 +30,7 @@ IsHeapAccess s Store place = IsHeapLine s (line_of_word place)
 IsHeapAccess s Take place = ⊥
 IsHeapAccess s Free place = ⊥
 
--- each of these accesses is one to a heap word
+-- each of these events accesses a heap word
 abbrev pub AreHeap : SetupView → List Event → Type 0
 AreHeap s [] = Unit {0}
 AreHeap s (e ∷ es) = IsHeapAccess s e.access e.place × AreHeap s es
@@ -39,7 +39,7 @@ heap_both : (s : SetupView) (a b : List Event) → AreHeap s a → AreHeap s b �
 heap_both s [] b first second = second
 heap_both s (e ∷ a) b first second = (first.0, heap_both s a b first.1 second)
 
--- the same stage, and the same registers are held
+-- the stage and the held registers are unchanged
 pub record Rests (old new : Record) : Type 0 where
   pub stage : new.stage ≡ old.stage
   pub held : new.held ≡ old.held
@@ -89,7 +89,7 @@ after_run : (r : ℕ) (events : List Event) (memory : Memory) → memory_from me
 after_run r [] memory = refl
 after_run r (e ∷ es) memory = after_run r es (memory_by e.access e.place e.value memory)
 
--- a chip on which the rank that has its turn made some events more
+-- a chip after more events of the rank that runs
 all_more : (chip : TurnChipView) (events : List Event) → all_events (record chip { own = chip.own ++ events }) ≡ all_events chip ++ of_rank_all chip.rank events
 all_more chip events = ap (λ (l : List RankEvent). chip.before ++ l) (map-append (of_rank chip.rank) chip.own events) ∙ sym (append_assoc chip.before (of_rank_all chip.rank chip.own) (of_rank_all chip.rank events))
 
@@ -105,7 +105,7 @@ pub record Went (old new : TurnChipView) (events : List Event) : Type 0 where
   pub kept : MadeHeapAccesses old new
   pub memory : memory_in new ≡ after_all (memory_in old) events
 
--- heap accesses of the rank that has its turn, and is in no call
+-- the rank that runs has no unfinished call and made heap accesses
 pub went : (old new : TurnChipView) (events : List Event) → IsSetup old.setup → (record_in (turn_sight old)).stage ≡ Idle → AreHeap old.setup events → Did (turn_sight old) events (turn_sight new)
     → Went old new events
 went old new events valid idle heap did =
@@ -152,7 +152,7 @@ four_words (a ∷ b ∷ c ∷ []) long = absurd (omega (arith, long))
 four_words (a ∷ b ∷ c ∷ d ∷ []) long = refl
 four_words (a ∷ b ∷ c ∷ d ∷ e ∷ rest) long = absurd (omega (arith, long))
 
--- the words that were loaded of a line are those that are shared
+-- the loaded words of a line are the shared ones
 pub words_loaded : (old new : TurnChipView) (line : LineAt) (words : List ℕ) → Did (turn_sight old) (loads_of line words) (turn_sight new) → IsRun zeros (all_events new) → length words ≡ 4
     → words ≡ line_in (memory_in old) line
 unfolding memory_in

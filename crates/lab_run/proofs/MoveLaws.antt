@@ -1,4 +1,4 @@
--- What the calls of a core are to the scene of it.
+-- The calls of a core, as changes of its scene.
 use Rattle.std.proofs.Common.{◌≡◌, ℕ, Bool, true, false, if◌then◌else◌, unwrap_or, List, [], ◌∷◌, ◌++◌, slice_index, Option, None, Some, refl, sym, ◌∙◌, ap, subst}
 use Rattle.std.proofs.lemmas.List.{append-nil, append_assoc}
 use Rattle.scc_base.specs.Places.{LineAt, WordAt, line_of_word, same_line}
@@ -58,7 +58,7 @@ may_put c s line words core first ready heap at_core at_line =
     subst (λ (es : List Event). MayMakeAll (turn_sight s).seat (record_in (turn_sight s)) es) (sym ((λ i. put_stores (at_core i) (at_line i) (words ∷ [])) ∙ one_line line.core line.line words))
     (quiet (turn_sight s).seat ready.setup.valid (record_in (turn_sight s)) (stores_of_line (whole_line line words)) (ap leaves_heap ready.idle) (line_heap s.setup (whole_line line words) (in_heap s.setup line ready.setup heap))).may
 
--- the core of a line, by the rank that it is
+-- the core of a line is that of its rank
 pub core_of : (s : TurnChipView) (line : LineAt) (r : ℕ) → IsLabSetup s.setup → IsInHeap line → r ≡ line.core → host_of s.setup.hosts r ≡ line.core
 core_of s line r lab heap is = ap (host_of s.setup.hosts) is ∙ lab.hosts line.core heap.core_below
 
@@ -105,7 +105,7 @@ put_turn c d s t line words core first said told ready heap at_core at_line puts
 
 -- ---- loads
 
--- a line that is not cached was fetched
+-- a line that was not cached was fetched
 pub record LoadedLine (evict : Option LineAt) (at : Option ℕ) (c : Private) (s : TurnChipView) (line : LineAt) (words : List ℕ) (d : Private) (t : TurnChipView) : Type 0 where
   pub same : words ≡ line_in (memory_in s) line
   pub leaves : Leaves evict (with_filled_line c.lines line (line_in (memory_in s) line)) at d.lines
@@ -143,7 +143,7 @@ loaded_line evict at c e d s t line words ready heap cache new place given (Load
       kept = w.kept;
     }
 
--- a line that is cached was fetched: nothing was done
+-- a fetch of a cached line makes no access
 pub fetched_there : (c d : Private) (s t : TurnChipView) (line : LineAt) (words kept : List ℕ) → cached_words c.lines line ≡ Some kept → Fetch (turn_sight s) c line words (turn_sight t) d
     → (words ≡ kept) × (t ≡ s) × (d ≡ c)
 fetched_there c d s t line words kept found (Held now same is) = (some_one kept words (sym now ∙ found), sight_one s t same, is)
@@ -157,7 +157,7 @@ fetched_there c d s t line words kept found (Loaded none long did fills) = no_wo
 
 -- ---- a get
 
--- a line was loaded into an empty cache, behind a flush
+-- a line was loaded into an empty cache, after a flush
 pub got_turn : (c m d : Private) (s q t : TurnChipView) (said told end : List Said) (line : LineAt) (words : List ℕ) → CoreTurned (after_flushing s.rank) c s said m q told
     → words ≡ line_in (memory_in q) line → d.lines ≡ with_filled_line [] line (line_in (memory_in q) line) → memory_in t ≡ memory_in q → d.out ≡ None → MayGoOn d t → MadeHeapAccesses q t
     → all_events t ≡ all_events q ++ of_rank_all q.rank (loads_of line words)
@@ -206,7 +206,7 @@ loaded_turn evict c d s t p line words left said end at same gone lines memory o
       };
     }
 
--- a read of what the core holds: nothing was done but that it was answered
+-- a read of what the core holds makes no access and only prints its answer
 pub answered_turn : (c : Private) (s : TurnChipView) (p : WordAt) (v : ℕ) (from : Source) (said end : List Said) → MayGoOn c s → end ≡ said ++ Answers p v from ∷ [] → CoreTurned (after_answer p v from) c s said c s end
 answered_turn c s p v from said end ready prints = record { scene = λ i. record { memory = memory_in s; lines = c.lines; out = c.out; said = prints i }; ready = ready; kept = kept_none s; tells = told_more s said (Answers p v from ∷ []) end prints refl }
 
@@ -246,13 +246,13 @@ cached_turn c d s t p evict words kept said end ready found fetch prints =
       tells = subst (λ (x : TurnChipView). IsTold s said x end) (sym f.1) (told_more s said (Answers p (slice_index words p.word) Cache ∷ []) end prints refl);
     }
 
--- what it answers
+-- the value that such a read returns
 pub cached_answer : (c d : Private) (s t : TurnChipView) (p : WordAt) (words kept other : List ℕ) → cached_words c.lines (line_of_word p) ≡ Some kept → Fetch (turn_sight s) c (line_of_word p) words (turn_sight t) d
     → slice_index words p.word ≡ slice_index (unwrap_or (cached_words c.lines (line_of_word p)) other) p.word
 cached_answer c d s t p words kept other found fetch =
     ap (λ (l : List ℕ). slice_index l p.word) (fetched_there c d s t (line_of_word p) words kept found fetch).0 ∙ sym (ap (λ (o : Option (List ℕ)). slice_index (unwrap_or o other) p.word) found)
 
--- a read of a word that waits in the buffer
+-- a read of a word that is in the buffer
 pub buffered_turn : (c : Private) (s : TurnChipView) (p : WordAt) (evict : Option LineAt) (v : ℕ) (said end : List Said) → MayGoOn c s → Some v ≡ waiting_word c.out p
     → end ≡ said ++ Answers p v BufferLine ∷ [] → CoreTurned (word_read s.rank p evict) c s said c s end
 buffered_turn c s p evict v said end ready waits prints = record {
@@ -262,7 +262,7 @@ buffered_turn c s p evict v said end ready waits prints = record {
   tells = told_more s said (Answers p v BufferLine ∷ []) end prints refl;
 }
 
--- and of one that does not
+-- a read of a word that is not in the buffer
 pub unbuffered_turn : (c d : Private) (s t : TurnChipView) (p : WordAt) (evict : Option LineAt) (said end : List Said) → None ≡ waiting_word c.out p
     → CoreTurned (λ x. word_fetched s.rank p evict x (cached_words x.lines (line_of_word p))) c s said d t end → CoreTurned (word_read s.rank p evict) c s said d t end
 unbuffered_turn c d s t p evict said end waits turned = record {

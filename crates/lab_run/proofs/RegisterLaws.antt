@@ -1,4 +1,4 @@
--- Takes and frees of registers by the core that has its turn.
+-- Takes and frees of registers by the core that runs.
 use Rattle.std.proofs.Common.{◌≡◌, ◌≢◌, ℕ, ◌<◌, ◌⊎◌, inl, inr, Bool, true, false, if◌then◌else◌, List, [], ◌∷◌, ◌++◌, length, map, slice_set, Option, None, Some, is_some, is_none, refl, sym, ◌∙◌, ap, subst, arith}
 use Rattle.std.proofs.lemmas.List.{get_or-set_other, get_or-set_same, length-set, set-get_or}
 use Rattle.scc_base.specs.Events.{take_of, free_of}
@@ -50,7 +50,7 @@ holder_here holders k h below = get_or-set_same holders k h None below
 holder_there : (holders : List (Option ℕ)) (k j : ℕ) (h : Option ℕ) → j ≢ k → holder_of (slice_set holders k h) j ≡ holder_of holders j
 holder_there holders k j h other = get_or-set_other holders k j h None other
 
--- A bench after one access to a register by the rank that has its turn: what the rank holds, the word and the holder of this register
+-- A bench after one access to a register by the rank that runs. What the rank holds, and the word and the holder of this register, have
 -- changed, and nothing else.
 pub record Changed (old new : TurnChipView) (k : ℕ) (held : Option FlagWords) (holder : Option ℕ) : Type 0 where
   pub turn : new ≡ record old { own = new.own }
@@ -59,7 +59,7 @@ pub record Changed (old new : TurnChipView) (k : ℕ) (held : Option FlagWords) 
   pub own : is_some held ≡ is_holder old.rank holder
   pub others : (r : ℕ) → r ≢ old.rank → is_holder r holder ≡ false
 
--- before it, no other rank has the register
+-- before the access, no other rank has the register
 pub bench_changed : (old new : TurnChipView) (cores : List meaning.CoreHolds) (holders : List (Option ℕ)) (k : ℕ) (held : Option FlagWords) (holder : Option ℕ) → IsBench old cores holders → old.rank < 48 → k < 48
     → ((r : ℕ) → r ≢ old.rank → is_holder r (holder_of holders k) ≡ false) → Changed old new k held holder → IsBench new cores (slice_set holders k holder)
 bench_changed old new cores holders k held holder bench low below alone changed =
@@ -100,7 +100,7 @@ bench_changed old new cores holders k held holder bench low below alone changed 
 abbrev took_value : Bool → ℕ
 took_value took = if took then 1 else 0
 
--- the register was taken exactly where nobody had it
+-- a take took the register if and only if nobody had it
 took_is : (holder : Option ℕ) (took : Bool) (word : ℕ) → word ≡ held_word holder
     → ((took_value took ≡ 1) × (word ≡ 0)) ⊎ ((took_value took ≡ 0) × (word ≡ 1)) → took ≡ is_none holder
 took_is None true word is step = refl
@@ -120,7 +120,7 @@ was_free old new holder k took is did run =
 turn_did : (old new : TurnChipView) (events : List _) → Did (turn_sight old) events (turn_sight new) → new ≡ record old { own = new.own }
 turn_did old new events did = let is = chip_did old new events did in is ∙ (λ i. record old { own = sym (ap (λ (c : TurnChipView). c.own) is) i })
 
--- a register that nobody had is the core's
+-- a take of a free register makes it the core's
 pub taken_here : (old new : TurnChipView) (k : ℕ) → IsNotHolding (record_in (turn_sight old)) k → Did (turn_sight old) (take_of k true ∷ []) (turn_sight new)
     → Changed old new k (Some (record { sent = None; ready = None })) (Some old.rank)
 taken_here old new k free did = record {
@@ -131,7 +131,7 @@ taken_here old new k free did = record {
   others = λ r ne. eqb_other old.rank r (λ same. ne (sym same));
 }
 
--- a register that another core has stays as it is
+-- a take of another core's register leaves it as it was
 pub found_taken : (old new : TurnChipView) (cores : List meaning.CoreHolds) (holders : List (Option ℕ)) (k : ℕ) → IsBench old cores holders → old.rank < 48 → IsNotHolding (record_in (turn_sight old)) k
     → Did (turn_sight old) (take_of k false ∷ []) (turn_sight new) → IsBench new cores holders
 found_taken old new cores holders k bench low free did =
@@ -152,7 +152,7 @@ found_taken old new cores holders k bench low free did =
       registers = λ j there. ap (λ (m : Memory). m.register j) (memory_did old new (take_of k false ∷ []) did) ∙ bench.registers j there;
     }
 
--- a register that was freed is nobody's
+-- a register that was freed has no holder
 pub freed_here : (old new : TurnChipView) (k : ℕ) → IsHolding (record_in (turn_sight old)) k → Did (turn_sight old) (free_of k ∷ []) (turn_sight new) → Changed old new k None None
 freed_here old new k held did = record {
   turn = turn_did old new (free_of k ∷ []) did;
@@ -162,7 +162,7 @@ freed_here old new k held did = record {
   others = λ r ne. refl;
 }
 
--- where one core has a register, or nobody has, no other has it
+-- if this core has a register or nobody has it, no other core has it
 pub alone_none : (me : ℕ) (holder : Option ℕ) → holder ≡ None → (r : ℕ) → r ≢ me → is_holder r holder ≡ false
 alone_none me holder none r other = ap (is_holder r) none
 
@@ -170,7 +170,7 @@ pub alone_own : (me : ℕ) (holder : Option ℕ) → is_holder me holder ≡ tru
 alone_own me None own r other = refl
 alone_own me (Some core) own r other = eqb_other core r (λ same. other (sym same ∙ grind (arith, nat_tests)))
 
--- ---- what a take and a free come to
+-- ---- the results of a take and a free
 
 pub taken_own : (line me k : ℕ) (expect : Option Bool) (t : Stand) (holder : Option ℕ) → is_holder me holder ≡ true
     → take_made line me k expect t holder ≡ record { stand = t; stop = Some (Holds line me k) }
@@ -190,7 +190,7 @@ pub freed_other : (line me k : ℕ) (t : Stand) (holder : Option ℕ) → is_hol
 freed_other line me k t holder other =
     ap (λ (b : Bool). if b then (record { stand = register_freed me k t; stop = None }) else (record { stand = t; stop = Some (HoldsNot line me k) })) other
 
--- a bench behind a take that was made, with what it comes to
+-- a bench after a take, with the take's result
 pub record TakeDone (line me k : ℕ) (expect : Option Bool) (took : Bool) (old new : TurnChipView) (cores : List Private) (holders : List (Option ℕ)) (said : List Said) : Type 0 where
   pub stand : stand_of new cores (slice_set holders k (if took then Some me else holder_of holders k)) (said ++ Takes me k took ∷ []) ≡ (take_made line me k expect (stand_of old cores holders said) (holder_of holders k)).stand
   pub stop : unmet_take line took expect ≡ (take_made line me k expect (stand_of old cores holders said) (holder_of holders k)).stop
@@ -232,7 +232,7 @@ take_done took line me k expect old new cores holders said bench turn low below 
     (take_by took line k expect old new cores holders said bench (subst (λ (r : ℕ). r < 48) (sym turn) low) below (subst (λ (r : ℕ). is_holder r (holder_of holders k) ≡ false) (sym turn) other) did
     (was_free old new (holder_of holders k) k took (bench.registers k below) did run))
 
--- a bench behind a free
+-- a bench after a free
 pub record FreeDone (line me k : ℕ) (old new : TurnChipView) (cores : List Private) (holders : List (Option ℕ)) (said : List Said) : Type 0 where
   pub stand : stand_of new cores (slice_set holders k None) (said ++ Frees me k ∷ []) ≡ (free_made line me k (stand_of old cores holders said) (holder_of holders k)).stand
   pub stop : None ≡ (free_made line me k (stand_of old cores holders said) (holder_of holders k)).stop

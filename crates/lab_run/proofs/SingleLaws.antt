@@ -1,4 +1,4 @@
--- What a single load or store of a core is to the scene of it.
+-- A single load or store of a core, as a change of its scene.
 use Rattle.std.proofs.Common.{◌≡◌, ℕ, List, [], ◌∷◌, ◌++◌, refl, sym, ◌∙◌, ap, subst}
 use Rattle.scc_base.specs.Places.{WordAt, line_of_word}
 use Rattle.scc_base.specs.Events.{load_of, store_of}
@@ -35,7 +35,7 @@ stored_turn c s t p v said told ready heap did prints =
       tells = told_by s t (store_of p v ∷ []) said (StoresWord s.rank p v ∷ []) told did prints refl;
     }
 
--- the word that was loaded is the shared one
+-- the loaded word is the shared one
 pub word_loaded : (old new : TurnChipView) (p : WordAt) (v : ℕ) → Did (turn_sight old) (load_of p v ∷ []) (turn_sight new) → IsRun zeros (all_events new) → v ≡ word_at (memory_in old) p
 unfolding memory_in
 word_loaded old new p v did run =

@@ -1,4 +1,4 @@
--- A bench at which nothing was done yet.
+-- A bench before the first step.
 use Rattle.std.proofs.Common.{◌≡◌, ℕ, List, [], ◌∷◌, ◌++◌, ◌+◌, map, replicate, Option, None, is_some, refl, sym, ◌∙◌, ap, subst}
 use Rattle.std.proofs.lemmas.List.{get_or-replicate, length-replicate, map-append, replicate-append-replicate}
 use Rattle.scc_base.specs.Setups.{SetupView}

@@ -1,4 +1,4 @@
--- What was printed, and the accesses that the chip has made.
+-- What was printed, compared with the accesses that the chip has made.
 use Rattle.std.proofs.Common.{◌≡◌, ℕ, Bool, true, false, List, [], ◌∷◌, ◌++◌, map, Option, None, Some, refl, sym, ◌∙◌, ap}
 use Rattle.std.proofs.lemmas.List.{append-nil, append_assoc}
 use Rattle.scc_base.specs.Places.{LineAt}
@@ -20,7 +20,7 @@ pub accesses-append : (a b : List Said) → accesses_of (a ++ b) ≡ accesses_of
 accesses-append [] b = refl
 accesses-append (s ∷ a) b = ap (λ (l : List RankEvent). accesses_told s ++ l) (accesses-append a b) ∙ sym (append_assoc (accesses_told s) (accesses_of a) (accesses_of b))
 
--- one thing after another
+-- two batches of events and prints, one after the other
 pub told_both : (a b c : TurnChipView) (x y z : List Said) → IsTold a x b y → IsTold b y c z → IsTold a x c z
 told_both a b c x y z first second = record {
   more = first.more ++ second.more;
@@ -29,7 +29,7 @@ told_both a b c x y z first second = record {
       ∙ ap (λ (l : List RankEvent). all_events a ++ l) (sym (accesses-append first.more second.more));
 }
 
--- more was printed, and none of it is an access
+-- more was printed, none of it an access
 pub told_more : (chip : TurnChipView) (said more end : List Said) → end ≡ said ++ more → accesses_of more ≡ [] → IsTold chip said chip end
 told_more chip said more end prints none = record {
   more = more;
@@ -40,7 +40,7 @@ told_more chip said more end prints none = record {
 pub told_none : (chip : TurnChipView) (said : List Said) → IsTold chip said chip said
 told_none chip said = told_more chip said [] said (sym (append-nil said)) refl
 
--- what the port did was printed
+-- the port's accesses were printed
 pub told_by : (s t : TurnChipView) (events : List Event) (said more end : List Said) → Did (turn_sight s) events (turn_sight t) → end ≡ said ++ more → accesses_of more ≡ of_rank_all s.rank events → IsTold s said t end
 told_by s t events said more end did prints same = record {
   more = more;
@@ -48,7 +48,7 @@ told_by s t events said more end did prints same = record {
   makes = all_did s t events did ∙ ap (λ (l : List RankEvent). all_events s ++ l) (sym same);
 }
 
--- all accesses so far were printed, and so they are now
+-- all accesses so far were printed, and so are the new ones
 pub all_told : (s t : TurnChipView) (said told : List Said) → IsTold s said t told → all_events s ≡ accesses_of said → all_events t ≡ accesses_of told
 all_told s t said told tells before =
     tells.makes ∙ ap (λ (l : List RankEvent). l ++ accesses_of tells.more) before ∙ sym (accesses-append said tells.more) ∙ sym (ap accesses_of tells.prints)

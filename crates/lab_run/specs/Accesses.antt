@@ -1,4 +1,4 @@
--- The accesses to shared words that a lab prints, as events of the chip's ranks: in a lab rank r is on core r.
+-- The accesses to shared words that a lab prints, as events of the chip's ranks. In a lab, rank r is on core r.
 use Rattle.std.specs.Prelude.{List, [], ◌∷◌, ◌++◌}
 use Rattle.scc_base.specs.Events.{load_of, store_of, take_of, free_of}
 use Rattle.scc_proto.specs.Words.{RankEvent}
@@ -7,8 +7,8 @@ use Rattle.chip_memory.specs.Chips.{of_rank, of_rank_all}
 use Rattle.lab_plain.specs.declared.said.Said.{Said}
 use Rattle.lab_plain.specs.declared.said.Said.TheVariants as said
 
--- the accesses of what is printed at once: the loads of a line, word 0 first; the stores of its written words, word 3 first; a load or a
--- store of one word; a take; a free
+-- the accesses that one printed item stands for: the loads of a line, word 0 first; the stores of its written words, word 3 first; a load
+-- or a store of one word; a take; a free
 abbrev pub accesses_told : Said → List RankEvent
 accesses_told (said.Begins line text) = []
 accesses_told (said.Loads core line words) = of_rank_all core (loads_of line words)

@@ -1,4 +1,4 @@
--- What the calls of put and get's core are to a core of a lab (RCCE specification 2.0: put and get; this project's profile).
+-- The calls of put and get's core, as steps of a lab's core (RCCE specification 2.0: put and get; this project's profile).
 use Rattle.std.specs.Prelude.{◌≡◌, ℕ, List, [], ◌∷◌, length, Option, None}
 use Rattle.scc_base.specs.Places.{LineAt, WordAt}
 use Rattle.scc_base.specs.declared.events.Event.{Event}
@@ -13,26 +13,26 @@ use Rattle.lab_plain.specs.Scenes.{CoreScene, after_all, after_flushing, after_i
 use Rattle.lab_plain.specs.Scenes.{line_got, line_in, line_put, word_read, word_written}
 use Rattle.lab_run.specs.Accesses.{accesses_of}
 
--- a core and the port that it works through
+-- a core and the port through which it accesses the shared words
 pub record CoreAt : Type 0 where
   pub port : Sight
   pub core : Private
 
--- each of these events in turn is a step of the words as those before it left them
+-- each event is a step of the shared words that the events before it left
 abbrev pub AreSteps : Memory → List Event → Type 0
 AreSteps memory [] = Unit {0}
 AreSteps memory (e ∷ es) = IsStep memory e × AreSteps (memory_after memory e) es
 
--- what a port made meanwhile were steps of these words
+-- what the port made between these two states were steps of these words
 abbrev pub WereStepsOf : Memory → CoreAt → CoreAt → Type 0
 WereStepsOf memory old new = (events : List Event) → Did old.port events new.port → AreSteps memory events
 
--- the core over shared words, and what was printed
+-- a core over the shared words, and what was printed
 abbrev pub scene_over : Memory → CoreAt → List Said → CoreScene
 scene_over memory at said = record { memory = memory; lines = at.core.lines; out = at.core.out; said = said }
 
--- What a core has done is this function on its scene: it made these events, which are the accesses that are printed, and the shared
--- words, its cached lines and its buffered line are those that the function leaves.
+-- A call of a core equals this function on its scene. Its events are the printed accesses. The shared words, its cached lines and its
+-- buffered line are those that the function leaves.
 pub record IsCall (op : CoreScene → CoreScene) (me : ℕ) (memory : Memory) (old new : CoreAt) : Type 0 where
   pub events : List Event
   pub did : Did old.port events new.port
@@ -40,19 +40,19 @@ pub record IsCall (op : CoreScene → CoreScene) (me : ℕ) (memory : Memory) (o
   pub accesses : accesses_of said ≡ of_rank_all me events
   pub scene : op (scene_over memory old []) ≡ scene_over (after_all memory events) new said
 
--- A word was read. Some line left the cache, or none; where a lab names that line, its core does and answers the same.
+-- A core read a word, and evicted one line or none. If a lab names that line, its core does the same and returns the same value.
 pub record IsWordRead (me : ℕ) (memory : Memory) (old new : CoreAt) (p : WordAt) (v : ℕ) : Type 0 where
   pub evict : Option LineAt
   pub call : IsCall (word_read me p evict) me memory old new
   pub same : v ≡ answer p (scene_over memory old [])
 
--- A line was got without an eviction: a lab's core does the same and answers the shared words.
+-- A core got a line without an eviction. A lab's core does the same, and both return the shared words.
 pub record IsLineGot (me : ℕ) (memory : Memory) (old new : CoreAt) (line : LineAt) (words : List ℕ) : Type 0 where
   pub call : IsCall (line_got me line) me memory old new
   pub same : words ≡ line_in memory line
 
--- Each call of put and get's core, by its relation and over any port, is that of a lab's core. Reads and transfers ask for an empty
--- buffer, and the events of the port were steps of the shared words.
+-- Each call of put and get's core, by its relation and over any port, is a step of a lab's core. Reads and transfers need an empty buffer
+-- and a port whose events were steps of the shared words.
 pub record CoreCallsLaw : Type 0 where
   pub write : (me : ℕ) (memory : Memory) (old new : CoreAt) (p : WordAt) (v : ℕ) → Writes old.port old.core p v new.port new.core
       → IsCall (word_written me p v) me memory old new

@@ -5,12 +5,12 @@ use Rattle.line_cache.specs.declared.cache.Entry.{Entry}
 use Rattle.line_cache.specs.Lines.{IsPlaceOf}
 use Rattle.line_cache.specs.Eviction.{most_evictions, count_after}
 
--- an evictor that names one place: which, and how many entries it has had dropped
+-- an evictor that names one place: the place, if any, and how many entries it has evicted
 pub record Place : Type 0 where
   pub at : Option ℕ
   pub count : ℕ
 
--- its answer while `held` entries are held: its place, if an entry stands there and it has not had the most dropped
+-- the evictor's answer while `held` entries are held: its place, if that holds an entry and the evictor may still evict
 abbrev pub named_answer : Place → ℕ → Option ℕ
 named_answer e held = option_and_then (λ at. if nat_lt at held && not (e.count == most_evictions) then Some at else None) e.at
 
@@ -18,7 +18,7 @@ named_answer e held = option_and_then (λ at. if nat_lt at held && not (e.count 
 abbrev pub named_next : Place → ℕ → Place
 named_next e held = record { at = e.at; count = count_after (named_answer e held) e.count }
 
--- the place of the line that an evictor is to name, if it is to name one and that is cached
+-- the place of the line that an evictor must name: that of the line in the cache, or none
 abbrev pub IsPlaceIn : Option LineAt → List Entry → Option ℕ → Type 0
 IsPlaceIn None es at = at ≡ None
 IsPlaceIn (Some line) es at = IsPlaceOf es line at

@@ -1,4 +1,4 @@
--- What the load of a line that is not cached does.
+-- The load of a line that is not cached.
 use Rattle.std.specs.Prelude.{◌≡◌, ◌++◌, Option}
 use Rattle.scc_base.specs.Places.{LineAt}
 use Rattle.line_cache.specs.Lines.{with_filled_line}
@@ -9,9 +9,9 @@ use Rattle.lab_plain.specs.Scenes.{is_evicted, lines_after_evictor, line_in}
 use Rattle.lab_run.specs.declared.reads.Loaded.{Loaded}
 use Rattle.lab_run.specs.Turns.{MadeHeapAccesses, MayGoOn, memory_in}
 
--- A line was loaded: its words are the shared ones, by four loads; it came in, and the named line left, if it was cached then;
--- the shared words stayed. Seven parameters: what was asked (the line to load, the one to leave), what the load gave, and
--- the core and the chip before and after.
+-- A core loaded a line by four loads, and its words are the shared ones. The line came into the cache, and the named line left if it was
+-- cached then. The shared words are unchanged. Seven parameters: what was asked (the line to load, the one to leave), what the load
+-- returned, and the core and the chip before and after.
 pub record LoadsLine (evict : Option LineAt) (c : Private) (s : TurnChipView) (line : LineAt) (loaded : Loaded) (d : Private)
     (t : TurnChipView) : Type 0 where
   pub words : loaded.words ≡ line_in (memory_in s) line

@@ -1,4 +1,4 @@
--- What the calls of tas_lock are to a lab's registers (RCCE specification 2.0: locks over the test-and-set registers).
+-- The calls of tas_lock, as steps on a lab's registers (RCCE specification 2.0: locks over the test-and-set registers).
 use Rattle.std.specs.Prelude.{◌≡◌, ℕ, Bool, true, false, List, [], ◌∷◌, Option, None, is_some}
 use Rattle.scc_base.specs.Events.{take_of, free_of}
 use Rattle.scc_base.specs.declared.events.Event.{Event}
@@ -11,15 +11,15 @@ use Rattle.lab_plain.specs.Meaning.{Done, Stand, free_made, holder_of, is_holder
 use Rattle.lab_run.specs.Accesses.{accesses_told}
 use Rattle.lab_run.specs.Stands.{held_word}
 
--- A call of a register: what its port made meanwhile is the access that a lab prints, and the lab's step comes to this.
+-- A call on a register: its port made the access that a lab prints, and the lab's step has this result.
 pub record IsRegisterCall (me : ℕ) (said : Said) (old new : Sight) (done comes : Done) : Type 0 where
   pub events : List Event
   pub did : Did old events new
   pub access : accesses_told said ≡ of_rank_all me events
   pub same : done ≡ comes
 
--- Each call of tas_lock, by its relation and over any port, is that of a lab's core. `try_acquire` makes one take, which was a step of
--- the shared words (`takes`, `step`): where the register's word tells whether some core has it, a lab's take has the same answer.
+-- Each call of tas_lock, by its relation and over any port, is a step of a lab's core. `try_acquire` makes one take, which was a step of
+-- the shared words (`takes`, `step`). If the register's word is 1 exactly when some core has it, a lab's take has the same answer.
 -- `release` makes one free (`frees`).
 pub record RegisterCallsLaw : Type 0 where
   pub take : (line me k : ℕ) (expect : Option Bool) (t : Stand) (old new : Sight) (held : Option ℕ)

@@ -1,4 +1,4 @@
-//! What a core that has its turn does.
+//! The actions of the core that runs.
 
 ghost use Rattle.std.specs.Prelude.{◌≡◌, IfOk, OnOk, Some};
 ghost use Rattle.lab_plain.specs.Meaning.{act_stop, after_action, unmet_line, unmet_word};
@@ -15,7 +15,7 @@ use lab_reader::{Action, HeapLine, HeapWord};
 use put_get::Core;
 use std::alloc::AllocError;
 
-/// Why a lab stops at a read that answered so, if it does.
+/// Why a lab stops at a read that returned this value, if it does.
 fn check_word(line: u32, at: HeapWord, came: u64, expect: Option<u64>) -> Option<Stopped>
     ensures { result ≡ unmet_word line at came expect }
 {
@@ -36,7 +36,7 @@ fn check_word(line: u32, at: HeapWord, came: u64, expect: Option<u64>) -> Option
     }
 }
 
-/// The first word of a line that is not the one that is expected.
+/// Why a lab stops at the first word of a line that differs from the expected one, if there is one.
 fn check_words(line: u32, at: HeapLine, came: &[u64; 4], expected: &[u64; 4]) -> Option<Stopped>
     ensures { result ≡ unmet_line line at came.now (Some expected.now) }
 {
@@ -66,7 +66,7 @@ fn check_line(
     }
 }
 
-/// The core that has its turn acts. Why the lab stops at it, if it does. (Registers are read elsewhere.)
+/// The core that runs does an action. Returns why the lab stops there, if it does. (`registers` has the reads of registers.)
 pub(crate) fn act(
     core: &mut Core<Named>,
     chip: &mut TurnChip,

@@ -7,7 +7,7 @@ ghost use Rattle.lab_run.specs.Evicting.{named_answer, named_next};
 use line_cache::Evict;
 use std::marker::Model;
 
-/// The evictor that names one place, wherever an entry is held there.
+/// The evictor that names one place whenever that place holds an entry.
 #[derive(Drop)]
 pub struct Named {
     at: Option<usize>,
@@ -28,7 +28,7 @@ impl Model for Named {
 impl Named {
     ghost use Rattle.std.specs.Prelude.{◌≡◌};
 
-    /// It has dropped nothing so far.
+    /// An evictor of this place that has evicted nothing so far.
     pub(crate) fn new(at: Option<usize>) -> Named
         ensures { result ≡ record { at = at; count = 0 } }
     {

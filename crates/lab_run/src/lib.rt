@@ -1,4 +1,4 @@
-//! Labs, run step by step by cores over a chip in memory.
+//! Runs labs step by step, by cores over a chip in memory.
 #![tactic(auto)]
 
 mod acting;

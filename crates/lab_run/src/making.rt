@@ -17,7 +17,7 @@ use scc_base::{CoreId, Rank};
 use std::alloc::{AllocError, Global};
 use texts::Bytes;
 
-/// Cores that hold nothing.
+/// 48 cores that hold nothing.
 fn new_cores(alloc: Global) -> Result<Vec<Core<Named>>, AllocError>
     ensures { IfOk result (λ cores. AreNew cores.items) }
 {
@@ -29,7 +29,7 @@ fn new_cores(alloc: Global) -> Result<Vec<Core<Named>>, AllocError>
 }
 
 impl Bench {
-    /// Nothing was done yet.
+    /// A chip and its cores before the first step.
     pub(crate) fn new(alloc: Global) -> Result<Bench, AllocError>
         ensures { IfOk result IsNewBench }
     {
@@ -43,7 +43,7 @@ impl Bench {
         })
     }
 
-    /// Makes a step. Why the lab stops at it, if it does.
+    /// Makes a step. Returns why the lab stops there, if it does.
     pub(crate) fn make(&mut self, alloc: Global, step: &Step) -> Result<Option<Stopped>, AllocError>
         requires stands { BenchStands self.old }
         ensures { IfOk result (λ stopped. StandsOnBench (step_done step.now (bench_stand self.old)) stopped self.new) }
@@ -73,7 +73,7 @@ impl Bench {
         }
     }
 
-    /// The core that has its turn acts. (Registers are read by `take` and `free`.)
+    /// The core that runs does an action. (`take` and `free` read registers.)
     fn act(
         &mut self,
         line: u32,

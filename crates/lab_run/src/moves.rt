@@ -1,4 +1,4 @@
-//! What the core that has its turn does to the shared words, and to what it holds for itself.
+//! What the core that runs does to the shared words, its cache and its buffer.
 
 ghost use Rattle.std.specs.Prelude.{◌≡◌, ◌++◌, [], ◌∷◌, true, OnOk, IfOk, Some, None};
 ghost use Rattle.line_cache.specs.Lines.{with_filled_line};
@@ -20,14 +20,14 @@ use scc_proto::Port;
 use std::alloc::AllocError;
 use write_combine::Out;
 
-/// The core that has its turn.
+/// The core that runs.
 pub(crate) fn own(chip: &TurnChip) -> CoreId
     ensures { result ≡ chip.now.rank }
 {
     CoreId::of(chip.rank().number())
 }
 
-/// Says that the written words of a line are stored.
+/// Adds to `said` that the written words of a line are stored.
 fn say_stores(said: &mut Vec<Said>, core: CoreId, out: &Out) -> Result<(), AllocError>
     ensures { OnOk result (said.new.items ≡ said.old.items ++ say_stores core (Some out.now)) }
 {
@@ -40,7 +40,7 @@ fn say_stores(said: &mut Vec<Said>, core: CoreId, out: &Out) -> Result<(), Alloc
     Ok(())
 }
 
-/// Says what leaves the write-combining buffer where all of it does.
+/// Adds to `said` what leaves the write-combining buffer at a flush.
 fn say_flush(core: &Core<Named>, chip: &TurnChip, said: &mut Vec<Said>) -> Result<(), AllocError>
     ensures { OnOk result (said.new.items ≡ said.old.items ++ say_stores chip.now.rank core.now.out) }
 {
@@ -50,7 +50,7 @@ fn say_flush(core: &Core<Named>, chip: &TurnChip, said: &mut Vec<Said>) -> Resul
     }
 }
 
-/// Says what leaves it where a word of a line is written.
+/// Adds to `said` what leaves the write-combining buffer when a word is written.
 fn say_handed_out(
     core: &Core<Named>,
     chip: &TurnChip,
@@ -123,7 +123,7 @@ pub(crate) fn write_line(
     write_word(core, chip, said, at.word(3), words[3])
 }
 
-/// Says that a whole line is stored.
+/// Adds to `said` that a whole line is stored.
 fn say_line(
     said: &mut Vec<Said>,
     core: CoreId,
@@ -141,7 +141,7 @@ fn say_line(
     Ok(())
 }
 
-/// Puts a whole line, where nothing waits in the buffer.
+/// Puts a whole line, if the buffer is empty.
 fn store_line(
     core: &mut Core<Named>,
     chip: &mut TurnChip,
@@ -177,7 +177,7 @@ pub(crate) fn put(
     store_line(core, chip, said, at, words)
 }
 
-/// The words of a line that is got, where nothing waits in the buffer. No line is evicted.
+/// The words of a line that is got, if the buffer is empty. No line is evicted.
 fn get_line(core: &mut Core<Named>, chip: &mut TurnChip, at: HeapLine) -> [u64; 4]
     requires ready { MayGoOn core.old chip.old }
     requires empty { core.old.out ≡ None }
@@ -195,7 +195,7 @@ fn get_line(core: &mut Core<Named>, chip: &mut TurnChip, at: HeapLine) -> [u64; 
     words
 }
 
-/// Says what a get answered.
+/// Adds to `said` the words that a get returned.
 fn say_got(
     said: &mut Vec<Said>,
     core: CoreId,
@@ -234,7 +234,7 @@ pub(crate) fn get(
     Ok(words)
 }
 
-/// Says what a read of a word answered.
+/// Adds to `said` the value that a read of a word returned.
 pub(crate) fn answer(
     said: &mut Vec<Said>,
     at: HeapWord,

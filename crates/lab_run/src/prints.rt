@@ -43,7 +43,7 @@ fn print_buffer(said: &mut Vec<Said>, core: CoreId, out: &Option<Out>) -> Result
     Ok(())
 }
 
-/// Says what a core holds.
+/// Adds to `said` what a core holds.
 pub(crate) fn print(said: &mut Vec<Said>, own: CoreId, core: &Core<Named>) -> Result<(), AllocError>
     ensures { OnOk result (said.new.items ≡ said.old.items ++ say_lines own core.now.lines ++ say_buffer own core.now.out) }
 {

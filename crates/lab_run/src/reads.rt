@@ -1,4 +1,4 @@
-//! Reads of a core.
+//! The reads of the core that runs.
 
 ghost use Rattle.std.specs.Prelude.{◌≡◌, ◌==◌, ◌++◌, if◌then◌else◌, drop, ℕ, List, OnOk, IfOk, Some, None, length, slice_index};
 ghost use Rattle.std.specs.Option.{unwrap_or};
@@ -19,17 +19,17 @@ use put_get::Core;
 use scc_base::Line;
 use std::alloc::AllocError;
 
-/// The words of a line that was loaded, and whether the line left that an evictor was to name.
+/// The words of a loaded line, and whether the line that the evictor named left.
 #[derive(Clone, Copy)]
 pub(crate) struct Loaded {
     pub(crate) words: [u64; 4],
     pub(crate) left: bool,
 }
 
-/// How many lines a cache holds at most.
+/// The most lines that a cache holds.
 const MOST_LINES: usize = 512;
 
-/// The word that waits in the write-combining buffer, if it was written there.
+/// The word in the write-combining buffer, if it was written there.
 fn buffered_word(core: &Core<Named>, at: HeapWord) -> Option<u64>
     ensures { result ≡ waiting_word core.now.out at }
 {
@@ -58,7 +58,7 @@ fn place_of(entries: &[Entry], line: Line) -> Option<usize>
     None
 }
 
-/// The cached lines that stay where another one is brought in: in a full cache all but the first.
+/// The cached lines that stay when another one is brought in: in a full cache all except the first.
 fn front_of(entries: &[Entry]) -> &[Entry]
     ensures { result.now ≡ (if length entries.now == 512 then drop 1 entries.now else entries.now) }
 {
@@ -69,7 +69,7 @@ fn front_of(entries: &[Entry]) -> &[Entry]
     }
 }
 
-/// The place that a line has once another one was brought in.
+/// The place of a line after another one was brought in.
 fn place_after(entries: &[Entry], new: Line, line: Line) -> Option<usize>
     ensures { (words : List ℕ) → IsPlaceOf (with_filled_line entries.now new words) line result }
 {
@@ -81,7 +81,7 @@ fn place_after(entries: &[Entry], new: Line, line: Line) -> Option<usize>
     }
 }
 
-/// The place at which the line stands that an evictor names, once this one was brought in.
+/// The place of the line that an evictor names, after this one was brought in.
 fn leaving(entries: &[Entry], new: Line, evict: &Option<HeapLine>) -> Option<usize>
     ensures { (words : List ℕ) → IsPlaceIn evict.now (with_filled_line entries.now new words) result }
 {
@@ -91,7 +91,7 @@ fn leaving(entries: &[Entry], new: Line, evict: &Option<HeapLine>) -> Option<usi
     }
 }
 
-/// The words of a line that is not cached, from the shared words. The line that is named leaves, if it is cached then.
+/// Loads the words of a line that is not cached. The named line leaves, if it is cached then.
 pub(crate) fn load_line(
     core: &mut Core<Named>,
     chip: &mut TurnChip,
@@ -112,7 +112,7 @@ pub(crate) fn load_line(
     }
 }
 
-/// Says that the line that was named left the cache, if it did.
+/// Adds to `said` that the named line left the cache, if it did.
 fn say_evicted(said: &mut Vec<Said>, evict: &Option<HeapLine>, left: bool) -> Result<(), AllocError>
     ensures { OnOk result (said.new.items ≡ said.old.items ++ say_left evict.now left) }
 {
@@ -150,7 +150,7 @@ fn load_word(
     Ok(value)
 }
 
-/// Reads a word that does not wait in the buffer.
+/// Reads a word that is not in the buffer.
 fn fetch_word(
     core: &mut Core<Named>,
     chip: &mut TurnChip,

@@ -10,7 +10,7 @@ use scc_base::CoreId;
 use scc_proto::Port;
 use std::alloc::AllocError;
 
-/// Why a lab stops at a take that answered so, if it does.
+/// Why a lab stops at a take that returned this answer, if it does.
 fn check_take(line: u32, took: bool, expect: Option<bool>) -> Option<Stopped>
     ensures { result ≡ unmet_take line took expect }
 {
@@ -26,7 +26,7 @@ fn check_take(line: u32, took: bool, expect: Option<bool>) -> Option<Stopped>
     }
 }
 
-/// The core that has a register behind a take that answered so.
+/// The core that has a register after a take that returned this answer.
 fn holder_after(took: bool, core: CoreId, holder: Option<u8>) -> Option<u8>
     ensures { result ≡ (if took then Some core else holder) }
 {
@@ -44,7 +44,7 @@ impl Bench {
         }
     }
 
-    /// The core that has its turn reads a register.
+    /// The core that runs reads a register.
     pub(crate) fn take(
         &mut self,
         line: u32,
@@ -77,7 +77,7 @@ impl Bench {
         Ok(check_take(line, took, expect))
     }
 
-    /// The core that has its turn frees a register.
+    /// The core that runs frees a register.
     pub(crate) fn free(
         &mut self,
         line: u32,

@@ -13,14 +13,14 @@ use lab_reader::Step;
 use put_get::Core;
 use std::alloc::{AllocError, Global};
 
-/// What a lab left: its chip, with the list of all events that its cores have made, and its cores.
+/// What a lab leaves: its chip, with all events that its cores made in order, and its cores.
 #[derive(Drop)]
 pub struct LabLeft {
     pub chip: TurnChip,
     pub cores: Vec<Core<Named>>,
 }
 
-/// What a lab printed, why it stopped, if it did, and what it left.
+/// What a lab printed, why it stopped, if it did, and what it leaves.
 #[derive(Drop)]
 pub struct LabRun {
     pub said: Vec<Said>,
@@ -29,7 +29,7 @@ pub struct LabRun {
 }
 
 impl Bench {
-    /// The run that came to this bench.
+    /// The run that ends in this bench.
     fn into_run(self, stopped: Option<Stopped>) -> LabRun
         requires stands { BenchStands self }
         ensures { HasDoneLab (record { stand = bench_stand self; stop = stopped }) result }
@@ -46,9 +46,9 @@ impl Bench {
     }
 }
 
-/// Makes the steps of a lab one after the other, until one stops it.
+/// Runs the steps of a lab one after the other, until one stops it.
 pub fn run_lab(alloc: Global, steps: &[Step]) -> Result<LabRun, AllocError>
-    // What was printed and why it stopped are those of the plain meaning, and each access that was printed was made by the chip.
+    // What was printed and why it stopped equal the lab's meaning, and the chip made each access that was printed.
     ensures { IfOk result (HasDoneLab (lab_done steps.now)) }
 {
     let mut bench = Bench::new(alloc)?;

@@ -4,7 +4,7 @@ ghost use Rattle.lab_run.specs.Turns.{IsLabSetup};
 
 use scc_base::{Layout, Setup, own_cores, world_alone};
 
-/// 48 ranks with line flags and the world alone, rank r on core r.
+/// 48 ranks with line flags and only the world, rank r on core r.
 pub(crate) fn lab_setup() -> Setup
     ensures { IsLabSetup result }
 {

@@ -1,4 +1,4 @@
-//! Single accesses of the core that has its turn, past what it holds for itself.
+//! Single accesses of the core that runs, past its cache and its buffer.
 
 ghost use Rattle.std.specs.Prelude.{◌≡◌, OnOk, IfOk};
 ghost use Rattle.scc_proto.specs.Words.{word_at};

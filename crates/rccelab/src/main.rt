@@ -1,4 +1,4 @@
-//! `rccelab`: does the steps of a lab, raw accesses of several cores, in the order of its file.
+//! `rccelab`: runs the steps of a lab, raw accesses of several cores, in the order of its file.
 #![tactic(auto)]
 
 use lab_program::rccelab;

@@ -3,8 +3,7 @@
 use scc_base::{CoreId, Place, Rank, Setup};
 use scc_proto::Port;
 
-/// Another port, with a count of the loads that were made through this one. The count stays at the largest
-/// value of u64 once it is there.
+/// Another port, with a count of the loads made through this one. The count stops at the largest value of u64.
 #[derive(Drop)]
 pub struct CountingPort<P> {
     pub port: P,
@@ -21,7 +20,7 @@ impl<P: Port> CountingPort<P> {
         CountingPort { port, loads: 0 }
     }
 
-    /// How many loads were made.
+    /// How many loads were made through this port.
     pub fn loads(&self) -> u64
         ensures gives { result ≡ self.now.loads }
     {

@@ -1,4 +1,4 @@
--- Ports that step.
+-- Ports after accesses.
 use Rattle.std.proofs.Common.{◌≡◌, ℕ, suc, ◌+◌, List, [], ◌∷◌, ◌++◌, refl, sym, ◌∙◌, ap, append_assoc, append-nil, arith}
 use Rattle.scc_base.specs.Setups.{host_of}
 use Rattle.scc_base.specs.declared.events.Event.{Event}
@@ -19,7 +19,7 @@ steps-append : (a b : List Event) → access_steps (a ++ b) ≡ access_steps a +
 steps-append [] b = refl
 steps-append (e ∷ a) b = λ i. access_step e ∷ steps-append a b i
 
--- no access yet
+-- a port before any access
 pub no_step : (start : Sight) (kind : Kind) → Stepped start kind 0 start
 unfolding in_turn
 no_step start kind = record { seat = refl; steps = sym (append-nil (access_steps start.events)) }
@@ -37,7 +37,7 @@ step_more start old kind count e new before is did =
           ∙ append_assoc (access_steps start.events) (in_turn kind core count) (step_at kind core count ∷ []) ∙ ap (λ n. access_steps start.events ++ in_turn kind core n) next;
     }
 
--- a rank that is away after so many accesses
+-- a rank whose port is in a thread, after this many accesses
 pub away_made : (chip : ChipView) (token : Ticket) (old new : Away) (kind : Kind) (count : ℕ) → Stepped (sight_away old.about old.ticket) kind count (sight_away new.about new.ticket)
     → old.ticket.events ≡ [] → old.ticket.rank ≡ 0 → old.ticket.table ≡ table_in chip → old.about ≡ about_in chip → token ≡ new.ticket → HasMadeAway chip token kind count
 away_made chip token old new kind count stepped none rank table about is =

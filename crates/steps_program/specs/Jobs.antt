@@ -14,11 +14,11 @@ use Rattle.steps_program.specs.declared.accesses.Kind.{Kind}
 use Rattle.steps_program.specs.declared.accesses.Kind.TheVariants.{Loads, Stores}
 use Rattle.steps_program.specs.Steps.{HasMade, HasMadeAway}
 
--- a case: where the accesses go, and which they are
+-- a case: where the accesses go, and of which kind they are
 abbrev pub case : Way → Kind → Option Case
 case way kind = Some (record { way = way; kind = kind })
 
--- KIND: where the accesses go, and which they are
+-- the case that the word KIND names
 abbrev pub case_of : List ℕ → Option Case
 case_of word =
     if bytes_eq word (codes "table-load") then case Table Loads
@@ -38,21 +38,21 @@ abbrev pub is_numeral : List ℕ → Bool
 is_numeral [] = false
 is_numeral (c ∷ cs) = is_digit c && list_all is_digit cs
 
--- the number of some digits, below 2 to the 32
+-- the number that these digits write, if it is below 2 to the 32
 abbrev pub number_of_digits : List ℕ → Option ℕ
 number_of_digits digits = if is_numeral digits && nat_lt (digits_value 10 digits) (2 ^ 32) then Some (digits_value 10 digits) else None
 
--- COUNT: a decimal number, with a plus or without
+-- the number that the word COUNT writes in decimal, with or without a plus
 abbrev pub count_number : List ℕ → Option ℕ
 count_number word = number_of_digits (without_leading_plus word)
 
--- the words KIND COUNT, and no others
+-- the job that the words KIND COUNT ask for
 abbrev pub steps_job_of : List (List ℕ) → Option Job
 steps_job_of (kind ∷ count ∷ []) =
     option_and_then (λ case. option_map (λ n. record { case = case; count = n }) (count_number count)) (case_of kind)
 steps_job_of _ = None
 
--- the accesses asked for, made where they were asked for: on a chip by a rank at home, or by one that is away
+-- the requested accesses were made where they were asked for: on a chip, by a rank whose port is with it or in a thread
 abbrev pub HasMadeAt : Way → Kind → ℕ → Made → Type 0
 HasMadeAt Table kind count made = made ≡ OnTable
 HasMadeAt Port kind count (AtHome chip) = HasMade chip kind count
@@ -62,6 +62,6 @@ HasMadeAt Seat kind count (Away chip token) = HasMadeAway chip token kind count
 HasMadeAt Seat kind count OnTable = ⊥
 HasMadeAt Seat kind count (AtHome chip) = ⊥
 
--- the accesses that a job asks for were made
+-- the accesses of a job were made
 abbrev pub HasMadeBy : Job → Made → Type 0
 HasMadeBy job made = HasMadeAt job.case.way job.case.kind job.count made

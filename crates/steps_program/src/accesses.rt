@@ -11,7 +11,7 @@ use scc_proto::Port;
 
 const LINE: u8 = 240;
 
-/// Which accesses are made.
+/// The kind of the accesses.
 #[derive(Clone, Copy)]
 pub enum Kind {
     Loads,
@@ -27,7 +27,7 @@ fn own_core<P: Port>(port: &P) -> CoreId
     setup.core_of(port.rank())
 }
 
-// Loads the words of one heap line in turn.
+// Loads the words of one heap line in rotation.
 fn load_many<P: Port>(port: &mut P, count: u32)
     ensures stepped { Stepped (P.sight port.old) Loads count (P.sight port.new) }
 {
@@ -37,7 +37,7 @@ fn load_many<P: Port>(port: &mut P, count: u32)
     }
 }
 
-// Stores to the words of one heap line in turn.
+// Stores to the words of one heap line in rotation.
 fn store_many<P: Port>(port: &mut P, count: u32)
     requires idle { IsIdle (P.sight port.old) }
     ensures stepped { Stepped (P.sight port.old) Stores count (P.sight port.new) }
@@ -49,7 +49,7 @@ fn store_many<P: Port>(port: &mut P, count: u32)
     }
 }
 
-/// Makes that many stores, or loads.
+/// Makes this many stores, or loads.
 pub fn make_many<P: Port>(port: &mut P, kind: Kind, count: u32)
     requires idle { IsIdle (P.sight port.old) }
     ensures stepped { Stepped (P.sight port.old) kind count (P.sight port.new) }

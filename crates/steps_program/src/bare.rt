@@ -8,7 +8,7 @@ use atomic_table::{Play, Seat, Shared, Table, TableRule};
 use scc_base::NUMBERS;
 use std::alloc::{AllocError, Global};
 
-/// A table of which nothing is claimed.
+/// A table about which nothing is claimed.
 struct Anything;
 
 impl TableRule<(), (), ()> for Anything {
@@ -37,7 +37,7 @@ fn store_many(words: &Shared<(), (), (), Anything>, seat: &mut Seat<(), ()>, cou
     }
 }
 
-/// Makes that many loads, or stores, of which nothing is claimed.
+/// Makes this many loads, or stores, about which nothing is claimed.
 pub fn bare(alloc: Global, kind: Kind, count: u32) -> Result<(), AllocError> {
     let words = vec![in alloc; 0u64; NUMBERS]?;
     let (table, mut seat) = Table::<(), (), (), Anything, Global>::of_words(

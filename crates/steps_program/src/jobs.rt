@@ -1,4 +1,4 @@
-//! What the words of `chip_steps` ask for, and what is made of it.
+//! What the words of `chip_steps` ask for, and what was made.
 
 ghost use Rattle.std.specs.Prelude.{◌≡◌, map, string_bytes, IfOk};
 ghost use Rattle.steps_program.specs.Jobs.{steps_job_of, case_of, count_number, HasMadeBy};
@@ -9,7 +9,7 @@ use crate::ports::{by_port, by_seat};
 use scc_mesh::{Chip, Token};
 use std::alloc::{AllocError, Global};
 
-/// Where the accesses go: to a bare table, to a chip by a rank at home, or by a rank that is away.
+/// The target of the accesses: a bare table, or a chip and a rank whose port is with the chip or in a thread.
 #[derive(Clone, Copy)]
 pub enum Way {
     Table,
@@ -17,21 +17,21 @@ pub enum Way {
     Seat,
 }
 
-/// A kind of accesses, and where they go.
+/// A kind of accesses, and their target.
 #[derive(Clone, Copy)]
 pub struct Case {
     pub way: Way,
     pub kind: Kind,
 }
 
-/// The accesses that are asked for, and how many.
+/// The requested accesses, and how many.
 #[derive(Drop)]
 pub struct Job {
     pub case: Case,
     pub count: u32,
 }
 
-/// Who has the accesses: nobody, a rank at home on its chip, or a rank that is away from it.
+/// Who made the accesses: nobody, a rank whose port is with its chip, or a rank whose port is in a thread.
 #[derive(Drop)]
 pub enum Made {
     OnTable,
@@ -39,7 +39,7 @@ pub enum Made {
     Away(Chip, Token),
 }
 
-// The accesses that the word KIND names, and where they go.
+// The case that the word KIND names.
 fn case_of(word: &str) -> Option<Case>
     ensures { result ≡ case_of word.now }
 {
@@ -55,7 +55,7 @@ fn case_of(word: &str) -> Option<Case>
     Some(Case { way, kind })
 }
 
-// The number that the word COUNT tells.
+// The number that the word COUNT writes.
 fn number_of(word: &str) -> Option<u32>
     ensures { result ≡ count_number word.now }
 {
@@ -65,7 +65,7 @@ fn number_of(word: &str) -> Option<u32>
     }
 }
 
-/// What the words KIND and COUNT ask for. Other words ask for nothing.
+/// The job that the words KIND and COUNT ask for. Other words ask for nothing.
 pub fn job_of(words: &[String]) -> Option<Job>
     ensures { result ≡ steps_job_of (map string_bytes words.now) }
 {
@@ -77,7 +77,7 @@ pub fn job_of(words: &[String]) -> Option<Job>
     Some(Job { case, count })
 }
 
-/// Makes the accesses that are asked for.
+/// Makes the accesses of a job.
 pub fn make(alloc: Global, job: &Job) -> Result<Made, AllocError>
     ensures made { IfOk result (λ made. HasMadeBy job.now made) }
 {

@@ -27,7 +27,7 @@ fn make_at_home(chip: &mut Chip, kind: Kind, count: u32)
     make_many(&mut port, kind, count);
 }
 
-/// Makes that many loads, or stores, by rank 0 of a chip that is at home.
+/// Makes this many loads, or stores, by rank 0 of a chip, whose port is with the chip.
 pub fn by_port(alloc: Global, kind: Kind, count: u32) -> Result<Chip, AllocError>
     ensures made { IfOk result (λ chip. HasMade chip kind count) }
 {
@@ -37,7 +37,7 @@ pub fn by_port(alloc: Global, kind: Kind, count: u32) -> Result<Chip, AllocError
     Ok(chip)
 }
 
-/// A chip, and the token of a rank that is away from it.
+/// A chip, and the token of a rank whose port is in a thread.
 #[derive(Drop)]
 pub struct Away {
     pub chip: Chip,
@@ -56,7 +56,7 @@ fn make_away(chip: &mut Chip, kind: Kind, count: u32) -> Token
     port.into_token()
 }
 
-/// Makes that many loads, or stores, by rank 0 of a chip that is away.
+/// Makes this many loads, or stores, by rank 0 of a chip, whose port is in a thread.
 pub fn by_seat(alloc: Global, kind: Kind, count: u32) -> Result<Away, AllocError>
     ensures made { IfOk result (λ made. HasMadeAway made.chip made.token kind count) }
 {
