@@ -1,4 +1,4 @@
--- What stands after a whole call of a rank.
+-- The state of a rank after a whole call.
 use Rattle.std.proofs.Common.{◌≡◌, ℕ, true, List, None, Some}
 use Rattle.scc_base.specs.Heads.{MessageHead}
 use Rattle.scc_base.specs.declared.events.Spot.{Spot}
@@ -15,7 +15,7 @@ use Rattle.send_recv.proofs.Starts.{slot_after, free_after_receive, free_after_o
 use Rattle.scc_rows.specs.Talkers.{IsTalking}
 use Rattle.scc_rows.proofs.TalkLemmas.{peers_kept}
 
--- a rank in no call is so whatever bytes it was handed last
+-- a rank in no call stays so, whatever bytes its last call had
 pub other_bytes : {s : Sight} {c : Private} {slot : SlotAt} {peer : ℕ} {old bytes : List ℕ} → IsTalking s c slot peer old None None → IsTalking s c slot peer bytes None None
 other_bytes st = record { peers = st.peers; at = st.at }
 

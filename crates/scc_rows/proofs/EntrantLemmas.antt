@@ -1,4 +1,4 @@
--- A barrier stands where the events of a rank stand, whatever port shows them.
+-- The state of a barrier agrees with the events of its rank, whatever port shows them.
 use Rattle.std.proofs.Common.{◌≡◌, ◌≢◌, ℕ, ◌<◌, Bool, false, List, [], None, refl, sym, ◌∙◌, ap, subst, arith}
 use base.Stored.{gnil}
 use Rattle.scc_base.specs.Setups.{SetupView}
@@ -20,7 +20,7 @@ use Rattle.scc_mesh.specs.Scenes.{ChipView, IsNew, about_in, sight_in}
 use Rattle.chip_teams.specs.Teams.{sight_alone}
 use Rattle.scc_rows.specs.Entrants.{IsBarrierReady}
 
--- what stands where a rank's events stand stands at a port that shows them, and the other way round
+-- a state that agrees with a rank's events agrees with every port that shows them, and conversely
 pub shown : {s : Sight} {c : Private} {op : BarAt} {values : List Bool} → BarStands (sight_alone s.seat.setup s.seat.rank s.events) c op values → BarStands s c op values
 shown {s} {c} {op} {values} st = barrier_there (sight_alone s.seat.setup s.seat.rank s.events) s.seat.mark s.seat.rest s.seat.hold c op values st
 
@@ -42,7 +42,7 @@ starts_ready s r core comm op values empty is unset small present = record {
   same = ap (λ (o : BarAt). o.comm) is;
 }
 
--- a port of a chip that was just opened shows no event
+-- a port of a new chip shows no event
 pub root_starts : (chip lent : ChipView) (r hold : ℕ) (core : Private) (op : BarAt) (values : List Bool) → lent ≡ chip → IsNew (about_in chip) chip → core.out ≡ None
     → op ≡ record { comm = 0; stage = Flip } → ((c : ℕ) → value_at values c ≡ false) → rule_of (about_in chip).comms 0 ≢ Absent → BarStands (sight_in lent r hold) core op values
 root_starts chip lent r hold core op values same new empty is unset present =
@@ -54,7 +54,7 @@ pub ready_next : (s : Sight) {t : Sight} {c d : Private} {op now : BarAt} {comm 
     → now.comm ≡ op.comm → BarStands t d now later → IsBarrierReady (sight_alone t.seat.setup t.seat.rank t.events) d comm now later
 ready_next s ready same st = record { stands = alone st; same = same ∙ ready.same }
 
--- where the barrier is passed a further one of its communicator can be entered
+-- after a barrier was passed, the next one of its communicator can be entered
 pub ready_anew : {s t : Sight} {c d : Private} {op now next : BarAt} {comm : ℕ} {values later : List Bool} → IsBarrierReady (sight_alone s.seat.setup s.seat.rank s.events) c comm op values
     → BarStands t d now later → BarTurned (meeting s c op values) (meeting t d now later) turn.Done → next ≡ record { comm = comm; stage = Flip }
     → IsBarrierReady (sight_alone t.seat.setup t.seat.rank t.events) d comm next later
@@ -85,7 +85,7 @@ passed_ready {s} {t} {c} {d} {op} {next} {comm} {values} {later} ready f is =
       same = ap (λ (o : BarAt). o.comm) is;
     }
 
--- a barrier that gave up can be gone on with
+-- a barrier that gave up can go on
 pub stalled_ready : {s t : Sight} {c d : Private} {op : BarAt} {comm polls : ℕ} {values later : List Bool} {stop : BarStop} → IsBarrierReady (sight_alone s.seat.setup s.seat.rank s.events) c comm op values
     → (stalls : Stalls (meeting s c op values) polls (with_parity t d later) stop) → IsBarrierReady (sight_alone t.seat.setup t.seat.rank t.events) d comm stalls.now later
 stalled_ready ready stalls = record { stands = alone stalls.stands; same = stalls.same ∙ ready.same }

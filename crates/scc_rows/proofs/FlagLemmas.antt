@@ -76,7 +76,7 @@ may_write_flag s r f set rest lt high free = by f.bit free
     by None none = heap_store_may s.seat (record_in s) r f (flag_value set) rest.valid below high (ap leaves_heap rest.idle)
     by (Some b) none = heap_bit_may s.seat (record_in s) r f b set rest.valid below high (ap leaves_heap rest.idle) none
 
--- after a write of the flag the rank holds its register no more
+-- after a write of the flag the rank no longer holds its register
 pub still_free : (s t : Sight) (c d : Private) (r : ℕ) (f : FlagPlace) (set : Bool) (polls : ℕ) (result : Result Unit Stalled) → WritesFlag s c (flag_of s.seat.setup r f) f.bit set polls t d result
     → IfSome f.bit (λ b. IsNotHolding (record_in t) (host_of s.seat.setup.hosts r)) → MayTake t r f
 still_free s t c d r f set polls result writes freed =

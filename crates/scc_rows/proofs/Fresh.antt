@@ -1,4 +1,4 @@
--- The ports of a chip that was just opened are at rest.
+-- The ports of a new chip are at rest.
 use Rattle.std.proofs.Common.{◌≡◌, ◌≢◌, ℕ, List, [], None, Some, refl, sym, ◌∙◌, ap, subst}
 use Rattle.std.specs.declared.result.Result.{Result}
 use Rattle.std.specs.declared.result.Result.TheVariants.{Ok, Err}
@@ -32,7 +32,7 @@ unfolding record_in
 away_without s ticket core none =
     ap (λ (es : List Event). (record_of s ticket.rank es).held core) none ∙ ap (λ (x : Record). x.held core) (record_of-nil s ticket.rank)
 
--- handing a rank out keeps the setup, and the events of another rank
+-- handing a rank out changes neither the setup nor the events of another rank
 pub about_with : (chip : ChipView) (home : SeatView) → about_in (with_home chip home) ≡ about_in chip
 about_with None home = refl
 about_with (Some scene) home = refl
@@ -49,7 +49,7 @@ pub second_list : (chip : ChipView) (r q : ℕ) → r ≡ 0 → q ≡ 1 → IsNe
 second_list None r q zero one pair = pair.new.empty q
 second_list (Some scene) r q zero one pair = ap list_or_none (known_there scene.home r None q (λ e. one_not_zero (sym one ∙ e ∙ zero))) ∙ pair.new.empty q
 
--- a call that is refused leaves the port as it was
+-- a call that is rejected leaves the port as it was
 pub either_rests : {T E P : Type 0} (r : Result T E) (s t : Sight) → OnErr r (t ≡ s) → OnOk r P → (P → IsPortAtRest t) → IsPortAtRest s → IsPortAtRest t
 either_rests (Ok x) s t refused done rests rest = rests done
 either_rests (Err x) s t refused done rests rest = subst (λ (x : Sight). IsPortAtRest x) (sym refused) rest

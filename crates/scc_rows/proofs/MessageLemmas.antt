@@ -1,4 +1,4 @@
--- How messages begin at the ranks of a chip that was just opened.
+-- How messages begin at the ranks of a new chip.
 use Rattle.std.proofs.Common.{◌≡◌, ℕ, true, not, ◌==◌, ◌&&◌, nat_lt, None, ◌∙◌, ap}
 use Rattle.scc_proto.specs.Words.{are_peers}
 use Rattle.scc_proto.specs.Ports.{Seat, Sight}

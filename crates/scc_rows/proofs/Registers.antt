@@ -1,4 +1,4 @@
--- What a rank's record says of a register after it was asked for and freed.
+-- What a rank's record reports about a register after the rank read it and freed it.
 use Rattle.std.proofs.Common.{◌≡◌, ℕ, Bool, true, false, [], ◌∷◌, Option, None, Some, IfSome, IfNone, is_some, is_none, refl, ◌∙◌, ap}
 use Rattle.scc_base.specs.Events.{take_of, free_of}
 use Rattle.scc_proto.specs.Stages.{Record, FlagWords}

@@ -55,7 +55,7 @@ module _ (seat : Seat) (rec : Record) (place : WordAt) (value : ℕ) (idle : rec
   unfolding record_next act_of
   load_keeps = by_role (role_of seat.setup place)
 
--- events leave a port at rest where its stage stays idle
+-- events leave a port at rest if its stage stays idle
 pub did_keeps : (s : Sight) (es : List Event) (t : Sight) → Did s es t → IsPortAtRest s → (record_on s.seat (record_in s) es).stage ≡ Idle → IsPortAtRest t
 did_keeps s es t did rest idle = record {
   valid = subst (λ (x : Seat). IsSetup x.setup) (sym (seat_kept s es t did)) rest.valid;

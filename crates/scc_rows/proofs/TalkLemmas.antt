@@ -1,4 +1,4 @@
--- A message stands where the events of a rank stand, whatever port shows them.
+-- The state of a message agrees with the events of its rank, whatever port shows them.
 use Rattle.std.proofs.Common.{◌≡◌, ℕ, true, List, [], ◌++◌, Option, None, Some, length, take, refl, sym, ◌∙◌, ap, subst}
 use Rattle.std.proofs.Math.Seq.{take-append_seam}
 use base.Stored.{Gv, gnil}
@@ -23,7 +23,7 @@ use Rattle.send_recv.proofs.OtherPort.{free_there, receive_there, send_there, sl
 use Rattle.chip_teams.specs.Teams.{sight_alone}
 use Rattle.scc_rows.specs.Talkers.{IsAtCall, IsTalking}
 
--- what stands at a port stands at every port of the same rank
+-- a state that agrees with a port agrees with every port of the same rank
 module _ (s : Sight) (m r : Gv) (h : ℕ) where
   call_at : (c : Private) (slot : SlotAt) (bytes : List ℕ) (send : Option SendAt) (get : Option RecvAt) → IsAtCall s c slot bytes send get → IsAtCall (at_port s m r h) c slot bytes send get
   call_at c slot bytes (Some op) get st = send_there s m r h c op slot bytes st
@@ -34,7 +34,7 @@ module _ (s : Sight) (m r : Gv) (h : ℕ) where
       → IsTalking (at_port s m r h) c slot peer bytes send get
   talk_at c slot peer bytes send get st = record { peers = st.peers; at = call_at c slot bytes send get st.at }
 
--- what stands where a rank's events stand stands at a port that shows them, and the other way round
+-- a state that agrees with a rank's events agrees with every port that shows them, and conversely
 pub talk_shown : {s : Sight} {c : Private} {slot : SlotAt} {peer : ℕ} {bytes : List ℕ} {send : Option SendAt} {get : Option RecvAt}
     → IsTalking (sight_alone s.seat.setup s.seat.rank s.events) c slot peer bytes send get → IsTalking s c slot peer bytes send get
 talk_shown {s} {c} {slot} {peer} {bytes} {send} {get} st = talk_at (sight_alone s.seat.setup s.seat.rank s.events) s.seat.mark s.seat.rest s.seat.hold c slot peer bytes send get st
@@ -43,7 +43,7 @@ pub talk_alone : {s : Sight} {c : Private} {slot : SlotAt} {peer : ℕ} {bytes :
     → IsTalking s c slot peer bytes send get → IsTalking (sight_alone s.seat.setup s.seat.rank s.events) c slot peer bytes send get
 talk_alone {s} {c} {slot} {peer} {bytes} {send} {get} st = talk_at s gnil gnil 0 c slot peer bytes send get st
 
--- which call is under way at a port that shows the events
+-- the call that is unfinished, at a port that shows the events
 pub is_sending : {s : Sight} {c : Private} {slot : SlotAt} {peer : ℕ} {bytes : List ℕ} {send : Option SendAt} {get : Option RecvAt} {op : SendAt}
     → IsTalking (sight_alone s.seat.setup s.seat.rank s.events) c slot peer bytes send get → send ≡ Some op → SendStands s c op slot bytes
 is_sending {s} {c} {slot} {peer} {bytes} {send} {get} st is = subst (λ (x : Option SendAt). IsAtCall s c slot bytes x get) is (talk_shown st).at
@@ -85,7 +85,7 @@ pub receive_goes_on : {s t : Sight} {c d : Private} {op now : RecvAt} {slot : Sl
     → IsTalking t d slot peer after None (Some now)
 receive_goes_on peers slot turned st = record { peers = peers_kept _ turned.events turned.did peers; at = (st, slot_after turned.events turned.did turned.post slot) }
 
--- a call that is at its end
+-- a call that ends
 pub receive_is_over : {s t : Sight} {c d : Private} {op now : RecvAt} {slot : SlotAt} {bytes after : List ℕ} {peer : ℕ}
     → are_peers s.seat.setup s.seat.rank peer ≡ true → SlotStands s.seat (record_in s) slot → RecvTurned (receiving s c op bytes) (receiving t d now after) recv_turn.Done → RecvStands t d now after
     → IsTalking t d slot peer after None None

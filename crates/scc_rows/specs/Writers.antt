@@ -5,6 +5,6 @@ use Rattle.scc_base.specs.Setups.{host_of}
 use Rattle.scc_proto.specs.Ports.{Sight, record_in}
 use Rattle.tas_lock.specs.Holds.{IsNotHolding}
 
--- where the flag is a bit, the rank does not hold the register of the rank at which it is
+-- if the flag is a bit, the rank does not hold the register of the rank that has the flag
 abbrev pub MayTake : Sight → ℕ → FlagPlace → Type 0
 MayTake s r f = IfSome f.bit (λ b. IsNotHolding (record_in s) (host_of s.seat.setup.hosts r))

@@ -1,4 +1,4 @@
-//! Blank chips, and ranks that are away, in this thread and in others.
+//! Blank chips, and ranks whose ports are in a thread: this one or others.
 
 ghost use Rattle.std.specs.Prelude.{◌≡◌, ◌<◌, ◌⊎◌, ℕ, [], IsSomeAnd, IfOk, Contains};
 ghost use Rattle.scc_base.specs.Events.{load_of};
@@ -21,7 +21,7 @@ use std::test::Fail;
 use std::thread;
 use std::thread::Threads;
 
-// Whether a blank chip is open once it was opened with a setup of 48 ranks, and not before.
+// Whether a blank chip is open after it was opened with a setup of 48 ranks, and not before.
 fn opens(alloc: Global) -> bool {
     let Some(setup) = world_of(48, Layout::lines()) else {
         return false;
@@ -37,7 +37,7 @@ fn a_blank_chip_opens(rt: HostRuntime) {
     assert!(rt; opens(rt.alloc()));
 }
 
-// A chip of two ranks that was just opened.
+// A new chip of two ranks.
 fn opened_pair(alloc: Global) -> Result<Chip, Fail>
     ensures whole { IfOk result (λ chip. IsWhole chip) }
     ensures ranks { IfOk result (λ chip. (about_in chip).nue ≡ 2) }
@@ -55,7 +55,7 @@ fn load_once(words: Words<'_>, token: Token) -> Token
     port.into_token()
 }
 
-/// A heap word at the own core.
+/// A heap word on its own core.
 fn own_word<P: Port>(port: &P) -> Place
     ensures gives { result ≡ record {
       core = host_of (P.sight port.now).seat.setup.hosts (P.sight port.now).seat.rank;
@@ -107,8 +107,7 @@ fn step_held(words: Words<'_>, token: &mut Option<Token>, rank: Rank, value: u64
     *token = Some(step_token(words, held, value));
 }
 
-// Two ranks step on the same words, each in a thread of its own: the words and a token go into the one, a port
-// into the other.
+// Two ranks access the same words, each in a separate thread: the words and a token go into one, a port into the other.
 fn both_step<R: Threads + Sync>(
     rt: &R,
     words: Words<'_>,
@@ -153,7 +152,7 @@ fn gather_both(chip: &mut Chip, first: Token, second: Token)
     chip.gather(second);
 }
 
-// After all ranks came home from their threads, the chip's words and their records agree.
+// After all ranks' ports are back with the chip, its words and their records agree.
 fn step_apart<R: Threads + Sync>(rt: &R, chip: &mut Chip)
     requires whole { IsWhole chip.old }
     requires ranks { (about_in chip.old).nue ≡ 2 }
@@ -184,7 +183,7 @@ fn sees_both<P: Port>(port: &mut P) -> bool {
     first == 7 && second == 8
 }
 
-// Whether rank 0 does once it is home from its thread.
+// Whether rank 0 does, after its port is back with the chip.
 fn sees_both_at_home<R: Threads + Sync>(rt: &R, chip: &mut Chip) -> bool
     requires whole { IsWhole chip.old }
     requires ranks { (about_in chip.old).nue ≡ 2 }

@@ -24,7 +24,7 @@ pub(crate) trait Enters: Player + Drop {
     ghost use Rattle.scc_base.specs.Communicators.{rule_of};
     ghost use Rattle.scc_base.specs.declared.communicators.CommRule.TheVariants.{Absent};
 
-    /// It is to enter the next one, and `more` behind it where it counts them.
+    /// A rank that enters the next barrier, and `more` after it, if it counts them.
     fn at(comm: u8, more: u8) -> Self
         requires below { comm < 16 }
         ensures ready { (s : SetupView) (r : ℕ) → rule_of s.comms comm ≢ Absent → Self.stands result s r [] };
@@ -75,7 +75,7 @@ impl Player for Entrant {
     }
 }
 
-// All ranks of a chip, for barriers of this communicator: each for the first one and `more` behind it.
+// All ranks of a chip, for barriers of this communicator: each enters the first one and `more` after it.
 pub(crate) fn entrants<M: Enters>(
     alloc: Global,
     chip: Chip,
@@ -171,7 +171,7 @@ fn shows_groups(alloc: Global, nue: u8, steps: &[Step]) -> Result<(), Fail> {
     Ok(())
 }
 
-/// Both groups are at it at once. Rank 0 alone does not pass a barrier of its group, and passes it with rank 2.
+/// Both groups are in it at once. Rank 0 alone does not pass a barrier of its group, and passes it with rank 2.
 const BOTH_GROUPS: &[Step] = &[
     Step::Turn(0, Answer::Moves),
     Step::Turn(1, Answer::Moves),
@@ -209,7 +209,7 @@ fn entered_by_root(chip: &mut Chip, polls: u32) -> Result<(), BarStop>
     barrier(&mut core, &mut port, BarOp::new(0), &mut parity, polls)
 }
 
-// Whether a barrier stalled at this line of the other core, after two tries.
+// Whether a barrier stalled at this line of the other core, after two failed polls.
 fn is_stalled(answer: Result<(), BarStop>, line: u8) -> bool {
     let place = Place::new(CoreId::of(46), line, 0);
     match answer {

@@ -17,7 +17,7 @@ use send_recv::{RecvOp, RecvStop, SendOp, SendStop, Slot, recv, recv_test, send}
 use std::alloc::Global;
 use std::test::Fail;
 
-/// How many vain tries in a row end a call.
+/// How many failed polls in a row end a call.
 pub(crate) const POLLS: u32 = 3;
 
 /// A call of a rank.
@@ -29,7 +29,7 @@ pub(crate) enum Deed {
     Test,
 }
 
-/// What a call came to.
+/// The result of a call.
 #[derive(Drop, PartialEq)]
 pub(crate) enum End {
     Done,
@@ -38,7 +38,7 @@ pub(crate) enum End {
     OtherHead { sent: Head, asked: Head },
 }
 
-/// A call that is to come, with the bytes that it is handed.
+/// A call that is not made yet, with its bytes.
 #[derive(Drop)]
 struct Call {
     deed: Deed,
@@ -56,9 +56,9 @@ pub(crate) struct Caller {
     // The call that gave up, if one did.
     sending: Option<SendOp>,
     receiving: Option<RecvOp>,
-    // The calls to come, the next one last.
+    // The calls not made yet, the next one last.
     calls: Vec<Call>,
-    // What the last call came to.
+    // The result of the last call.
     pub end: Option<End>,
 }
 
@@ -89,7 +89,7 @@ impl Caller {
         }
     }
 
-    // A send or a post from where it stands.
+    // Continues a send or a post.
     fn send_on<P: Port>(&mut self, port: &mut P, op: SendOp)
         requires peers { are_peers (P.sight port.old).seat.setup (P.sight port.old).seat.rank self.old.peer ≡ true }
         requires stands { SendStands (P.sight port.old) self.old.core op self.old.slot self.old.bytes.items }
@@ -110,7 +110,7 @@ impl Caller {
         }
     }
 
-    // A receive from where it stands.
+    // Continues a receive.
     fn receive_on<P: Port>(&mut self, port: &mut P, op: RecvOp)
         requires peers { are_peers (P.sight port.old).seat.setup (P.sight port.old).seat.rank self.old.peer ≡ true }
         requires stands { RecvStands (P.sight port.old) self.old.core op self.old.bytes.items }

@@ -53,7 +53,7 @@ fn roots_and_others_have_so_many_steps(rt: HostRuntime) {
     }
 }
 
-// A step as a table can tell it: with the other rank's number, and the kind, the communicator and the length of the head.
+// A step as a table states it: with the other rank's number, and the kind, the communicator and the length of the head.
 enum Told {
     Begin,
     Send(u8, Kind, u8, u32),
@@ -321,7 +321,7 @@ const LENGTHS: &[(Ty, usize, usize, bool)] = &[
     (Ty::Long, 8, 0, false),
 ];
 
-// Whether bytes of these lengths are folded where they fit, and are else refused with both lengths and not changed.
+// Whether bytes of these lengths are folded if they fit, and are otherwise rejected with both lengths and not changed.
 fn answers(ty: Ty, acc_len: usize, more_len: usize, fits: bool) -> bool {
     if acc_len > 16 || more_len > 16 {
         return false;

@@ -1,4 +1,4 @@
-//! A chip of two ranks, its ports, and an evictor that tells how often it was asked.
+//! A chip of two ranks, its ports, and an evictor that counts how often it was asked.
 
 ghost use Rattle.std.specs.Prelude.{◌≡◌, ◌<◌, ◌≤◌, ℕ, true, false, None, IfOk, IfSome, IfNone};
 ghost use Rattle.scc_base.specs.Setups.{host_of};
@@ -21,21 +21,21 @@ use tas_lock::{Held, release, try_acquire};
 /// Both layouts of the flags.
 pub(crate) const LAYOUTS: &[Layout] = &[Layout::LineFlags, Layout::BitFlags];
 
-/// A setup of `nue` ranks, each on the core of its number, with the world alone.
+/// A setup of `nue` ranks, each on the core of its number, with only the world.
 pub(crate) fn world_of(nue: u8, layout: Layout) -> Option<Setup>
     ensures ranks { IfSome result (λ s. s.nue ≡ nue) }
 {
     Setup::new(nue, layout, own_cores(), world_alone())
 }
 
-/// A chip of two ranks that was just opened, with line flags.
+/// A new chip of two ranks, with line flags.
 pub(crate) fn new_pair(alloc: Global) -> Result<Chip, Fail>
     ensures pair { IfOk result (λ chip. IsNewPair chip) }
 {
     pair_in(alloc, Layout::lines())
 }
 
-/// A chip of two ranks that was just opened.
+/// A new chip of two ranks.
 pub(crate) fn pair_in(alloc: Global, layout: Layout) -> Result<Chip, Fail>
     ensures pair { IfOk result (λ chip. IsNewPair chip) }
 {
@@ -73,12 +73,12 @@ fn spread_pair(chip: &mut Chip) -> Pair<'_>
     }
 }
 
-/// What the two ranks of a new chip do, with no message and no barrier under way before it.
+/// What the two ranks of a new chip do; no message and no barrier is unfinished before it.
 pub(crate) trait Meeting {
     ghost use Rattle.std.specs.Prelude.{ℕ};
     ghost use Rattle.scc_rows.specs.Rests.{IsPortAtRest, IsFreshPort, IsWithout};
 
-    /// Whether it goes as it is named.
+    /// Whether the ranks behave as the test's name states.
     fn holds<P: Port, Q: Port>(first: &mut CountingPort<P>, second: &mut CountingPort<Q>) -> bool
         requires first_rests { IsPortAtRest (P.sight first.old.port) }
         requires second_rests { IsPortAtRest (Q.sight second.old.port) }
@@ -98,13 +98,13 @@ fn holds_on<M: Meeting>(chip: &mut Chip) -> bool
     M::holds(&mut first, &mut second)
 }
 
-/// Whether a meeting at a chip of two ranks that was just opened goes as it is named.
+/// Whether a meeting at a new chip of two ranks holds.
 fn holds_in<M: Meeting>(alloc: Global, layout: Layout) -> Result<bool, Fail> {
     let mut chip = pair_in(alloc, layout)?;
     Ok(holds_on::<M>(&mut chip))
 }
 
-/// Nothing where a test goes as it is named, and else its failure.
+/// Nothing if a test holds, and else its failure.
 pub(crate) fn as_named(goes: bool) -> Result<(), Fail> {
     if goes {
         Ok(())
@@ -113,7 +113,7 @@ pub(crate) fn as_named(goes: bool) -> Result<(), Fail> {
     }
 }
 
-/// Shows that a meeting at such a chip, with line flags, goes as it is named.
+/// Shows that a meeting at such a chip, with line flags, holds.
 pub(crate) fn shows<M: Meeting>(alloc: Global) -> Result<(), Fail> {
     shows_in::<M>(alloc, Layout::LineFlags)
 }
@@ -137,7 +137,7 @@ pub(crate) fn has_text<T: Display>(alloc: Global, value: &T, text: &str) -> Resu
     as_named(shown.as_str() == text)
 }
 
-/// Puts lines, by a rank with no message and no barrier under way.
+/// Puts lines, by a rank with no unfinished message or barrier.
 pub(crate) fn put<P: Port, V: Evict>(
     core: &mut Core<V>,
     port: &mut P,
@@ -155,7 +155,7 @@ pub(crate) fn put<P: Port, V: Evict>(
     core.put(port, to, at, src)
 }
 
-/// Gets lines, by a rank with no message and no barrier under way.
+/// Gets lines, by a rank with no unfinished message or barrier.
 pub(crate) fn get<P: Port, V: Evict>(
     core: &mut Core<V>,
     port: &mut P,
@@ -172,7 +172,7 @@ pub(crate) fn get<P: Port, V: Evict>(
     core.get(port, from, at, dst)
 }
 
-/// Reads a word, by a rank with no message and no barrier under way.
+/// Reads a word, by a rank with no unfinished message or barrier.
 pub(crate) fn read<P: Port, V: Evict>(core: &mut Core<V>, port: &mut P, place: Place) -> u64
     requires rests { IsPortAtRest (P.sight port.old) }
     requires empty { core.old.out ≡ None }
@@ -194,7 +194,7 @@ pub(crate) fn heap_word<P: Port>(port: &P, at: Rank, line: u8, word: u8) -> Plac
     Place::new(port.setup().core_of(at), line, word)
 }
 
-/// Stores a heap word, by a rank with no message and no barrier under way.
+/// Stores a heap word, by a rank with no unfinished message or barrier.
 pub(crate) fn store<P: Port>(port: &mut P, at: Rank, line: u8, word: u8, value: u64)
     requires rests { IsPortAtRest (P.sight port.old) }
     requires rank_below { at < 2 }
@@ -271,7 +271,7 @@ pub(crate) fn give_back<P: Port>(port: &mut P, held: Held)
     release(port, held);
 }
 
-/// Another evictor, with the numbers of its questions and of the lines that it had dropped told outside.
+/// Another evictor, whose counts of questions and of evicted lines can be read from outside.
 #[derive(Drop)]
 pub(crate) struct Watched<'a, E> {
     pub inner: E,

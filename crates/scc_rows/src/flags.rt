@@ -13,7 +13,7 @@ use scc_proto::Port;
 use std::test::Fail;
 use sync_flags::{Flag, flag_read, flag_write, wait_until};
 
-/// Writes a flag at a rank, by a rank with no message and no barrier under way.
+/// Writes a flag at a rank, by a rank with no unfinished message or barrier.
 fn write<P: Port, V: Evict>(
     core: &mut Core<V>,
     port: &mut P,
@@ -45,13 +45,13 @@ fn read<P: Port, V: Evict>(core: &mut Core<V>, port: &mut P, at: Rank, flag: Fla
     flag_read(core, port, at, flag)
 }
 
-/// Whether a call stalled there after `polls` tries.
+/// Whether a call stalled there after `polls` failed polls.
 pub(crate) fn stalls(answer: Result<(), Stalled>, spot: Spot, polls: u32) -> bool {
     answer == Err(Stalled { spot, polls })
 }
 
-// Whether rank 1 waits in vain for its flag, with this bit of word 0 in line 230, and then sees that rank 0 sets it
-// and clears it again.
+// Whether rank 1 first polls its flag, this bit of word 0 in line 230, without success, and then sees that rank 0 sets it and clears it
+// again.
 fn is_seen<P: Port, Q: Port>(first: &mut P, second: &mut Q, flag: FlagAt, bit: u8) -> bool
     requires rests { IsPortAtRest (P.sight first.old) }
     requires free { MayTake (P.sight first.old) 1 flag }

@@ -1,4 +1,4 @@
-//! The lines that a core holds, and evictors, with values that an independent program gave.
+//! The lines that a core holds, and evictors, with values from an independent program.
 
 use line_cache::{Always, Cache, Choice, Evict, Never, Seeded};
 use scc_base::{CoreId, Line};
@@ -15,7 +15,7 @@ fn bring(cache: &mut Cache, at: Line, number: u64) {
     }
 }
 
-/// Brings each line of a core in, with a number as each word that is one more at each line.
+/// Brings each line of a core in; each word of a line has one number, which increases by one from line to line.
 fn bring_all(cache: &mut Cache, core: u8, first: u16) {
     for number in 0..=255u8 {
         bring(
@@ -68,10 +68,9 @@ fn ten_answers<V: Evict>(rt: &impl Abort, evict: &mut V, want: [Option<usize>; 1
     }
 }
 
-// The answers were computed by a program in C, written apart from line_cache: the seed is expanded to 16
-// bytes as the crate rand_core does it (four steps of a PCG, each word with its lowest byte first), and PCG
-// XSH RR 64/32 is started from these bytes as state and increment. Each word that 4 divides gives the
-// quotient modulo 512, each other word nothing.
+// A separate program in C, written apart from line_cache, computed the answers. It expands the seed to 16 bytes as the crate rand_core
+// does: four steps of a PCG, each word with its lowest byte first. It starts PCG XSH RR 64/32 from these bytes as state and increment. Each
+// word that is a multiple of 4 gives the quotient modulo 512, each other word nothing.
 #[test]
 fn seeded_answers_are_those_of_an_independent_program(rt: HostRuntime) {
     let mut first = Seeded::new(1);
@@ -110,7 +109,7 @@ fn seeded_answers_are_those_of_an_independent_program(rt: HostRuntime) {
     );
 }
 
-/// Whether an evictor gives this answer at one held line and at a full cache, and drops nothing where none is held.
+/// Whether an evictor returns this answer at one held line and at a full cache, and evicts nothing if no line is held.
 fn always_answers<V: Evict>(evict: &mut V, want: Option<usize>) -> bool {
     evict.drop_one(0).is_none() && evict.drop_one(1) == want && evict.drop_one(512) == want
 }

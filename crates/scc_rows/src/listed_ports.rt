@@ -9,7 +9,7 @@ use scc_proto::Port;
 use std::alloc::Global;
 use std::process::Abort;
 
-/// A port of rank 0 to a chip with the registers and one core's heap. It ends the test where it cannot keep an event.
+/// A port of rank 0 to a chip with the registers and one core's heap. It ends the test if it cannot keep an event.
 #[derive(Drop)]
 pub(crate) struct ListedPort<'a, R: Abort> {
     pub rt: &'a R,
@@ -27,7 +27,7 @@ fn index_of(p: Place) -> usize
     usize::from(p.line() - Buf::FIRST) * 4 + usize::from(p.word())
 }
 
-// Keeps one more event. It ends the test where memory is short.
+// Keeps one more event. It ends the test if memory runs out.
 fn keep<R: Abort>(rt: &R, events: &mut Vec<Event>, event: Event)
     requires events { are_quiet events.old.items ≡ true }
     requires event { is_quiet_access event.access event.place ≡ true }

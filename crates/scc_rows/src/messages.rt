@@ -20,7 +20,7 @@ use send_recv::{RecvOp, RecvTurn, SendOp, Slot};
 use std::alloc::Global;
 use std::test::Fail;
 
-/// What a rank is to do with a message.
+/// What a rank does with a message.
 #[derive(Clone, Copy)]
 pub(crate) enum Deed {
     Send,
@@ -28,13 +28,13 @@ pub(crate) enum Deed {
     Receive,
 }
 
-/// A message that is to come.
+/// A message that is not sent or received yet.
 #[derive(Drop)]
 pub(crate) struct Task {
     deed: Deed,
-    // The bytes that the call is handed.
+    // The bytes of the call.
     bytes: Vec<u8>,
-    // The bytes that a receive is to find.
+    // The bytes that a receive must find.
     wanted: Vec<u8>,
 }
 
@@ -58,7 +58,7 @@ pub(crate) fn post_head_of(bytes: &[u8]) -> Option<PostHead>
     PostHead::plain(bytes.len() as u32)
 }
 
-// One where these are the bytes that were to be found, and none elsewhere.
+// One if these are the bytes that the receive must find, and else 0.
 fn arrivals(bytes: &[u8], wanted: &[u8]) -> u32 {
     (bytes == wanted) as u32
 }
@@ -69,17 +69,17 @@ pub(crate) struct Talker<V: Evict + Drop> {
     core: Core<V>,
     slot: Slot,
     peer: Rank,
-    // The bytes of the call under way, and those that a receive is to find.
+    // The bytes of the unfinished call, and those that a receive must find.
     bytes: Vec<u8>,
     wanted: Vec<u8>,
-    // The call under way, if there is one.
+    // The unfinished call, if there is one.
     sending: Option<SendOp>,
     receiving: Option<RecvOp>,
-    // The messages to come, the next one last.
+    // The messages not begun yet, the next one last.
     tasks: Vec<Task>,
-    // How many messages were received with the bytes that were to be found.
+    // How many messages were received with the right bytes.
     pub arrived: u32,
-    // The head that a receive met in place of its own, and how many bytes it asked for.
+    // The head that a receive met instead of the expected one, and how many bytes it asked for.
     pub met: Option<Head>,
     pub asked: usize,
 }
@@ -262,7 +262,7 @@ fn tasks_of(alloc: Global, deeds: &[(Deed, usize)]) -> Result<Vec<Task>, Fail> {
     Ok(tasks)
 }
 
-// A team of two ranks, on a chip that was just opened.
+// A team of two ranks, on a new chip.
 pub(crate) fn team_of_two<M: Player + Drop>(
     alloc: Global,
     chip: Chip,
@@ -306,12 +306,12 @@ pub(crate) fn talking<V: Evict + Default + Drop>(
     team_of_two(alloc, chip, first, second)
 }
 
-// How many messages of rank 1 arrived as they were to.
+// How many messages of rank 1 arrived with the right bytes.
 fn arrived_in<V: Evict + Drop>(team: &Team<Talker<V>>) -> u32 {
     team.player(1).map_or(0, |talker| talker.arrived)
 }
 
-// Whether `arrived` messages of rank 1 have arrived once the ranks have taken these steps.
+// Whether `arrived` messages of rank 1 have arrived after the ranks have taken these steps.
 pub(crate) fn arrive_by<V: Evict + Drop>(
     team: &mut Team<Talker<V>>,
     steps: &[Step],
@@ -369,7 +369,7 @@ const SENT_AND_POSTED: &[(Deed, usize)] = &[(Deed::Send, 6_625), (Deed::Post, 40
 
 const BOTH_RECEIVED: &[(Deed, usize)] = &[(Deed::Receive, 6_625), (Deed::Receive, 40)];
 
-// Shows that messages sent and posted arrive, where each fill of either rank evicts a line.
+// Shows that messages sent and posted arrive, although each fill of either rank evicts a line.
 fn shows_evictions(alloc: Global, layout: Layout) -> Result<(), Fail> {
     shows_exchange::<Always>(alloc, layout, SENT_AND_POSTED, BOTH_RECEIVED, IN_TURN, 2)
 }

@@ -69,7 +69,7 @@ fn kinds_have_their_numbers(rt: HostRuntime) {
     assert!(rt; Kind::from_number(5).is_none());
 }
 
-// The line of a flag, its word in the line, and its bit of the word where it is one.
+// The line of a flag, its word in the line, and its bit of the word if it is one.
 type FlagRow = (u8, u8, Option<u8>);
 
 fn stands_at(flag: FlagAt, row: FlagRow) -> bool {
@@ -173,7 +173,7 @@ const BUFFERS: &[(u8, u8, bool)] = &[
     (0, 255, false),
 ];
 
-// Whether there is such a buffer where it fits, with the lines that were asked for, and none elsewhere.
+// Whether there is such a buffer if it fits, with the lines that were asked for, and none if it does not.
 fn is_buffer(first: u8, lines: u8, fits: bool) -> bool {
     match Buf::new(first, lines) {
         Some(buf) => fits && buf.first() == first && buf.lines() == lines,

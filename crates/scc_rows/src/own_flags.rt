@@ -101,7 +101,7 @@ fn a_wait_stalls_after_its_polls(rt: HostRuntime) {
     assert!(rt; stalls(stalled, Spot::Flag { place, bit: 7 }, 3) && port.events.len() == 12);
 }
 
-// Whether a bit is written alone where two others of its word are set, and then read.
+// Whether a bit is written while two others of its word are set, leaves them as they are, and is then read.
 fn is_changed_alone<R: Abort>(port: &mut ListedPort<'_, R>, buffer: &Buf) -> bool
     requires fresh { port.old.events.items ≡ [] }
 {

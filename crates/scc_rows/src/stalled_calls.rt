@@ -1,4 +1,4 @@
-//! Rows of whole calls in turn: what each comes to, and that a call that stalled goes on.
+//! Rows of whole calls in turn: the result of each, and that a call that stalled goes on.
 
 use crate::callers::{Caller, Deed, End, POLLS, calling};
 use crate::fixtures::{LAYOUTS, as_named};
@@ -8,18 +8,18 @@ use scc_base::{Head, Layout, Spot};
 use std::alloc::Global;
 use std::test::Fail;
 
-/// What a call of a rank is to come to.
+/// The result that a call of a rank must have.
 #[derive(Clone, Copy)]
 enum Want {
     Done,
     // It is done, and the receiver's bytes are then those that were sent last.
     Arrives,
     NothingSent,
-    // It stalls at the flag by which rank 0 tells a message.
+    // It stalls at the flag by which rank 0 announces a message.
     Unsent,
     // It stalls at the flag at which rank 0 waits for the answer.
     Unanswered,
-    // It is told of a head of 8 bytes where it asked for one of 4.
+    // It asked for 4 bytes and met a head of 8.
     EightForFour,
 }
 
@@ -44,7 +44,7 @@ fn end_of(want: Want, layout: Layout) -> Option<End> {
     }
 }
 
-// Whether the next call of a rank comes to this end.
+// Whether the next call of a rank has this result.
 fn comes_to(team: &mut Team<Caller>, at: usize, end: Option<End>) -> bool {
     let _ = team.turn(at);
     match team.player(at) {
@@ -61,7 +61,7 @@ fn has_arrived(team: &Team<Caller>) -> bool {
     }
 }
 
-// Whether the next calls of these ranks come to what is wanted, one after the other.
+// Whether the next calls of these ranks have the wanted results, one after the other.
 fn come_to(team: &mut Team<Caller>, layout: Layout, wants: &[(usize, Want)]) -> bool {
     for &(at, want) in wants {
         if !comes_to(team, at, end_of(want, layout)) {
@@ -74,7 +74,7 @@ fn come_to(team: &mut Team<Caller>, layout: Layout, wants: &[(usize, Want)]) -> 
     true
 }
 
-// Shows that the calls of both ranks come to what is wanted.
+// Shows that the calls of both ranks have the wanted results.
 fn shows_calls(
     alloc: Global,
     layout: Layout,
@@ -143,7 +143,7 @@ const RECEIVES: &[(Deed, usize)] = &[(Deed::Receive, 4), (Deed::Receive, 8)];
 
 const TESTS: &[(Deed, usize)] = &[(Deed::Test, 4), (Deed::Test, 8)];
 
-/// A call of 4 bytes is told that 8 were posted, and a call of 8 bytes then receives them.
+/// A call of 4 bytes reports that 8 were posted, and a call of 8 bytes then receives them.
 const TOLD: &[(usize, Want)] = &[(0, Want::Done), (1, Want::EightForFour), (1, Want::Arrives)];
 
 #[test]

@@ -1,12 +1,12 @@
-//! What a team of ranks does in a test, as a table can tell it.
+//! What a team of ranks does in a test, as a table states it.
 
 use chip_teams::{Player, Team};
 use scc_base::{CoreId, Place, Spot, Turn};
 
-/// What a rank's turn is to answer.
+/// What a rank's turn must answer.
 pub(crate) enum Answer {
     Passes,
-    // Anything but that it passes.
+    // Anything except that it passes.
     Stays,
     Moves,
     Waits,
@@ -14,9 +14,9 @@ pub(crate) enum Answer {
     WaitsAt(u8),
 }
 
-/// What a team is to do.
+/// What a team does.
 pub(crate) enum Step {
-    // Rounds of this order, as many at most, and whether all are done in them.
+    // At most so many rounds of this order, and whether all are done in them.
     Rounds(&'static [usize], u32, bool),
     // A turn of this rank.
     Turn(usize, Answer),

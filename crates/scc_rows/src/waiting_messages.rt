@@ -32,7 +32,7 @@ const SEND_FORTY: &[(Deed, usize)] = &[(Deed::Send, 40)];
 
 const RECEIVE_MORE: &[(Deed, usize)] = &[(Deed::Receive, 41), (Deed::Receive, 40)];
 
-// Whether a receive of rank 1 met a head of 40 bytes where it asked for 41.
+// Whether a receive of rank 1 asked for 41 bytes and met a head of 40.
 fn met_forty(team: &Team<Talker<Never>>) -> bool {
     match team.player(1) {
         Some(receiver) => receiver.met == Head::plain(40) && receiver.asked == 41,

@@ -17,7 +17,7 @@ use std::alloc::Global;
 use std::mem;
 use std::test::Fail;
 
-/// How many vain looks in a row end a whole barrier.
+/// How many failed polls in a row end a whole barrier.
 const POLLS: u32 = 3;
 
 /// A rank that passes barriers of a communicator by whole calls, one in each turn. A call that gave up goes on in the next turn.

@@ -88,7 +88,7 @@ fn is_kept(bytes: &[u8]) -> bool {
     bytes == SEVENS
 }
 
-// Whether a receive stalled here, after `tries` tries.
+// Whether a receive stalled here, after `tries` failed polls.
 fn is_stalled(answer: Result<(), RecvStop>, at: Spot, tries: u32) -> bool {
     match answer {
         Err(RecvStop::Stalled { op: _, spot, polls }) => spot == at && polls == tries,
@@ -101,7 +101,7 @@ fn is_nothing(answer: Result<bool, RecvStop>) -> bool {
     matches!(answer, Ok(false))
 }
 
-// The flag by which rank 0 tells a message to rank 1.
+// The flag by which rank 0 announces a message to rank 1.
 pub(crate) fn sent_spot() -> Spot {
     Spot::Flag {
         place: Place::new(CoreId::of(1), 1, 0),
@@ -124,7 +124,7 @@ pub(crate) fn answer_spot(layout: Layout) -> Spot {
     }
 }
 
-// Whether a post stalled at that flag, after `tries` tries.
+// Whether a post stalled at that flag, after `tries` failed polls.
 fn is_unanswered(answer: Result<(), SendStop>, layout: Layout, tries: u32) -> bool {
     match answer {
         Err(SendStop::Stalled { op: _, spot, polls }) => {
