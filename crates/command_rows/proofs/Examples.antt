@@ -1,4 +1,4 @@
--- Expected outcomes of the program of the tests, computed.
+-- Expected outcomes of the test program, computed.
 use Rattle.std.proofs.Common.{◌≡◌, ℕ, List, [], ◌∷◌, refl}
 use Rattle.std.specs.Prelude.{codes, decimal}
 use Rattle.rcce_io.specs.Files.{NamedFile}

@@ -1,4 +1,4 @@
-//! What no clause and no row says: that the longest texts arrive, and that the longest runs and the greatest logs end.
+//! What no clause and no row states: the longest texts arrive, and the longest runs and the greatest logs end.
 
 use crate::cases::{Ended, FOUR_BYTES, Given, NOWHERE, run};
 use crate::programs::{Audit, Launcher, Program};
@@ -7,7 +7,7 @@ use std::alloc::Global;
 use std::process::Abort;
 use std::thread::Threads;
 
-/// A run that finishes, and of what stands on out the length, the front and the back.
+/// A run that finishes, and the length, the front and the back of what it writes to out.
 struct Row {
     given: Given,
     len: usize,
@@ -16,7 +16,7 @@ struct Row {
 }
 
 impl Row {
-    /// Whether this came of the run.
+    /// Whether the run had this result.
     fn is_told_by(&self, ended: &Ended) -> bool {
         let out = ended.out.bytes();
         ended.status == Status::Finished
@@ -26,7 +26,7 @@ impl Row {
             && ended.err.bytes().is_empty()
     }
 
-    /// Whether it comes of its run.
+    /// Whether its run has this result.
     fn comes<R: Threads + Sync, P: Program>(&self, rt: &R, alloc: Global, program: &P) -> bool {
         match run(rt, alloc, program, &self.given, NOWHERE) {
             Ok(ended) => self.is_told_by(&ended),
@@ -41,7 +41,7 @@ fn expect<R: Threads + Sync + Abort, P: Program>(rt: &R, alloc: Global, program:
     }
 }
 
-/// The least that has something to tell.
+/// The smallest run that prints something.
 const FOUR: &[Row] = &[Row {
     given: Given {
         words: &["-nue", "2", "s"],

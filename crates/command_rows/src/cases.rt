@@ -1,4 +1,4 @@
-//! Runs of programs on files and sinks in memory, of which given calls fail.
+//! Runs of programs on files and sinks in memory, in which given calls fail.
 
 use crate::programs::Program;
 use outcomes::Status;
@@ -6,7 +6,7 @@ use rcce_io::{MemFiles, MemSink};
 use std::alloc::{AllocError, Global};
 use std::thread::Threads;
 
-/// The room of a sink, more than any test writes.
+/// The size of a sink, more than any test writes.
 const MOST_BYTES: usize = 8_388_608;
 
 /// What a program is given: its words, and the bytes of the files `h` and `s`.
@@ -17,7 +17,7 @@ pub struct Given {
     pub script: &'static [u8],
 }
 
-/// What comes of a run: its status, how many calls read files, and what stands on both sinks.
+/// The result of a run: its status, how many calls read files, and what it wrote to both sinks.
 #[derive(Clone, Copy)]
 pub struct Wanted<'a> {
     pub status: Status,
@@ -54,7 +54,7 @@ pub struct Ended {
 }
 
 impl Ended {
-    /// Whether this came of the run.
+    /// Whether the run had this result.
     pub fn is(&self, wanted: &Wanted) -> bool {
         self.status == wanted.status
             && self.reads == wanted.reads
@@ -63,7 +63,7 @@ impl Ended {
     }
 }
 
-/// Puts one word more behind words.
+/// Adds one word after the others.
 fn push_word(words: &mut Vec<String>, alloc: Global, text: &str) -> Result<(), AllocError> {
     words.push(String::from_str(alloc, text)?)?;
     Ok(())
@@ -95,7 +95,7 @@ fn sink(alloc: Global, failing: u64) -> Result<MemSink, AllocError> {
     Ok(sink)
 }
 
-/// Runs a program where these calls fail.
+/// Runs a program in which these calls fail.
 pub fn run<R: Threads + Sync, P: Program>(
     rt: &R,
     alloc: Global,
@@ -127,7 +127,7 @@ fn run_on<R: Threads + Sync, P: Program>(
     })
 }
 
-/// Whether this comes of a run where these calls fail.
+/// Whether a run in which these calls fail has this result.
 pub fn comes<R: Threads + Sync, P: Program>(
     rt: &R,
     alloc: Global,

@@ -1,4 +1,4 @@
-//! Ends of programs: texts of complaints, the ends of the program of the tests, numbers among words, and that there is memory.
+//! Ends of programs: texts of complaints, the ends of the test program, numbers among words, and that there is memory.
 
 use crate::cases::words_of;
 use crate::line_count::line_count;
@@ -20,7 +20,7 @@ struct Row {
     err: &'static str,
 }
 
-/// Where `a` holds two lines and a half, `most` as many bytes as are read, and `long` one more.
+/// Files of which `a` has two lines and a half, `most` as many bytes as are read, and `long` one more.
 fn three_files(alloc: Global) -> Result<MemFiles, AllocError> {
     let lines = vec![in alloc; b'\n'; 5_001]?;
     let mut files = MemFiles::new(alloc);
@@ -30,25 +30,25 @@ fn three_files(alloc: Global) -> Result<MemFiles, AllocError> {
     Ok(files)
 }
 
-/// A sink of which a write takes at most two bytes.
+/// A sink that takes at most two bytes at a write.
 fn sink(alloc: Global, failing: u64) -> Result<MemSink, AllocError> {
     let mut sink = MemSink::new(alloc, 64, 2)?;
     sink.fail_at(failing);
     Ok(sink)
 }
 
-/// Whether the call that was to fail, if one was, is the last of those that were made.
+/// Whether the call that was set to fail, if any, is the last one that was made.
 fn is_last(failing: u64, made: u64) -> bool {
     failing == 0 || failing == made
 }
 
-/// Whether this stands on a sink, and no write was made behind one that fails.
+/// Whether the sink has this text, and no write was made after a failed one.
 fn is_written(sink: &MemSink, failing: u64, text: &str) -> bool {
     sink.bytes() == text.as_bytes() && is_last(failing, sink.writes_made())
 }
 
-/// Whether a run of this status ends as its row says. No call is made behind one that fails, and none that reads a file where the
-/// words are refused.
+/// Whether a run of this status ends as its row states. No call is made after a failed one, and no call reads a file if the words are
+/// rejected.
 fn is_end(status: Status, reads: u64, out: &MemSink, err: &MemSink, row: &'static Row) -> bool {
     status == row.status
         && is_written(out, row.failing[1], row.out)
@@ -291,7 +291,7 @@ const COUNTS: &[(&str, Option<u8>)] = &[
     ("4294967296", None),
 ];
 
-/// A word, the numbers between which it is to be, and the number that it is.
+/// A word, the bounds of its number, and the number.
 const NUMBERS: &[(&str, u32, u32, Option<u32>)] = &[
     ("4294967295", 0, 4_294_967_295, Some(4_294_967_295)),
     ("9999999999", 0, 4_294_967_295, None),

@@ -1,4 +1,4 @@
-//! What no clause says: that a run ends as its clauses say where each call on its files and sinks fails in turn.
+//! What no clause states: a run ends as its clauses state if each call on its files and sinks fails in turn.
 
 use crate::cases::{FOUR_BYTES, Given, Wanted};
 use crate::faults::{Case, expect};
@@ -42,7 +42,7 @@ const TWO_WAIT: &Case = &Case {
     fault: b"rccerun: s: read fault\n",
 };
 
-/// A script is refused.
+/// A script is rejected.
 const A_SCRIPT_IS_REFUSED: &Case = &Case {
     given: Given {
         words: &["-nue", "2", "s"],
@@ -76,7 +76,7 @@ const HOSTS_ARE_READ: &Case = &Case {
     fault: b"rccerun: s: read fault\n",
 };
 
-/// A script of a number is in no file.
+/// `-gen` reads no file.
 const NO_FILE: &Case = &Case {
     given: Given {
         words: &["-nue", "2", "-gen", "0"],
@@ -180,7 +180,7 @@ const TWO_RANKS_GET: &Case = &Case {
     fault: b"",
 };
 
-/// Words are refused.
+/// Words are rejected.
 const NO_LENGTH: &Case = &Case {
     given: Given {
         words: &["2", "gather"],

@@ -1,4 +1,4 @@
-//! A case of a program, run whole and with each of its calls on its files and sinks failing in turn.
+//! A case of a program, run without a failure and with each of its calls on its files and sinks failing in turn.
 
 use crate::cases::{Failing, Given, NOWHERE, Wanted, comes};
 use crate::programs::Program;
@@ -7,21 +7,21 @@ use std::alloc::Global;
 use std::process::Abort;
 use std::thread::Threads;
 
-/// A run, and what comes of it where no call fails.
+/// A run, and its result if no call fails.
 pub struct Case {
     pub given: Given,
     pub wanted: Wanted<'static>,
     /// How many calls read the host file, which comes first.
     pub host_reads: u64,
-    /// What is told where the script, the log or the lab cannot be read.
+    /// The line on err if the script, the log or the lab cannot be read.
     pub fault: &'static [u8],
 }
 
-/// What is told where the host file cannot be read.
+/// The line on err if the host file cannot be read.
 const HOSTS_FAULT: &[u8] = b"rccerun: h: read fault\n";
 
 impl Case {
-    /// What comes of a run whose call of this number cannot read a file.
+    /// The result of a run whose call of this number cannot read a file.
     fn read_fault(&self, read: u64) -> Wanted<'static> {
         let err = if read <= self.host_reads {
             HOSTS_FAULT
@@ -37,7 +37,7 @@ impl Case {
     }
 }
 
-/// Each failing call that reads a file is told, and is the last one, and nothing is written to out.
+/// Each failing call that reads a file is reported, and is the last one, and nothing is written to out.
 fn expect_read_faults<R: Threads + Sync + Abort, P: Program>(
     rt: &R,
     alloc: Global,
@@ -81,8 +81,8 @@ fn expect_out_faults<R: Threads + Sync + Abort, P: Program>(
     }
 }
 
-/// Each failing write ends the text of err right there, behind the whole text of out. A call that reads a file fails too, if its
-/// number is not 0.
+/// Each failing write ends the text of err right there, after the complete text of out. A call that reads a file fails too, if its number
+/// is not 0.
 fn expect_err_faults<R: Threads + Sync + Abort, P: Program>(
     rt: &R,
     alloc: Global,
@@ -106,7 +106,7 @@ fn expect_err_faults<R: Threads + Sync + Abort, P: Program>(
     }
 }
 
-/// The same of a case, and of what it tells where its first call that reads a file fails.
+/// The same for a case, and for what it reports if its first call that reads a file fails.
 fn expect_untold<R: Threads + Sync + Abort, P: Program>(
     rt: &R,
     alloc: Global,
@@ -119,7 +119,7 @@ fn expect_untold<R: Threads + Sync + Abort, P: Program>(
     expect_err_faults(rt, alloc, program, &case.given, 0, &case.wanted);
 }
 
-/// Nothing changes where calls past the last of each kind are to fail.
+/// Nothing changes if calls past the last of each kind are set to fail.
 fn expect_whole<R: Threads + Sync + Abort, P: Program>(
     rt: &R,
     alloc: Global,
@@ -135,7 +135,7 @@ fn expect_whole<R: Threads + Sync + Abort, P: Program>(
     assert!(rt; comes(rt, alloc, program, &case.given, past, &case.wanted));
 }
 
-/// Runs each case whole, and then with each of its calls failing in turn.
+/// Runs each case without a failure, and then with each of its calls failing in turn.
 pub fn expect<R: Threads + Sync + Abort, P: Program>(
     rt: &R,
     alloc: Global,

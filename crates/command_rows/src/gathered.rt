@@ -17,7 +17,7 @@ impl TextSource for Line<'_> {
     }
 }
 
-/// Gathers texts of these lengths, and then writes what waits, where this is asked for.
+/// Gathers texts of these lengths, and then writes what waits, if this is asked for.
 fn gather_all(
     sink: &mut MemSink,
     long: &[u8],
@@ -35,11 +35,11 @@ fn gather_all(
     Ok(())
 }
 
-/// The lengths of texts, whether what waits is written at the end, the write that fails, if it is not 0, and what comes of it: how
-/// many bytes stand on the sink, by how many writes, and whether none failed.
+/// The lengths of texts, whether what waits is written at the end, the write that fails, if it is not 0, and the result. The result is how
+/// many bytes the sink has, by how many writes, and whether none failed.
 pub type GatherRow = (&'static [usize], bool, u64, (usize, u64, bool));
 
-/// Whether this comes of texts like this one, on a sink that takes all that it is given but at the write that fails.
+/// Whether texts like this one have this result, on a sink that takes all except at the write that fails.
 fn is_gathered(sink: &mut MemSink, long: &[u8], row: &'static GatherRow) -> bool {
     let (lens, flush, write, comes) = row;
     sink.fail_at(*write);
@@ -54,7 +54,7 @@ fn gathers(alloc: Global, long: &[u8], row: &'static GatherRow) -> bool {
     }
 }
 
-/// Whether each row is so.
+/// Whether each row holds.
 pub fn all_gather(alloc: Global, rows: &'static [GatherRow]) -> bool {
     for row in rows {
         if !gathers(alloc, &[7; 1_025], row) {

@@ -11,7 +11,7 @@ const TWO_RANKS: &[u8] =
 const ONE_RANK: &[u8] =
     b"even\nfill h 65535 65535\nrank me long\nrepeat 6\nallreduce 0 sum long me me\nend\nprint long me\nodd\nfill h 65535 65535\nrank me long\nrepeat 6\nallreduce 0 sum long me me\nend\nprint long me\n";
 
-/// Whether the script of a number for some ranks is this text.
+/// Whether the script generated from a seed for some ranks is this text.
 fn is_text(alloc: Global, nue: u8, number: u32, text: &[u8]) -> bool
     requires some { 1 ≤ nue }
     requires most { nue ≤ 48 }

@@ -1,14 +1,14 @@
-//! What no clause says: that a lab ends as its clauses say where each call on its file and the sinks fails in turn.
+//! What no clause states: a lab ends as its clauses state if each call on its file and the sinks fails in turn.
 
 use crate::cases::{Given, Wanted};
 use crate::faults::{Case, expect};
 use crate::programs::Laboratory;
 use outcomes::Status;
 
-/// What is told where the lab cannot be read.
+/// The line on err if the lab cannot be read.
 const LAB_FAULT: &[u8] = b"rccelab: s: read fault\n";
 
-/// An old copy is read, where the new word was expected.
+/// A core reads an old copy instead of the new word.
 const AN_OLD_COPY: &Case = &Case {
     given: Given {
         words: &["s"],
@@ -68,7 +68,7 @@ core 2 buffers nothing\n\
 line 3: core 2 free 5\n\
 2 free 5.register 0000000000000000 # register\n";
 
-/// A lab is refused.
+/// A lab is rejected.
 const NO_SUCH_CORE: &Case = &Case {
     given: Given {
         words: &["s"],
@@ -85,7 +85,7 @@ const NO_SUCH_CORE: &Case = &Case {
     fault: LAB_FAULT,
 };
 
-/// Words are refused.
+/// Words are rejected.
 const TWO_NAMES: &Case = &Case {
     given: Given {
         words: &["s", "h"],

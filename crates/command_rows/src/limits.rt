@@ -5,7 +5,7 @@ use script_reader::{ReadFault, ReadStop, read_script};
 use script_rules::FaultKind;
 use std::alloc::{AllocError, Global};
 
-/// Whether a file for one rank is accepted, where no fault is wanted, or else refused with this one.
+/// Whether a file for one rank is accepted, if no fault is wanted, or else rejected with this one.
 fn is_judged(alloc: Global, bytes: &[u8], wanted: &Option<ReadFault>) -> bool {
     match read_script(alloc, bytes, 1) {
         Ok(_) => wanted.is_none(),
@@ -14,7 +14,7 @@ fn is_judged(alloc: Global, bytes: &[u8], wanted: &Option<ReadFault>) -> bool {
     }
 }
 
-/// A script that names `count` registers, and has these statements behind them.
+/// A script that names `count` registers, and has these statements after them.
 fn naming(alloc: Global, count: u8, more: &[u8]) -> Result<Vec<u8>, AllocError> {
     let mut bytes = Vec::from_slice(alloc, b"all\n")?;
     for i in 0..count {
@@ -27,7 +27,7 @@ fn naming(alloc: Global, count: u8, more: &[u8]) -> Result<Vec<u8>, AllocError> 
     Ok(bytes)
 }
 
-/// How many registers a file names, the statements behind them, and its first fault, if it has one.
+/// How many registers a file names, the statements after them, and its first fault, if it has one.
 type Names = (u8, &'static [u8], Option<ReadFault>);
 
 const NAMES: &[Names] = &[

@@ -1,4 +1,4 @@
-//! A program of the tests: it reads one file, and prints how many lines end in it.
+//! A test program: it reads one file, and prints how many lines end in it.
 
 ghost use Rattle.std.specs.Prelude.{◌≡◌, ◌≤◌, codes, length, map, string_bytes};
 ghost use Rattle.outcomes.specs.Coming.{Comes, IsMeant};

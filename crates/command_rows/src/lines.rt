@@ -1,4 +1,4 @@
-//! What no clause says of the lines of a run: that a plain run has the same, and the texts of ends at the largest numbers.
+//! What no clause states about the lines of a run: a plain run has the same lines; and the texts of ends at the largest numbers.
 
 use crate::cases::{Given, NOWHERE, run};
 use crate::programs::{Launcher, Program};
@@ -82,7 +82,7 @@ fn the_plain_run_has_the_same_lines(rt: HostRuntime) {
     assert!(rt; script_comes_to_plain(&rt, rt.alloc()));
 }
 
-/// Whether this is the line of rank 12 where it waits at a call.
+/// Whether this is the line of rank 12 when it waits at a call.
 fn has_line(alloc: Global, line: u32, call: Call, text: &[u8]) -> bool {
     match MemSink::new(alloc, 64, 64) {
         Ok(mut sink) => {

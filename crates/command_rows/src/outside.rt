@@ -7,7 +7,7 @@ use rcce_io::{
 };
 use std::alloc::{AllocError, Global};
 
-/// A sink, texts that are written to it with whether each is taken whole, and what stands on it then.
+/// A sink, texts that are written to it with whether each is taken completely, and what the sink then has.
 struct SinkRow {
     room: usize,
     /// What it takes at one write.
@@ -26,7 +26,7 @@ fn sink_of(alloc: Global, row: &'static SinkRow) -> Result<MemSink, AllocError> 
     Ok(sink)
 }
 
-/// Whether each text is taken whole, or is not, as is told.
+/// Whether each text is taken completely or not, as the row states.
 fn are_taken<S: Sink>(sink: &mut S, texts: &[(&[u8], bool)]) -> bool {
     for (text, whole) in texts {
         if write_all(sink, text).is_ok() != *whole {
@@ -110,7 +110,7 @@ fn short_texts_wait_and_go_by_one_write(rt: HostRuntime) {
     assert!(rt; all_gather(rt.alloc(), WAITING));
 }
 
-/// A text behind which one of one byte comes.
+/// A text after which one of one byte follows.
 const LONG_TEXTS: &[GatherRow] = &[
     (&[1_023, 1], false, 0, (0, 0, true)),
     (&[1_024, 1], false, 0, (1_025, 2, true)),
@@ -129,7 +129,7 @@ fn file_a(alloc: Global, contents: &[u8]) -> Result<MemFiles, AllocError> {
     Ok(files)
 }
 
-/// Whether a file is these bytes, or their beginning is where it is longer than 9.
+/// Whether a file is these bytes, or begins with them if it is longer than 9.
 fn reads<F: Files>(alloc: Global, files: &mut F, name: &str, bytes: &[u8]) -> bool {
     match read_all(alloc, files, name, 9) {
         Ok(read) => read.as_slice() == bytes,
@@ -144,7 +144,7 @@ fn fails<F: Files>(alloc: Global, files: &mut F, name: &str, end: ReadEnd) -> bo
 
 const TWO_TEXTS: &[Line<'static>] = &[Line { bytes: b"ue 1" }, Line { bytes: b" y\n" }];
 
-/// Whether no write is made behind the second one, which fails.
+/// Whether no write is made after the second one, which fails.
 fn stops_writing(alloc: Global) -> bool {
     match MemSink::new(alloc, 16, 1) {
         Ok(mut sink) => {
@@ -155,7 +155,7 @@ fn stops_writing(alloc: Global) -> bool {
     }
 }
 
-/// Whether no call is made behind the second one that reads a file, which fails.
+/// Whether no call is made after the second one that reads a file, which fails.
 fn stops_reading(alloc: Global) -> bool {
     match file_a(alloc, b"one") {
         Ok(mut files) => {
@@ -215,7 +215,7 @@ fn a_file_is_read_up_to_one_byte_past_the_limit(rt: HostRuntime) {
     assert!(rt; long_file_has_lens(rt.alloc()));
 }
 
-/// Whether `a` is read by two bytes at most, or by one where there is room for no more.
+/// Whether `a` is read by two bytes at most, or by one if the buffer can hold no more.
 fn comes_in_pieces(files: &mut MemFiles) -> bool {
     files.open("a") == Opened::Open
         && files.read(&mut [0; 4]) == Got::Bytes(2)

@@ -24,7 +24,7 @@ fn has_printed(end: &End, rank: Rank, wanted: &[&[u8]]) -> bool {
     true
 }
 
-/// Whether a rank has come to what is wanted.
+/// Whether a rank has the wanted end and items.
 fn is_at(end: &End, number: usize, wanted: &Wanted<'_>) -> bool {
     if number >= 48 || number >= end.nue() {
         return false;
@@ -51,7 +51,7 @@ fn script_comes_to(alloc: Global, scripts: &Scripts, wanted: &[Wanted<'_>]) -> b
     }
 }
 
-/// Whether the plain run of a script for two ranks comes to what is wanted of them.
+/// Whether the plain run of a script for two ranks has the wanted results.
 fn comes_to(alloc: Global, text: &[u8], wanted: &[Wanted<'_>]) -> bool {
     match read_script(alloc, text, 2) {
         Ok(scripts) => script_comes_to(alloc, &scripts, wanted),
@@ -88,7 +88,7 @@ fn four_bytes_arrive_in_the_plain_run(rt: HostRuntime) {
 const OF_ANOTHER_LENGTH: &[u8] =
     b"ue 0\nbytes x 0001020304050607\nsend 1 x\nue 1\nrecv 0 y 4\nprint y\n";
 
-/// Whether the message is refused, with both lengths.
+/// Whether the message is rejected, with both lengths.
 fn is_refused(alloc: Global) -> bool {
     let (from, to) = (Rank::of(0), Rank::of(1));
     let Some(sent) = Head::plain(8) else {

@@ -1,4 +1,4 @@
-//! The six programs by one trait, so that what is asked of all of them is said once.
+//! The six programs by one trait, so that what all of them need is stated once.
 
 ghost use Rattle.std.specs.Thread.{IsSync};
 
@@ -15,7 +15,7 @@ use scc_mesh::Chip;
 use std::alloc::Global;
 use std::thread::Threads;
 
-/// A program by its top call, on a chip of its own where it needs one.
+/// A program by its top call, on a new chip if it needs one.
 pub trait Program {
     fn run<R: Threads + Sync, F: Files, O: Sink, E: Sink>(
         &self,
@@ -68,7 +68,7 @@ impl Program for Audit {
     }
 }
 
-/// `rccecoll`, which asks for no file.
+/// `rccecoll`, which reads no file.
 #[derive(Drop)]
 pub struct Collectives;
 

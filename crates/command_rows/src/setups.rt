@@ -1,4 +1,4 @@
-//! What the launcher's words say of the chip on which it runs: its flags, and the core of each rank.
+//! What the launcher's words set on the chip of a run: its flags, and the core of each rank.
 
 use crate::cases::{FOUR_BYTES, words_of};
 use chip_run::Open;

@@ -1,4 +1,4 @@
-//! What no clause says: without `-serial` the ranks run in threads of their own, each of which passes its gate, and with it they do not.
+//! What no clause states: without `-serial` the ranks run in separate threads, each of which passes its gate, and with it they do not.
 
 use crate::cases::{Given, NOWHERE, run};
 use crate::programs::Program;
@@ -18,7 +18,7 @@ const RANKS: usize = 4;
 /// How often a rank looks for the other ones at most.
 const LOOKS: u32 = 50_000_000;
 
-/// A gate that counts the passes of each rank, and at which all may wait for each other: how many looked in vain for the others.
+/// A gate that counts the passes of each rank, and at which all may wait for each other. It also counts the ranks that gave up waiting.
 #[derive(Drop)]
 struct Passes {
     counts: [AtomicU64; RANKS],
@@ -60,7 +60,7 @@ impl Passes {
         self.missed.fetch_add(1, Ordering::SeqCst);
     }
 
-    /// Whether each rank has passed so often, and none looked in vain for the others.
+    /// Whether each rank has passed so often, and none gave up waiting for the others.
     fn are_all(&self, wanted: u64) -> bool {
         for at in 0..RANKS {
             if self.counts[at].load(Ordering::SeqCst) != wanted {
@@ -70,7 +70,7 @@ impl Passes {
         self.missed.load(Ordering::SeqCst) == 0
     }
 
-    /// Whether all came, and none looked in vain for the others.
+    /// Whether all arrived, and none gave up waiting for the others.
     fn was_held(&self) -> bool {
         self.have_all_come() && self.missed.load(Ordering::SeqCst) == 0
     }
@@ -104,7 +104,7 @@ impl Program for Passes {
     }
 }
 
-/// Whether the ranks of a run finish, and what they print stands on out.
+/// Whether the ranks of a run finish, and out has what they print.
 fn finish<R: Threads + Sync>(
     rt: &R,
     alloc: Global,
@@ -126,7 +126,7 @@ const TWO_PAIRS: &Given = &Given {
 
 const FOURS: &[u8] = b"ue 1 y 01020304\nue 3 y 01020304\n";
 
-/// Whether two pairs finish at a gate where all wait for each other.
+/// Whether two pairs finish at a gate at which all wait for each other.
 fn wait_for_each_other<R: Threads + Sync>(rt: &R, alloc: Global) -> bool {
     let gate = Passes::new(true);
     finish(rt, alloc, &gate, TWO_PAIRS, FOURS) && gate.was_held()
@@ -137,7 +137,7 @@ fn four_ranks_wait_for_each_other_at_the_gate(rt: HostRuntime) {
     assert!(rt; wait_for_each_other(&rt, rt.alloc()));
 }
 
-/// It is over in one round.
+/// The run ends in one round.
 const NO_MESSAGES: &[u8] = b"all\nbytes x 07\nprint x\n";
 
 const IN_THREADS: &Given = &Given {

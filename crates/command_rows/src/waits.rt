@@ -1,4 +1,4 @@
-//! Whom ranks wait for, and why, at the ends of small scripts, by the calls themselves.
+//! For whom ranks wait, and why, at the ends of small scripts, by the calls themselves.
 
 ghost use Rattle.std.specs.Prelude.{◌≡◌, ◌<◌};
 ghost use Rattle.script_plain.specs.Meaning.{plain_ends};
@@ -10,7 +10,7 @@ use script_reader::read_script;
 use script_rules::Scripts;
 use std::alloc::{AllocError, Global};
 
-/// What is told of a rank: for whom it waits, and what a walk from it comes to.
+/// For whom a rank waits, and the end of a walk from it.
 enum Told {
     Waits(u8, Why),
     Nobody,
@@ -33,7 +33,7 @@ fn why_of(found: &Cause) -> Why {
     }
 }
 
-/// Whether this is told of a rank.
+/// Whether this holds for a rank.
 fn is_told(end: &End, scripts: &Scripts, rank: Rank, told: &Told) -> bool
     requires ended { end.now ≡ plain_ends scripts.now }
     requires below { rank < scripts.now.nue }
@@ -51,7 +51,7 @@ fn is_told(end: &End, scripts: &Scripts, rank: Rank, told: &Told) -> bool
     }
 }
 
-/// Whether the plain run of a script ends so that this is told of its ranks.
+/// Whether the plain run of a script ends so that this holds for its ranks.
 fn are_told(alloc: Global, scripts: &Scripts, told: &[Told]) -> Result<bool, AllocError> {
     let end = plain_run(alloc, scripts)?;
     for number in 0..scripts.nue() {
@@ -63,14 +63,14 @@ fn are_told(alloc: Global, scripts: &Scripts, told: &[Told]) -> Result<bool, All
     Ok(true)
 }
 
-/// A script, and what is told of each of its ranks.
+/// A script, and for whom each of its ranks waits.
 struct Row {
     script: &'static [u8],
     told: &'static [Told],
 }
 
 impl Row {
-    /// Whether it is told.
+    /// Whether it holds.
     fn is_so(&self, alloc: Global) -> bool {
         let nue = self.told.len();
         if nue < 1 || nue > 48 {
@@ -95,7 +95,7 @@ const ROWS: &[Row] = &[
             Told::Waits(0, Why::Cycle(1)),
         ],
     },
-    // a rank that has finished never comes to a barrier
+    // a rank that has finished never enters a barrier
     Row {
         script: b"ue 0-1\nbarrier\n",
         told: &[
@@ -104,7 +104,7 @@ const ROWS: &[Row] = &[
             Told::Nobody,
         ],
     },
-    // a rank that refused a message waits for nobody
+    // a rank that rejected a message waits for nobody
     Row {
         script: b"ue 0\nbytes x 0001\nsend 1 x\nue 1\nrecv 0 y 1\nue 2\nrecv 0 y 1\n",
         told: &[
@@ -113,7 +113,7 @@ const ROWS: &[Row] = &[
             Told::Waits(0, Why::Mismatch(1)),
         ],
     },
-    // a posted message in the slot is waited for before that of the send
+    // a rank waits for the receiver of the posted message in its slot, before that of its send
     Row {
         script: b"ue 0\nbytes x 00\npost 2 x\nsend 1 x\nue 1\nrecv 0 y 1\n",
         told: &[
@@ -122,7 +122,7 @@ const ROWS: &[Row] = &[
             Told::Nobody,
         ],
     },
-    // who all finish wait for nobody
+    // ranks that all finish wait for nobody
     Row {
         script: b"ue 0\nbytes x 00\nsend 1 x\nue 1\nrecv 0 y 1\n",
         told: &[Told::Nobody, Told::Nobody],

@@ -1,4 +1,4 @@
-//! What no run of the launcher shows of its words and of the host file: the seeds, the layout, and which cores the hosts are.
+//! What no run of the launcher shows about its words and the host file: the seeds, the layout, and which cores the hosts are.
 
 use crate::cases::words_of;
 use rcce_words::{HostFault, HostKind, Job, Work, parse_words, read_hosts};
@@ -76,7 +76,7 @@ const HOSTS: &[(&[u8], u8, u8)] = &[
     (b"\n\n7\n\n6\n\n", 7, 6),
 ];
 
-/// Whether a host file gives two ranks these cores, and the first one again from there on.
+/// Whether a host file places two ranks on these cores, and all later ones on the first core.
 fn are_hosts(bytes: &[u8], first: u8, second: u8) -> bool {
     match read_hosts(bytes, 2) {
         Ok(hosts) => {

@@ -1,4 +1,4 @@
--- A collective call stands where the events of a rank stand, whatever port shows them.
+-- The state of a collective call agrees with the events of its rank, whatever port shows them.
 use Rattle.std.proofs.Common.{◌≡◌, ℕ, List, [], Option, Some, None, refl, sym, subst}
 use base.Stored.{Gv, gnil}
 use Rattle.scc_base.specs.Setups.{SetupView}
@@ -20,7 +20,7 @@ at_there : (s : Sight) (m r : Gv) (h : ℕ) (c : Private) (slot : SlotAt) (src d
 at_there s m r h c slot src dst (Some op) st = (st.0, stands_there s m r h st.0 c op slot src dst st.1)
 at_there s m r h c slot src dst None st = free_there s m r h c slot st
 
--- what stands where a rank's events stand stands at a port that shows them, and the other way round
+-- a state that agrees with a rank's events agrees with every port that shows them, and conversely
 pub op_shown : (s : Sight) (c : Private) (slot : SlotAt) (src dst : List ℕ) (op : Option MoreAt) → IsAtOp (sight_alone s.seat.setup s.seat.rank s.events) c slot src dst op
     → IsAtOp s c slot src dst op
 op_shown s c slot src dst op st = at_there (sight_alone s.seat.setup s.seat.rank s.events) s.seat.mark s.seat.rest s.seat.hold c slot src dst op st
@@ -29,7 +29,7 @@ pub op_alone : (s : Sight) (c : Private) (slot : SlotAt) (src dst : List ℕ) (o
     → IsAtOp (sight_alone s.seat.setup s.seat.rank s.events) c slot src dst op
 op_alone s c slot src dst op st = at_there s gnil gnil 0 c slot src dst op st
 
--- which call is under way at a port that shows the events
+-- the call that is unfinished, at a port that shows the events
 pub op_stands : (s : Sight) (c : Private) (slot : SlotAt) (src dst : List ℕ) (op : MoreAt) (now : Option MoreAt) → IsAtOp (sight_alone s.seat.setup s.seat.rank s.events) c slot src dst now
     → now ≡ Some op → Stands (taking_part s c op slot src dst)
 op_stands s c slot src dst op now st is = subst (λ (x : Option MoreAt). IsAtOp s c slot src dst x) is (op_shown s c slot src dst now st)
@@ -48,7 +48,7 @@ pub op_begins : (s : Sight) (c : Private) (slot : SlotAt) (src dst : List ℕ) (
 op_begins s c slot src dst op more len free fits is =
     subst (λ (x : MoreAt). Stands (taking_part s c x slot src dst)) (sym is) ((record_in s).calls, begins s c slot more len src dst free fits)
 
--- the bytes of a call that is under way may be spelled in another way
+-- the bytes of an unfinished call may be replaced by equal ones
 pub op_spelled : (s : Sight) (c : Private) (slot : SlotAt) (op : MoreAt) {src from dst into : List ℕ} → from ≡ src → into ≡ dst → Stands (taking_part s c op slot src dst) → Stands (taking_part s c op slot from into)
 op_spelled s c slot op {src} {from} {dst} {into} same_src same_dst st =
     subst (λ (x : List ℕ). Stands (taking_part s c op slot x into)) (sym same_src) (subst (λ (y : List ℕ). Stands (taking_part s c op slot src y)) (sym same_dst) st)

@@ -1,4 +1,4 @@
--- What each turn of a rank of the ring means to a run.
+-- What each turn of a rank of the ring means for a run.
 use Rattle.std.proofs.Common.{◌≡◌, ℕ, zero, suc, nat_lt, ◌==◌, ◌&&◌, ◌+◌, ◌<◌, Bool, true, false, not, List, [], ◌∷◌, length, slice_index_or, Option, None, refl, sym, ap, ◌∙◌, subst, arith}
 use base.Stored.{Gv, gnil}
 use Rattle.scc_base.specs.Heads.{MessageHead, IsHead, plain_head}
@@ -39,18 +39,18 @@ use Rattle.run_rows.specs.declared.rings.Message.{Message}
 use Rattle.run_rows.specs.declared.rings.Message.TheVariants.{Sending, Receiving, Over}
 use Rattle.run_rows.specs.declared.rings.Passer.{Passer}
 
--- ---- where a rank stands, whatever port shows its events
+-- ---- the state of a rank, whatever port shows its events
 
 at_there : (s : Sight) (m r : Gv) (h : ℕ) (c : Private) (slot : SlotAt) (number : List ℕ) (message : Message) → IsAtMessage s c slot number message → IsAtMessage (at_port s m r h) c slot number message
 at_there s m r h c slot number (Sending op) st = send_there s m r h c op slot number st
 at_there s m r h c slot number (Receiving op) st = (receive_there s m r h c op number st.0, slot_there s m r h slot st.1)
 at_there s m r h c slot number Over st = free_there s m r h c slot st
 
--- where it stands at a port of its rank
+-- the state agrees with a port of its rank
 pub shown : (p : Passer) (s : Sight) → IsPassing p s.seat.setup s.seat.rank s.events → IsAtMessage s p.core p.slot p.number p.message
 shown p s ties = at_there (sight_alone s.seat.setup s.seat.rank s.events) s.seat.mark s.seat.rest s.seat.hold p.core p.slot p.number p.message ties.at
 
--- and the other way round, behind events that changed no register
+-- and conversely, after events that changed no register
 module _ (p q : Passer) (s t : Sight) (events : List Event) (did : Did s events t) (ties : IsPassing p s.seat.setup s.seat.rank s.events) where
   kept : (peer : ℕ) → are_peers s.seat.setup s.seat.rank peer ≡ true → are_peers t.seat.setup t.seat.rank peer ≡ true
   kept peer peers = subst (λ (x : Seat). are_peers x.setup x.rank peer ≡ true) (sym (seat_kept s events t did)) peers
@@ -95,7 +95,7 @@ starts p s rank empty new long head begins_it before next =
       hands = λ core. refl;
     }
 
--- fewer turns are left behind a message that is through, and behind a turn that moved
+-- fewer turns remain after a complete message, and after a turn that moved
 fewer : (this next : ℕ) → next + 0 < (this + 1) + next
 fewer this next = omega arith
 
@@ -118,16 +118,16 @@ module _ (s : SetupView) (head : MessageHead) (from to : ℕ) where
   less_received slot true op = none_left (recv_left (chunk_of s) op) 0
   less_received slot false op = fewer (recv_left (chunk_of s) op) (left_of_send s slot (message_to_begin true false head from to))
 
--- a turn, behind which the rank stands where its events stand
+-- a turn, after which the rank's state agrees with its events
 pub record Passes (stepped : Seat → List Event → Event → Type 0) (p : Passer) (s : Sight) (now : Passer) (t : Sight) (answer : Turn) : Type 0 where
   pub ties : IsPassing now t.seat.setup t.seat.rank t.events
   pub turned : Turned passer_conduct (stepped s.seat) p s now t answer
 
--- behind the turn it may be spelled in another way
+-- after the turn the state may be replaced by an equal one
 pub passes_to : (stepped : Seat → List Event → Event → Type 0) (p : Passer) (s : Sight) (now spelled : Passer) (t : Sight) (answer : Turn) → now ≡ spelled → Passes stepped p s now t answer → Passes stepped p s spelled t answer
 passes_to stepped p s now spelled t answer same passes = subst (λ (x : Passer). Passes stepped p s x t answer) same passes
 
--- a rank that is spelled in another way
+-- a rank whose state is replaced by an equal one
 pub passes_as : (stepped : Seat → List Event → Event → Type 0) (p q : Passer) (s : Sight) (now : Passer) (t : Sight) (answer : Turn) → p ≡ q → IsPassing p s.seat.setup s.seat.rank s.events
     → (IsPassing q s.seat.setup s.seat.rank s.events → Passes stepped q s now t answer) → Passes stepped p s now t answer
 passes_as stepped p q s now t answer same ties passes =
@@ -202,7 +202,7 @@ module _ (stepped : Seat → List Event → Event → Type 0) (p : Passer) (op n
   at_before : RecvStands s p.core op p.number × SlotStands s.seat (record_in s) p.slot
   at_before = shown before_receive s ties
 
-  -- the number stays as long
+  -- the number keeps its length
   as_long : now.head ≡ op.head → length number ≡ length p.number
   as_long same = stands.long ∙ ap (λ (h : MessageHead). h.len) same ∙ sym at_before.0.long
 
@@ -259,7 +259,7 @@ module _ (stepped : Seat → List Event → Event → Type 0) (p : Passer) (op n
     };
   }
 
--- ---- a rank with no message under way makes no turn
+-- ---- a rank with no unfinished message makes no turn
 
 pub over : (stepped : Seat → List Event → Event → Type 0) (p : Passer) (s : Sight) → IsPassing (record p { message = Over }) s.seat.setup s.seat.rank s.events
     → Passes stepped (record p { message = Over }) s (record p { message = Over }) s turn.Done
@@ -278,7 +278,7 @@ over stepped p s ties = record {
   };
 }
 
--- ---- four ranks of a ring on a chip that was just opened
+-- ---- four ranks of a ring on a new chip
 
 peers_of : (s : SetupView) (i j : ℕ) → s.nue ≡ 4 → (nat_lt i 4 && (nat_lt j 4 && not (i == j))) ≡ true → are_peers s i j ≡ true
 peers_of s i j four both = ap (λ (n : ℕ). nat_lt i n && (nat_lt j n && not (i == j))) four ∙ both

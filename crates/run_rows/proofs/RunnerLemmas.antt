@@ -1,4 +1,4 @@
--- A UE fits its events, whatever port shows them.
+-- The state of a UE agrees with its events, whatever port shows them.
 use Rattle.std.proofs.Common.{List}
 use base.Stored.{gnil}
 use Rattle.scc_base.specs.declared.events.Event.{Event}

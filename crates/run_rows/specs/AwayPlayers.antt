@@ -1,10 +1,10 @@
--- A player whose rank is away.
+-- A player whose rank's port is in a thread.
 use Rattle.std.specs.Prelude.{◌≡◌, ℕ, List, Option, IsSomeAnd}
 use Rattle.scc_base.specs.Setups.{SetupView}
 use Rattle.scc_base.specs.declared.events.Event.{Event}
 use Rattle.scc_mesh.specs.AwayRanks.{Ticket}
 use Rattle.scc_mesh.specs.Spaces.{ChipId}
 
--- a rank of this chip is away, and something stands where its events stand
+-- a rank of this chip has its port in a thread, and the player's state agrees with the events of the rank
 abbrev pub StandsAway : (SetupView → ℕ → List Event → Type 0) → SetupView → ChipId → Option Ticket → Type 0
 StandsAway stands s table token = IsSomeAnd token (λ t. (t.table ≡ table) × stands s t.rank t.events)

@@ -7,7 +7,7 @@ use Rattle.send_recv.specs.Ops.{SlotAt}
 use Rattle.coll_more.specs.Ops.{MoreAt, taking_part}
 use Rattle.coll_more.specs.Standing.{Stands}
 
--- in the midst of a collective call, or in no call
+-- the call of a rank: an unfinished collective call, or none
 abbrev pub IsAtOp : Sight → Private → SlotAt → (src dst : List ℕ) → Option MoreAt → Type 0
 IsAtOp s core slot src dst (Some op) = Stands (taking_part s core op slot src dst)
 IsAtOp s core slot src dst None = IsBetweenMessages s core slot

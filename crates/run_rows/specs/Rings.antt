@@ -1,4 +1,4 @@
--- Ranks that pass a number round a ring: the workers of a user's own (this project's profile).
+-- Ranks that pass a number round a ring: a worker that a user writes (this project's profile).
 use Rattle.std.specs.Prelude.{◌≡◌, ℕ, ◌+◌, Bool, true, false, not, List, [], length, None}
 use Rattle.scc_base.specs.Heads.{IsHead, MessageHead}
 use Rattle.scc_base.specs.Setups.{SetupView}
@@ -26,21 +26,21 @@ message_to_begin true gets head from to = Sending (new_send to head false)
 message_to_begin false true head from to = Receiving (new_receive from head)
 message_to_begin false false head from to = Over
 
--- what a rank begins behind its send: the first one gets the number last
+-- what a rank begins after its send: the first rank receives the number last
 abbrev pub after_sending : Passer → Message
 after_sending p = message_to_begin false p.is_first p.head p.from p.to
 
--- what a rank begins behind its receive: any rank but the first sends the number last
+-- what a rank begins after its receive: any rank except the first sends the number last
 abbrev pub after_receiving : Passer → Message
 after_receiving p = message_to_begin (not p.is_first) false p.head p.from p.to
 
--- in a send, in a receive, or in no call
+-- the call of a rank: an unfinished send, an unfinished receive, or none
 abbrev pub IsAtMessage : Sight → Private → SlotAt → List ℕ → Message → Type 0
 IsAtMessage s core slot number (Sending op) = SendStands s core op slot number
 IsAtMessage s core slot number (Receiving op) = RecvStands s core op number × SlotStands s.seat (record_in s) slot
 IsAtMessage s core slot number Over = IsBetweenMessages s core slot
 
--- a rank of the ring stands where its events stand, and may have messages with the ranks beside it
+-- the state of a rank of the ring agrees with its events, and it may have messages with its two neighbours
 pub record IsPassing (p : Passer) (s : SetupView) (rank : ℕ) (events : List Event) : Type 0 where
   pub at : IsAtMessage (sight_alone s rank events) p.core p.slot p.number p.message
   pub next : are_peers s rank p.to ≡ true
@@ -49,31 +49,31 @@ pub record IsPassing (p : Passer) (s : SetupView) (rank : ℕ) (events : List Ev
   pub long : length p.number ≡ p.head.len
   pub hands : RankHoldsNone s rank events
 
--- what it wants, by the message under way
+-- what a rank waits for, by its unfinished message
 abbrev pub want_by : Message → Want
 want_by (Sending op) = Want.Send op.to op.head
 want_by (Receiving op) = Want.Recv op.from
 want_by Over = Want.Nothing
 
--- how many turns that do not wait a receive has left, and one more
+-- how many turns without a failed poll a receive still has, plus one
 abbrev pub left_of_receive : SetupView → Message → ℕ
 left_of_receive s (Sending op) = 0
 left_of_receive s (Receiving op) = recv_left (chunk_of s) op + 1
 left_of_receive s Over = 0
 
--- how many a send has left, and one more
+-- how many a send still has, plus one
 abbrev pub left_of_send : SetupView → SlotAt → Message → ℕ
 left_of_send s slot (Sending op) = send_left s.layout (chunk_of s) op slot + 1
 left_of_send s slot (Receiving op) = 0
 left_of_send s slot Over = 0
 
--- how many are left of the message under way and of the one behind it
+-- how many the unfinished message and the one after it still have
 abbrev pub ring_left : SetupView → SlotAt → (gets sends : Message) → Message → ℕ
 ring_left s slot gets sends (Sending op) = left_of_send s slot (Sending op) + left_of_receive s gets
 ring_left s slot gets sends (Receiving op) = left_of_receive s (Receiving op) + left_of_send s slot sends
 ring_left s slot gets sends Over = 0
 
--- what a run sees of it
+-- how a run sees a rank of the ring
 abbrev pub passer_seen : SetupView → ℕ → Passer → WorkerView
 passer_seen s rank p = record {
   want = want_by p.message;
@@ -81,17 +81,17 @@ passer_seen s rank p = record {
   is_stopped = p.stopped;
 }
 
--- each turn leaves a rank in its place
+-- each turn keeps a rank's place
 pub record KeepsPlace (old new : Passer) : Type 0 where
   pub from : new.from ≡ old.from
   pub to : new.to ≡ old.to
   pub is_first : new.is_first ≡ old.is_first
 
--- how the ranks of the ring conduct themselves in a run
+-- the protocol of the ring's ranks in a run
 abbrev pub passer_conduct : Conduct Passer
 passer_conduct = record { seen = passer_seen; tied = IsPassing; moves = KeepsPlace; stays = KeepsPlace }
 
--- a rank of the ring before its first turn, at home and between these two
+-- a rank of the ring before its first turn; its port is with the chip, and its neighbours are these two
 pub record IsSeated (m : Member Passer) (from to : ℕ) : Type 0 where
   pub ready : (s : SetupView) (rank : ℕ) → are_peers s rank from ≡ true → are_peers s rank to ≡ true → IsPassing m.worker s rank []
   pub home : m.token ≡ None

@@ -1,4 +1,4 @@
-//! A rank that makes a collective call some times.
+//! A rank that makes a collective call several times.
 
 ghost use Rattle.std.specs.Prelude.{◌≤◌, ℕ, [], IfOk};
 ghost use Rattle.scc_base.specs.Setups.{SetupView};
@@ -15,12 +15,12 @@ use scc_proto::Port;
 use send_recv::{RecvTurn, Slot};
 use std::alloc::{AllocError, Global};
 
-/// A rank that makes a collective call some times.
+/// A rank that makes a collective call several times.
 #[derive(Drop)]
 pub(crate) struct Member<V: Evict + Drop> {
     core: Core<V>,
     slot: Slot,
-    // The call under way, if there is one.
+    // The unfinished call, if there is one.
     op: Option<MoreOp>,
     more: More,
     len: u32,
@@ -28,11 +28,11 @@ pub(crate) struct Member<V: Evict + Drop> {
     dst: Vec<u8>,
     // How many calls have not begun.
     left: u32,
-    // How many calls got the bytes that were to come.
+    // How many calls got the right bytes.
     pub right: u32,
 }
 
-/// A rank that is to make a call `times` times.
+/// A rank that makes a call `times` times.
 pub(crate) fn member_of<V: Evict + Default + Drop>(
     alloc: Global,
     more: More,
@@ -78,7 +78,7 @@ impl<V: Evict + Drop> Member<V> {
         }
     }
 
-    // Begins a call, where its bytes fit the rank.
+    // Begins a call, if its bytes fit the rank.
     fn begin<P: Port>(&mut self, port: &P)
         requires no_op { self.old.op ≡ None }
         requires free { IsBetweenMessages (P.sight port.now) self.old.core self.old.slot }
@@ -96,7 +96,7 @@ impl<V: Evict + Drop> Member<V> {
         }
     }
 
-    // Counts a call that has ended, if the bytes are those that were to come, and clears them.
+    // Counts a call that has ended, if its bytes are right, and clears them.
     fn end(&mut self, rank: u8, nue: u8) -> Turn
         ensures core { self.new.core ≡ self.old.core }
         ensures slot { self.new.slot ≡ self.old.slot }
@@ -113,7 +113,7 @@ impl<V: Evict + Drop> Member<V> {
         }
     }
 
-    // One turn of a call. A message of another head keeps it from its end.
+    // a rank waits for the receiver of the posted message in its slot, before that of its send
     fn go_on<P: Port>(&mut self, port: &mut P, mut op: MoreOp) -> Turn
         requires no_op { self.old.op ≡ None }
         requires stands { Stands (taking_part (P.sight port.old) self.old.core op self.old.slot self.old.src.items self.old.dst.items) }

@@ -1,4 +1,4 @@
-//! The bytes of the pieces of a collective call. They tell who handed them in, for whom, and their place.
+//! The bytes of the pieces of a collective call. They show who sent them, for whom, and their place.
 
 ghost use Rattle.std.specs.Prelude.{◌≡◌, ◌≤◌, IfOk, length};
 ghost use Rattle.coll_more.specs.Tables.{src_len_of};
@@ -24,7 +24,7 @@ fn given(rank: usize, len: usize, i: usize) -> u8 {
     }
 }
 
-/// Byte i of what a rank is to get: pieces of the ranks from 0 on, which are for this one.
+/// Byte i of what a rank must get: pieces of the ranks from 0 on, for this one.
 fn wanted(to: usize, len: usize, i: usize) -> u8 {
     if len == 0 {
         0
@@ -50,7 +50,7 @@ fn handed_in(more: More, rank: u8, nue: u8) -> u8 {
     }
 }
 
-/// How many pieces a rank is to get.
+/// How many pieces a rank must get.
 fn handed_out(more: More, rank: u8, nue: u8) -> u8 {
     match more {
         More::Gather => if rank == 0 { nue } else { 0 },
@@ -88,7 +88,7 @@ pub(crate) fn is_whole(src: &[u8], more: More, rank: u8, nue: u8, len: u32) -> b
     src.len() == handed_in(more, rank, nue) as usize * len as usize
 }
 
-/// Whether these are the bytes that a rank is to get.
+/// Whether these are the bytes that a rank must get.
 pub(crate) fn is_right(bytes: &[u8], more: More, rank: u8, nue: u8, len: u32) -> bool {
     let to = target(more, rank) as usize;
     for i in 0..bytes.len() {

@@ -32,7 +32,7 @@ fn team_of<V: Evict + Default + Drop>(
     Ok(team)
 }
 
-/// Whether all ranks have got what they were to get.
+/// Whether all ranks have got the right bytes.
 fn all_right<V: Evict + Drop>(team: &[Member<V>], more: More, nue: u8, len: u32) -> bool {
     for number in 0..nue {
         match team.get(number as usize) {
@@ -62,7 +62,7 @@ fn ends_right<V: Evict + Default + Drop>(
     Ok(all_right(team.as_slice(), more, nue, len))
 }
 
-/// Whether a kind comes right with either evictor.
+/// Whether a kind ends with the right bytes with either evictor.
 fn kind_right(alloc: Global, layout: Layout, more: More, nue: u8, len: u32) -> Result<bool, Fail>
     requires few { nue ≤ 48 }
 {
@@ -70,7 +70,7 @@ fn kind_right(alloc: Global, layout: Layout, more: More, nue: u8, len: u32) -> R
     Ok(ends_right::<Always>(alloc, layout, more, nue, len)? && kept)
 }
 
-/// Whether each kind comes right in both layouts.
+/// Whether each kind ends with the right bytes in both layouts.
 fn kinds_right(alloc: Global, nue: u8, len: u32) -> Result<bool, Fail>
     requires few { nue ≤ 48 }
 {

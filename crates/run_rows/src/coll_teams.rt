@@ -11,7 +11,7 @@ use scc_base::{CommRule, Layout, Rank};
 use std::alloc::Global;
 use std::test::Fail;
 
-// Gives the next rank of a team a call to make `times` times.
+// Gives the next rank of a team a call that it makes `times` times.
 fn join_next<V: Evict + Default + Drop>(
     alloc: Global,
     team: &mut Team<Member<V>>,
@@ -27,7 +27,7 @@ fn join_next<V: Evict + Default + Drop>(
     team.join(member_of(alloc, more, len, rank, nue, times)?)
 }
 
-/// The `nue` ranks of a chip, each of which is to make a call `times` times.
+/// The `nue` ranks of a chip, each of which makes a call `times` times.
 pub(crate) fn met<V: Evict + Default + Drop>(
     alloc: Global,
     layout: Layout,
@@ -46,7 +46,7 @@ pub(crate) fn met<V: Evict + Default + Drop>(
     Ok(team)
 }
 
-/// How many calls of a rank have got the bytes that were to come.
+/// How many calls of a rank have got the right bytes.
 pub(crate) fn right_at<V: Evict + Drop>(team: &Team<Member<V>>, at: usize) -> u32 {
     match team.player(at) {
         Some(member) => member.right,
@@ -54,7 +54,7 @@ pub(crate) fn right_at<V: Evict + Drop>(team: &Team<Member<V>>, at: usize) -> u3
     }
 }
 
-// Whether these ranks have made two calls, each with the bytes that were to come.
+// Whether these ranks have made two calls, each with the right bytes.
 fn are_right<V: Evict + Drop>(team: &Team<Member<V>>, order: &[usize]) -> bool {
     for at in order {
         if right_at(team, *at) != 2 {
@@ -80,7 +80,7 @@ fn end_right<V: Evict + Default + Drop>(
     Ok(team.rounds(order, 2_000) > 0 && are_right(&team, order))
 }
 
-// Whether the pieces of this length come in this layout, where no line is evicted and where one is at each fill.
+// Whether the pieces of this length arrive in this layout, if no line is evicted and if one is at each fill.
 fn come(
     alloc: Global,
     layout: Layout,
@@ -92,7 +92,7 @@ fn come(
     Ok(end_right::<Always>(alloc, layout, order, more, len)? && kept)
 }
 
-// Whether the pieces of each call come in both layouts.
+// Whether the pieces of each call arrive in both layouts.
 fn all_come(alloc: Global, order: &[usize], len: u32) -> Result<bool, Fail> {
     let mut right = true;
     for more in KINDS {

@@ -1,5 +1,5 @@
-//! Tests over a chip: of UEs and of collective calls on one with one seat, and of whole runs, in threads and on one. There is no other code but
-//! the types of a worker of a user's own (`rings`), of which the specs speak: its ranks pass a number round a ring.
+//! Tests over a chip: of UEs and of collective calls on a chip with one seat, and of whole runs, in threads and on one. The only other code
+//! is the types of a worker that a user writes (`rings`), which the specs use: its ranks pass a number round a ring.
 #![tactic(auto)]
 
 #[cfg(test)]

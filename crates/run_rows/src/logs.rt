@@ -29,7 +29,7 @@ fn keeps_two_calls(run: &LogRun<'_>) -> bool
         && run.end() == RunEnd::Finished
 }
 
-/// Whether a run of a script for two ranks has room, finishes, and keeps one call of each rank.
+/// Whether a run of a script for two ranks has enough memory, finishes, and keeps one call of each rank.
 fn keeps_both(alloc: Global, scripts: &Scripts, layout: Layout) -> Result<bool, AllocError>
     requires two { scripts.now.nue ≡ 2 }
 {

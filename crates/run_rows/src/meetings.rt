@@ -1,4 +1,4 @@
-//! What no clause says: that the ranks take their turns at the same time, and that each passes its gate once in a round, before them.
+//! What no clause states: the ranks take their turns at the same time, and each passes its gate once in a round, before them.
 
 ghost use Rattle.std.specs.Prelude.{None, []};
 
@@ -17,7 +17,7 @@ const RANKS: usize = 4;
 /// How often a rank looks for the other ones.
 pub(crate) const LOOKS: u64 = 5_000_000_000;
 
-/// A place where the threads of so many ranks meet: how many have come to it, and how many waited there in vain.
+/// A place where the threads of so many ranks meet: how many have arrived, and how many gave up waiting.
 #[derive(Drop)]
 pub(crate) struct Meeting {
     wanted: u64,
@@ -50,7 +50,7 @@ impl Meeting {
         self.missed.fetch_add(1, Ordering::SeqCst);
     }
 
-    /// Whether all have come, and none waited in vain.
+    /// Whether all have arrived, and none gave up waiting.
     pub(crate) fn was_held(&self) -> bool {
         self.is_full() && self.missed.load(Ordering::SeqCst) == 0
     }
@@ -97,7 +97,7 @@ impl<'a> PerRank for Meets<'a> {
     }
 }
 
-/// Whether a script comes to what its row says, with its ranks in threads.
+/// Whether a script has the result that its row states, with its ranks in threads.
 fn comes<V: PerRank + Send, G: Gate + Sync, R: Threads + Sync>(
     rt: &R,
     alloc: Global,
@@ -180,7 +180,7 @@ impl Passes {
         true
     }
 
-    /// Notes where a rank's evictor is asked before the rank has passed.
+    /// Notes if a rank's evictor is asked before the rank has passed.
     fn ask(&self, rank: u8) {
         let at = rank as usize;
         if at >= RANKS || self.counts[at].load(Ordering::SeqCst) == 0 {
@@ -203,7 +203,7 @@ impl Gate for Passes {
     }
 }
 
-/// An evictor that drops nothing, and that looks at its questions whether its rank has passed.
+/// An evictor that drops nothing, and that checks at its questions whether its rank has passed.
 #[derive(Drop)]
 struct Looks<'a> {
     passes: &'a Passes,

@@ -1,4 +1,4 @@
-//! What a run leaves in the chip's words where the rank that a message is for does not take it.
+//! What a run leaves in the chip's words if the receiver does not take a message.
 
 ghost use Rattle.std.specs.Prelude.{◌≡◌, ◌<◌};
 ghost use Rattle.scc_mesh.specs.Scenes.{IsNew};
@@ -17,8 +17,8 @@ use script_rules::Scripts;
 use std::alloc::{AllocError, Global};
 use std::thread::Threads;
 
-/// What tells of a message of rank 0 to rank 1, and of a call that has it open: the word of the flag `sent` at the core of rank 1 and
-/// that of `ready` at the core of rank 0, the header, and the first word of the bytes.
+/// The words of an unfinished message of rank 0 to rank 1. They are the word of the flag `sent` at the core of rank 1, that of `ready` at
+/// the core of rank 0, the header, and the first word of the bytes.
 fn words_of<P: Port>(port: &mut P) -> [u64; 7]
     requires two { 1 < (P.sight port.old).seat.setup.nue }
 {

@@ -1,4 +1,4 @@
-//! Runs of a worker of a user's own: a number comes round a ring.
+//! Runs of a worker that a user writes: a number goes round a ring.
 
 use crate::ring_turns::seated;
 use crate::runs::BOTH_MODES;

@@ -13,7 +13,7 @@ use scc_base::{Head, Rank, Turn};
 use scc_proto::Port;
 use send_recv::{RecvOp, RecvTurn, SendOp, Slot};
 
-// One turn of the message under way at a rank. Behind a message the next one begins.
+// One turn of a rank's unfinished message. After a message the next one begins.
 fn go_on<P: Port>(rank: &mut Passer, port: &mut P) -> Turn
     requires ties { IsPassing rank.old (P.sight port.old).seat.setup (P.sight port.old).seat.rank (P.sight port.old).events }
     ensures ties { IsPassing rank.new (P.sight port.new).seat.setup (P.sight port.new).seat.rank (P.sight port.new).events }
@@ -94,7 +94,7 @@ fn one_byte() -> Head
     }
 }
 
-/// A rank of the ring before its first turn, at home and between these two.
+/// A rank of the ring before its first turn, with its port on the chip and its neighbours.
 pub(crate) fn seated(before: u8, next: u8, is_first: bool, number: u8) -> Member<Passer>
     requires before { before < 48 }
     requires next { next < 48 }

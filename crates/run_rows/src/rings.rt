@@ -1,11 +1,11 @@
-//! A worker of a user's own: ranks that pass a number round a ring, by sends and receives alone. They do so in `ring_turns`.
+//! A worker that a user writes: ranks that pass a number round a ring, by sends and receives alone. `ring_turns` has their turns.
 
 use line_cache::Never;
 use put_get::Core;
 use scc_base::{Head, Rank};
 use send_recv::{RecvOp, SendOp, Slot};
 
-/// The message under way at a rank of the ring.
+/// The unfinished message of a rank of the ring.
 #[derive(Drop)]
 pub(crate) enum Message {
     Sending(SendOp),
@@ -13,8 +13,8 @@ pub(crate) enum Message {
     Over,
 }
 
-/// A rank of the ring. The first one sends its number on, and at last gets it back; each other one gets it, and sends it on.
-/// Whoever gets it raises it by one.
+/// A rank of the ring. The first one sends its number on, and gets it back last. Each other one receives it, and sends it on. Whoever
+/// receives it adds one.
 #[derive(Drop)]
 pub(crate) struct Passer {
     pub(crate) core: Core<Never>,

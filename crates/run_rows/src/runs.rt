@@ -1,4 +1,4 @@
-//! What the clauses do not say: whole runs of scripts in both modes, and that memory suffices for them.
+//! What the clauses do not state: whole runs of scripts in both modes, and that memory suffices for them.
 
 ghost use Rattle.std.specs.Prelude.{◌≡◌, IfOk};
 ghost use Rattle.rcce_run.specs.UeRuns.{IsFreshCrew};
@@ -18,7 +18,7 @@ use script_rules::Scripts;
 use std::alloc::{AllocError, Global};
 use std::thread::Threads;
 
-/// A script, and what it comes to: the end of the run, and of each rank its end and the items that it prints.
+/// A script and its results: the end of the run, and for each rank its end and the items that it prints.
 #[derive(Drop)]
 pub(crate) struct Row<'a> {
     script: &'a [u8],
@@ -120,7 +120,7 @@ pub(crate) fn crew_of<'s, V: PerRank>(
     Ok(crew)
 }
 
-/// Whether the ranks have come to what a row says.
+/// Whether the ranks have the results that a row states.
 fn are_as_told<V: Evict + Drop>(crew: &[Crew<'_, V>], row: &Row<'_>) -> bool {
     if crew.len() != row.ranks.len() {
         return false;
@@ -135,7 +135,7 @@ fn are_as_told<V: Evict + Drop>(crew: &[Crew<'_, V>], row: &Row<'_>) -> bool {
     true
 }
 
-/// Whether a run of a script on this new chip comes to all that a row says.
+/// Whether a run of a script on this new chip has all results that a row states.
 fn run_comes_to<V: PerRank + Send, G: Gate + Sync, R: Threads + Sync>(
     rt: &R,
     alloc: Global,
@@ -156,7 +156,7 @@ fn run_comes_to<V: PerRank + Send, G: Gate + Sync, R: Threads + Sync>(
     Ok(end == row.end && are_as_told(crew.as_slice(), row))
 }
 
-/// Whether a run of a row's script, on a new chip in this layout, comes to all that the row says.
+/// Whether a run of a row's script, on a new chip in this layout, has all results that the row states.
 pub(crate) fn comes_to<V: PerRank + Send, G: Gate + Sync, R: Threads + Sync>(
     rt: &R,
     alloc: Global,

@@ -1,4 +1,4 @@
-//! What the tests of scripts share: a setup and a chip for a script, and what a rank's unit of execution has come to.
+//! What the tests of scripts share: a setup and a chip for a script, and the results of a rank's unit of execution.
 
 ghost use Rattle.std.specs.Prelude.{◌≡◌, IfOk, IfSome};
 ghost use Rattle.scc_mesh.specs.Scenes.{IsNew, about_in};
@@ -33,7 +33,7 @@ pub(crate) fn setup_of(scripts: &Scripts, layout: Layout, downwards: bool) -> Op
     Setup::new(scripts.nue(), layout, cores, scripts.comm_rules())
 }
 
-/// A chip with this setup that was just opened.
+/// A new chip with this setup.
 pub(crate) fn chip_with(alloc: Global, setup: &Setup) -> Result<Chip, AllocError>
     ensures new { IfOk result (λ chip. IsNew setup.now chip) }
     ensures here { IfOk result (λ chip. IsNew (about_in chip) chip) }
@@ -51,7 +51,7 @@ pub(crate) enum End {
     Mismatch(u32),
 }
 
-/// Whether a UE has come to this end.
+/// Whether a UE has this end.
 pub(crate) fn is_at<V: Evict>(ue: &Ue<'_, V>, end: &End) -> bool {
     if !ue.is_pausing() {
         return false;

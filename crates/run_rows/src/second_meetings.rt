@@ -1,4 +1,4 @@
-//! That the ranks take their turns at the same time in the second round too, where one of them was held in the first.
+//! The ranks take their turns at the same time in the second round too, if one of them was held in the first.
 
 ghost use Rattle.std.specs.Prelude.{None, []};
 
@@ -13,11 +13,11 @@ use std::sync::atomic::{AtomicU64, Ordering};
 /// How many ranks there are.
 const RANKS: usize = 6;
 
-/// After so many failed polls in a row a rank's round is over.
+/// After so many failed polls in a row a rank's round ends.
 const LAST_LOOK: u64 = 1000;
 
-/// A gate where all ranks meet in the first round, and again in the second. Behind the first meeting rank 0 is held until the others, which wait for it,
-/// have done with their round: their evictors count how often they looked.
+/// A gate where all ranks meet in the first round, and again in the second. After the first meeting the gate holds rank 0 until the others,
+/// which wait for it, have ended their round: their evictors count how often they polled.
 #[derive(Drop)]
 struct Rounds {
     first: Meeting,
@@ -48,7 +48,7 @@ impl Rounds {
         }
     }
 
-    /// Whether each rank but rank 0 has looked as often as it may in a round.
+    /// Whether each rank except rank 0 has polled as often as it may in a round.
     fn have_looked(&self) -> bool {
         for at in 1..RANKS {
             if self.looks[at].load(Ordering::SeqCst) < LAST_LOOK {
@@ -58,14 +58,14 @@ impl Rounds {
         true
     }
 
-    /// Notes a look of a rank.
+    /// Counts a poll of a rank.
     fn note_look(&self, at: usize) {
         if at < RANKS {
             self.looks[at].fetch_add(1, Ordering::SeqCst);
         }
     }
 
-    /// Holds a rank until the others have looked.
+    /// Holds a rank until the others have polled.
     fn hold(&self) {
         for _ in 0..LOOKS {
             if self.have_looked() {

@@ -1,4 +1,4 @@
-//! Messages between two ranks whose turns are taken in threads of their own.
+//! Messages between two ranks that take their turns in separate threads.
 
 ghost use Rattle.std.specs.Prelude.{◌≡◌, ◌<◌, ◌≤◌, ℕ, List, [], IfOk, length, slice_index_or};
 ghost use Rattle.scc_base.specs.declared.events.Event.{Event};
@@ -21,7 +21,7 @@ use std::alloc::{AllocError, Global};
 use std::thread;
 use std::thread::Threads;
 
-/// A rank that is away, with its token between its turns, and what it does.
+/// A rank whose port is in a thread, with its token between its turns, and what it does.
 #[derive(Drop)]
 struct Apart<M: Player + Drop> {
     token: Option<Token>,
@@ -39,7 +39,7 @@ fn turns<M: Player, P: Port>(player: &mut M, port: &mut P)
     }
 }
 
-// Ten turns of a rank that is away, by a port that its token gives for them, with the token in its place before and after them.
+// Ten turns of a rank whose port is in a thread. Its token makes the port for them, and is in its place before and after them.
 fn turns_away<M: Player + Drop>(words: Words<'_>, rank: &mut Apart<M>)
     requires away { StandsAway (M.stands rank.old.player) words.space.now.about words.space.now.table rank.old.token }
     ensures away { StandsAway (M.stands rank.new.player) words.entry.space.now.about words.entry.space.now.table rank.new.token }
@@ -52,8 +52,7 @@ fn turns_away<M: Player + Drop>(words: Words<'_>, rank: &mut Apart<M>)
     rank.token = Some(port.into_token());
 }
 
-// `count` rounds, each of ten turns of each rank, at the same time where threads can be had: the words and a rank go into each
-// thread.
+// `count` rounds, each of ten turns of each rank, at the same time if there are threads: the words and a rank go into each thread.
 fn rounds<M: Player + Drop + Send, R: Threads + Sync>(
     rt: &R,
     words: Words<'_>,
@@ -104,7 +103,7 @@ fn are_filled<V: Evict>(ue: &Ue<'_, V>, lens: &[u16]) -> bool {
     true
 }
 
-/// A rank that tells whether it has finished, with messages of these lengths, each as `fill` makes it.
+/// A rank that shows whether it has finished, with messages of these lengths, each as `fill` makes it.
 trait Finishes {
     fn has_finished(&self, lens: &[u16]) -> bool;
 }
@@ -125,8 +124,8 @@ fn have_finished<M: Player + Finishes + Drop>(ranks: &[Apart<M>], len: u16) -> b
     }
 }
 
-// Whether the two ranks of a new chip finish, the second with a message of this length. In each round one of the two can
-// move, also where no thread can be had and they take their turns one after the other.
+// Whether the two ranks of a new chip finish, the second with a message of this length. In each round one of the two can move, even if
+// there are no threads and they take their turns one after the other.
 fn both_finish<M: Player + Finishes + Drop + Send, R: Threads + Sync>(
     rt: &R,
     alloc: Global,

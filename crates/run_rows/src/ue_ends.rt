@@ -1,4 +1,4 @@
-//! What scripts come to over a chip with one seat.
+//! The results of scripts over a chip with one seat.
 
 use crate::scripts::End::{Finished, Mismatch, Waits};
 use crate::scripts::{FOUR_BYTES, LAYOUTS};
@@ -9,8 +9,7 @@ use std::alloc::Global;
 use std::process::Abort;
 use std::test::Fail;
 
-// Whether a script comes to what is wanted in both orders of the ranks, with an evictor that drops nothing and one that
-// drops all.
+// Whether a script has the wanted results in both orders of the ranks, with an evictor that drops nothing and one that drops all.
 fn comes_to_it(alloc: Global, row: &Row<'_>, layout: Layout) -> Result<bool, Fail> {
     let mut right = true;
     for backwards in &[false, true] {
@@ -30,8 +29,8 @@ fn always_come_to<R: Abort>(rt: &R, alloc: Global, rows: &[Row<'_>]) -> Result<(
     Ok(())
 }
 
-// The bound of a rank, by hand: one turn for each statement and each step of a collective call, as often as it runs, 10 for
-// each message of one line, and two for each member of a barrier and one more.
+// The bound of a rank, counted by hand. Each statement and each step of a collective call takes one turn, as often as it runs. Each message
+// of one line takes 10 more, and a barrier two for each member and one more.
 
 const RING_OF_POSTS: &[u8] = b"all\nrank r int\npost +1 r\nrecv -1 y 4\nprint y\n";
 
@@ -177,7 +176,7 @@ fn ranks_stop_wait_and_only_print(rt: HostRuntime) -> Result<(), Fail> {
 const TWO_POSTS: &[u8] =
     b"ue 0\nbytes x 01020304\nsend 1 x\npost 1 x\npost 1 x\nue 1\nrecv 0 y 4\n";
 
-// The first post is on its way, and counted, and the second waits for its slot.
+// The first post is in flight, and counted, and the second waits for its slot.
 const COUNTED: &[Row<'static>] = &[(
     TWO_POSTS,
     &[(Waits(5), &[], 34, (2, 8)), (Finished, &[], 11, (0, 0))],

@@ -51,7 +51,7 @@ pub(crate) type Wanted<'a> = (End, &'a [&'a [u8]], u64, (u64, u64));
 /// A script, and what is wanted of each rank.
 pub(crate) type Row<'a> = (&'a [u8], &'a [Wanted<'a>]);
 
-// A rank that tells whether it has come to what is wanted.
+// A rank that shows whether it has the wanted results.
 trait Ends {
     fn is_wanted(&self, wanted: &Wanted<'_>) -> bool;
 }
@@ -100,7 +100,7 @@ fn join_next<'s, V: Evict + Default + Drop>(
     team.join(runner_of(alloc, scripts, setup, number)?)
 }
 
-// One turn of each rank, in rank order or the other way round. Whether one of them moved.
+// One turn of each rank, in rank order or the other way round. Returns whether one of them moved.
 fn sweep<M: Player + Drop>(team: &mut Team<M>, nue: usize, backwards: bool) -> bool {
     let mut moved = false;
     for number in 0..nue {
@@ -110,7 +110,7 @@ fn sweep<M: Player + Drop>(team: &mut Team<M>, nue: usize, backwards: bool) -> b
     moved
 }
 
-// Sweeps until no rank moves. Whether they came to that.
+// Sweeps until no rank moves. Returns whether that happened.
 fn settles<M: Player + Drop>(team: &mut Team<M>, nue: usize, backwards: bool) -> bool {
     for _ in 0..1_000 {
         if !sweep(team, nue, backwards) {
@@ -120,7 +120,7 @@ fn settles<M: Player + Drop>(team: &mut Team<M>, nue: usize, backwards: bool) ->
     false
 }
 
-// Whether each rank has come to what is wanted.
+// Whether each rank has the wanted results.
 fn are_wanted<M: Player + Ends + Drop>(team: &Team<M>, wanted: &[Wanted<'_>]) -> bool {
     for at in 0..wanted.len() {
         match team.player(at) {
@@ -131,7 +131,7 @@ fn are_wanted<M: Player + Ends + Drop>(team: &Team<M>, wanted: &[Wanted<'_>]) ->
     true
 }
 
-// Whether the ranks come to rest, each at what is wanted, by sweeps in rank order or the other way round.
+// Whether the ranks stop moving, each with the wanted results, by sweeps in rank order or the other way round.
 fn rest_at<M: Player + Ends + Drop>(
     team: &mut Team<M>,
     backwards: bool,
@@ -140,7 +140,7 @@ fn rest_at<M: Player + Ends + Drop>(
     settles(team, wanted.len(), backwards) && are_wanted(team, wanted)
 }
 
-// Whether the ranks of a script do so, on a chip that was just opened.
+// Whether the ranks of a script do so, on a new chip.
 fn come_to<V: Evict + Default + Drop>(
     alloc: Global,
     scripts: &Scripts,
@@ -158,7 +158,7 @@ fn come_to<V: Evict + Default + Drop>(
     Ok(rest_at(&mut team, backwards, wanted))
 }
 
-/// Whether the script of a row comes to what is wanted of at most 48 ranks, by sweeps in rank order or the other way round.
+/// Whether the script of a row has the wanted results for at most 48 ranks, by sweeps in rank order or the other way round.
 pub(crate) fn comes_to<V: Evict + Default + Drop>(
     alloc: Global,
     row: &Row<'_>,

@@ -19,7 +19,7 @@ fn chip(alloc: Global) -> Result<TurnChip, Fail>
     Ok(TurnChip::new(alloc, setup, Rank::of(0))?)
 }
 
-// Stores a value in a heap word of its own core, and loads it again.
+// Stores a value in a heap word of the port's core, and loads it again.
 fn kept<P: Port>(port: &mut P, value: u64) -> u64
     requires fresh { (P.sight port.old).events ≡ [] }
 {
