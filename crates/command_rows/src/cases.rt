@@ -78,7 +78,7 @@ pub fn words_of(alloc: Global, texts: &[&str]) -> Result<Vec<String>, AllocError
     Ok(words)
 }
 
-/// The files of a run, which give one byte at a time.
+/// The files of a run, which return one byte at a time.
 fn files_of(alloc: Global, given: &Given, failing: Failing) -> Result<MemFiles, AllocError> {
     let mut files = MemFiles::new(alloc);
     files.add("h", given.hosts)?;

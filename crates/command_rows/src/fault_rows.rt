@@ -59,7 +59,7 @@ const A_SCRIPT_IS_REFUSED: &Case = &Case {
     fault: b"rccerun: s: read fault\n",
 };
 
-/// The cores come from a file.
+/// The cores are those of a host file.
 const HOSTS_ARE_READ: &Case = &Case {
     given: Given {
         words: &["-nue", "2", "-f", "h", "s"],
@@ -241,7 +241,7 @@ fn each_call_of_rccemesh_fails_in_turn(rt: HostRuntime) {
     expect(&rt, rt.alloc(), &MeshLoad, &[ONE_LINK, NOT_FINISHED]);
 }
 
-/// One message comes, and another is never received.
+/// One message arrives, and another is never received.
 const ONE_WAITS: &Case = &Case {
     given: Given {
         words: &["-nue", "2", "s"],

@@ -11,7 +11,7 @@ use std::thread::Threads;
 pub struct Case {
     pub given: Given,
     pub wanted: Wanted<'static>,
-    /// How many calls read the host file, which comes first.
+    /// How many calls read the host file, which is read first.
     pub host_reads: u64,
     /// The line on err if the script, the log or the lab cannot be read.
     pub fault: &'static [u8],

@@ -16,7 +16,7 @@ fn go_on(machine: &mut Machine<'_>) {
     }
 }
 
-/// Whether a machine goes on so that it has printed these items.
+/// Whether a machine continues until it has printed these items.
 fn goes_on_to(machine: &mut Machine<'_>, wanted: &[&[u8]]) -> bool {
     go_on(machine);
     if machine.items() != wanted.len() {
@@ -30,7 +30,7 @@ fn goes_on_to(machine: &mut Machine<'_>, wanted: &[&[u8]]) -> bool {
     true
 }
 
-/// Whether the machine of rank 0 goes through a script by itself and prints these items.
+/// Whether the machine of rank 0 runs a script by itself and prints these items.
 fn prints(alloc: Global, scripts: &Scripts, wanted: &[&[u8]]) -> bool {
     match Machine::new(alloc, scripts, setup_of(scripts), Rank::of(0)) {
         Ok(mut machine) => goes_on_to(&mut machine, wanted),

@@ -122,7 +122,7 @@ fn a_text_that_does_not_fit_goes_by_itself(rt: HostRuntime) {
     assert!(rt; all_gather(rt.alloc(), LONG_TEXTS));
 }
 
-/// Files of which `a` is the one.
+/// Files with one file, `a`.
 fn file_a(alloc: Global, contents: &[u8]) -> Result<MemFiles, AllocError> {
     let mut files = MemFiles::new(alloc);
     files.add("a", contents)?;

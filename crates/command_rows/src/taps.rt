@@ -1,4 +1,4 @@
-//! A tap, which keeps the calls of a log: that memory for it can be had, for each rank.
+//! A tap, which keeps the calls of a log: there is memory for one of each rank.
 
 use call_tap::Tap;
 use scc_base::{CommRule, CoreId, Layout, Rank, Setup};

@@ -15,7 +15,7 @@ use std::thread::Threads;
 /// How many ranks there are.
 const RANKS: usize = 4;
 
-/// How often a rank looks for the other ones at most.
+/// The most times that a rank polls for the others.
 const LOOKS: u32 = 50_000_000;
 
 /// A gate that counts the passes of each rank, and at which all may wait for each other. It also counts the ranks that gave up waiting.
@@ -50,7 +50,7 @@ impl Passes {
         true
     }
 
-    /// Looks for the other ranks, until all have come.
+    /// Polls for the other ranks, until all have arrived.
     fn wait(&self) {
         for _ in 0..LOOKS {
             if self.have_all_come() {
@@ -60,7 +60,7 @@ impl Passes {
         self.missed.fetch_add(1, Ordering::SeqCst);
     }
 
-    /// Whether each rank has passed so often, and none gave up waiting for the others.
+    /// Whether each rank has passed this many times, and none gave up waiting for the others.
     fn are_all(&self, wanted: u64) -> bool {
         for at in 0..RANKS {
             if self.counts[at].load(Ordering::SeqCst) != wanted {
@@ -154,7 +154,7 @@ const ON_ONE_THREAD: &Given = &Given {
 
 const SEVENS: &[u8] = b"ue 0 x 07\nue 1 x 07\nue 2 x 07\nue 3 x 07\n";
 
-/// Whether each rank passes the gate so often, and all finish.
+/// Whether each rank passes the gate this many times, and all finish.
 fn pass<R: Threads + Sync>(rt: &R, alloc: Global, given: &Given, wanted: u64) -> bool {
     let gate = Passes::new(false);
     finish(rt, alloc, &gate, given, SEVENS) && gate.are_all(wanted)

@@ -12,7 +12,7 @@ pub fn an_old_copy_is_read()
     ensures keeps { end_of_text mended.old_copy_mended ≡ all_came }
 {}
 
-/// What core 0 wrote waits in its write-combining buffer, where core 1 does not see it.
+/// A word that core 0 wrote waits in its write-combining buffer, and core 1 does not see it.
 pub fn a_written_word_waits()
     ensures loses { end_of_text lesson.write_waits ≡ loses_at 6 (heap_word 0 0 0) 0 42 }
     ensures keeps { end_of_text mended.write_waits_mended ≡ all_came }

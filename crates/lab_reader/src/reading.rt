@@ -36,7 +36,7 @@ fn fault(line: u32, kind: LabKind) -> LabStop
     LabStop::Fault(LabFault { line, kind })
 }
 
-/// A lab in the middle of its reading, and whether no line had words yet.
+/// A lab of which some lines are read, and whether none of them had words.
 #[derive(Drop)]
 struct Reader {
     opening: bool,

@@ -33,7 +33,7 @@ fn wanted(to: usize, len: usize, i: usize) -> u8 {
     }
 }
 
-/// The rank for which the pieces are that a rank gets. A piece that goes to many has those of rank 0.
+/// The receiver that is written into a rank's pieces. Pieces that go to many name rank 0.
 fn target(more: More, rank: u8) -> u8 {
     match more {
         More::Gather | More::Allgather => 0,

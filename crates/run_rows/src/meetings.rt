@@ -14,7 +14,7 @@ use std::thread::Threads;
 /// How many ranks there are.
 const RANKS: usize = 4;
 
-/// How often a rank looks for the other ones.
+/// How often a rank polls for the others.
 pub(crate) const LOOKS: u64 = 5_000_000_000;
 
 /// A place where the threads of so many ranks meet: how many have arrived, and how many gave up waiting.
@@ -34,12 +34,12 @@ impl Meeting {
         }
     }
 
-    /// Whether all have come.
+    /// Whether all have arrived.
     fn is_full(&self) -> bool {
         self.came.load(Ordering::SeqCst) >= self.wanted
     }
 
-    /// Comes, and waits until all have come.
+    /// Arrives, and waits until all have arrived.
     pub(crate) fn wait(&self) {
         self.came.fetch_add(1, Ordering::SeqCst);
         for _ in 0..LOOKS {
@@ -170,7 +170,7 @@ impl Passes {
         }
     }
 
-    /// Whether each rank has passed so often.
+    /// Whether each rank has passed this many times.
     fn are_all(&self, wanted: u64) -> bool {
         for at in 0..RANKS {
             if self.counts[at].load(Ordering::SeqCst) != wanted {
@@ -233,7 +233,7 @@ impl<'a> PerRank for Looks<'a> {
     }
 }
 
-/// A script that sends nothing is over in one round.
+/// A script without messages ends in one round.
 #[test]
 fn each_rank_passes_the_gate_once_in_a_round(rt: HostRuntime) {
     let passes = Passes::new();

@@ -10,7 +10,7 @@ use std::alloc::Global;
 use std::test::Fail;
 use std::thread::Threads;
 
-/// Whether a number that four ranks pass round comes back raised by each of them, and all ranks finish.
+/// Whether a number that four ranks pass round returns raised by each of them, and all ranks finish.
 fn comes_round<R: Threads + Sync>(
     rt: &R,
     alloc: Global,

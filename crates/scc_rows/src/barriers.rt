@@ -196,7 +196,7 @@ fn a_rank_that_is_a_group_of_its_own_waits_for_nobody(rt: HostRuntime) -> Result
     shows_groups(rt.alloc(), 3, GROUP_OF_ONE)
 }
 
-// Enters a barrier of all ranks by the root alone.
+// The root alone enters a barrier of all ranks.
 fn entered_by_root(chip: &mut Chip, polls: u32) -> Result<(), BarStop>
     requires new { IsNew (about_in chip.old) chip.old }
     requires world { rule_of (about_in chip.old).comms 0 ≢ Absent }

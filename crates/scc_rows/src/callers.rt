@@ -45,7 +45,7 @@ struct Call {
     bytes: Vec<u8>,
 }
 
-/// A rank that has messages with one other. A call that gave up goes on in the next turn.
+/// A rank that has messages with one other. If a call gives up, the next turn continues it.
 #[derive(Drop)]
 pub(crate) struct Caller {
     core: Core<Never>,
@@ -282,7 +282,7 @@ fn rank_with_calls(alloc: Global, peer: Rank, deeds: &[(Deed, usize)]) -> Result
     Ok(Caller::new(alloc, peer, calls))
 }
 
-/// A pair of ranks, on cores 0 and 1, of which rank 0 makes the first calls and rank 1 the others.
+/// A pair of ranks, on cores 0 and 1. Rank 0 makes the first calls and rank 1 the others.
 pub(crate) fn calling(
     alloc: Global,
     layout: Layout,

@@ -64,7 +64,7 @@ fn a_store_is_seen_by_another_ranks_load(rt: HostRuntime) -> Result<(), Fail> {
     shows::<StoreAndLoad>(rt.alloc())
 }
 
-// Whether a register is taken by the first of two ranks alone, and by the other once it is freed.
+// Whether a register is taken by only the first of two ranks, and by the other after it is freed.
 fn takes_once<P: Port, Q: Port>(port: &mut P, other: &mut Q, core: CoreId) -> bool
     requires without { IsWithout (P.sight port.old) core }
     requires other_without { IsWithout (Q.sight other.old) core }
@@ -94,7 +94,7 @@ fn a_register_is_taken_once_until_it_is_freed(rt: HostRuntime) -> Result<(), Fai
     shows::<TwoTakes>(rt.alloc())
 }
 
-// Whether a rank that holds no register can take this one; it gives it back at once.
+// Whether a rank that holds no register can take this one; it frees it at once.
 fn passes<P: Port>(port: &mut P, core: CoreId) -> bool
     requires without { IsWithout (P.sight port.old) core }
     ensures without { IsWithout (P.sight port.new) core }

@@ -5,8 +5,8 @@ use groups::{Coll, Op, Shape, Step, Ty, fold_into, step, steps};
 use scc_base::{CommRule, Head, Kind, Layout, Rank, Setup, own_cores};
 use std::test::Fail;
 
-// Five ranks, on the cores of the same numbers. Communicator 1 has the even and the odd ranks, communicator 2
-// takes the groups of 1 apart in twos, and communicator 15 has each rank alone.
+// Five ranks, on the cores of the same numbers. Communicator 1 has the even and the odd ranks, communicator 2 splits the groups of 1 into
+// twos, and communicator 15 has each rank alone.
 fn five_ranks() -> Option<Setup> {
     let mut comms = [CommRule::Absent; 16];
     comms[0] = CommRule::World;

@@ -1,4 +1,4 @@
-//! The entry that an evictor names leaves the cache, and no other; and the text of a refused range.
+//! The entry that an evictor names leaves the cache, and no other; and the text of a rejected range.
 
 ghost use Rattle.std.specs.Prelude.{◌≡◌, [], None, if◌then◌else◌};
 
@@ -48,7 +48,7 @@ fn loads_for<V: Evict, P: Port>(core: &mut Core<V>, port: &mut CountingPort<P>, 
     port.loads().saturating_sub(before)
 }
 
-/// A rank reads three lines, of which the middle one leaves its cache, and reads them again.
+/// A rank reads three lines, the middle one leaves its cache, and the rank reads them again.
 struct MiddleLine;
 
 impl Meeting for MiddleLine {

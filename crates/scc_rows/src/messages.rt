@@ -251,8 +251,7 @@ fn task_of(alloc: Global, first: u8, deed: Deed, len: usize) -> Result<Task, Fai
     })
 }
 
-// These deeds, in this order, each with the length of its message. The messages of two ranks are told apart by
-// their place from the end.
+// These deeds, in this order, each with the length of its message. Messages of two ranks differ by their place from the end.
 fn tasks_of(alloc: Global, deeds: &[(Deed, usize)]) -> Result<Vec<Task>, Fail> {
     let mut tasks = Vec::new(alloc);
     for k in 0..deeds.len() {
@@ -293,7 +292,7 @@ fn rank_with_tasks<V: Evict + Default + Drop>(
     Ok(Talker::new(alloc, peer, V::default(), tasks))
 }
 
-// A pair of ranks of which rank 0 does the first deeds and rank 1 the others.
+// A pair of ranks. Rank 0 does the first deeds and rank 1 the others.
 pub(crate) fn talking<V: Evict + Default + Drop>(
     alloc: Global,
     layout: Layout,

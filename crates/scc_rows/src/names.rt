@@ -173,7 +173,7 @@ const BUFFERS: &[(u8, u8, bool)] = &[
     (0, 255, false),
 ];
 
-// Whether there is such a buffer if it fits, with the lines that were asked for, and none if it does not.
+// Whether there is a buffer of these lines if they fit, and none if they do not.
 fn is_buffer(first: u8, lines: u8, fits: bool) -> bool {
     match Buf::new(first, lines) {
         Some(buf) => fits && buf.first() == first && buf.lines() == lines,

@@ -1,4 +1,4 @@
-//! A rank's own heap flags can be had, written and waited for, over a port that lists the events.
+//! A rank's own heap flags can be allocated, written and waited for, over a port that lists the events.
 
 ghost use Rattle.std.specs.Prelude.{◌≡◌, ◌<◌, ◌≤◌, [], None};
 
@@ -22,7 +22,7 @@ fn write<R: Abort>(core: &mut Core<Never>, port: &mut ListedPort<'_, R>, f: Flag
     flag_write(core, port, Rank::of(0), f, set, 1).expect(rt, "a word is always written");
 }
 
-// Whether a flag that was written is seen, where the port has made `written` events by the write, and `seen` by the look.
+// Whether a flag that was written is seen, if the port made `written` events by the write, and `seen` by the poll.
 fn is_seen<R: Abort>(
     core: &mut Core<Never>,
     port: &mut ListedPort<'_, R>,

@@ -33,7 +33,7 @@ fn are(lines: &[[u64; 4]], wanted: &[[u64; 4]]) -> bool {
     lines == wanted
 }
 
-// Whether three lines of a buffer of two were refused.
+// Whether three lines of a buffer of two were rejected.
 fn is_refused(answer: Result<(), RangeFault>) -> bool {
     answer == Err(RangeFault { asked: 3, len: 2 })
 }
@@ -68,7 +68,7 @@ fn gets_zeros<P: Port, V: Evict + Drop>(port: &mut P, evict: V) -> bool
     got && are(&lines, ZEROS)
 }
 
-// Whether it does so with `loads` loads, after which the evictor was asked `questions` times and had `drops` lines dropped.
+// Whether it does so with `loads` loads, after which the evictor was asked `questions` times and evicted `drops` lines.
 fn gets_counted<P: Port, V: Evict + Drop>(
     port: &mut CountingPort<P>,
     inner: V,
@@ -250,7 +250,7 @@ fn a_written_word_is_stored_when_another_line_is_written(rt: HostRuntime) -> Res
     shows::<TwoWrites>(rt.alloc())
 }
 
-// The word that another rank stored between flushes of a core of which only the second has something to store.
+// The word that another rank stored between flushes of a core; only the second flush has something to store.
 fn flushes_beside<P: Port, Q: Port>(port: &mut P, other: &mut Q) -> u64
     requires rests { IsPortAtRest (P.sight port.old) }
     requires other_rests { IsPortAtRest (Q.sight other.old) }
@@ -278,7 +278,7 @@ fn a_flush_of_nothing_stores_nothing(rt: HostRuntime) -> Result<(), Fail> {
     shows::<ThreeFlushes>(rt.alloc())
 }
 
-// Whether a put and a get of three lines of a buffer of two are refused, while another rank stores a word of it.
+// Whether a put and a get of three lines of a buffer of two are rejected, while another rank stores a word of it.
 fn are_refused<P: Port, Q: Port, V: Evict>(
     core: &mut Core<V>,
     port: &mut P,
@@ -308,8 +308,8 @@ fn gets_the_store<P: Port, V: Evict>(core: &mut Core<V>, port: &mut P, at: Buf) 
     got && are(&lines, FIVE)
 }
 
-/// A rank reads a word, puts and gets more lines than the buffer has while the other stores the word, reads it again,
-/// which is held still, and gets the buffer.
+/// A rank reads a word, puts and gets more lines than the buffer has while the other stores the word, and reads it again from its cache.
+/// Then it gets the buffer.
 struct Refusals;
 
 impl Meeting for Refusals {

@@ -1,4 +1,4 @@
-//! A chip in memory and one rank's turn: it can be had, and its words and registers are used.
+//! A chip in memory and one rank's turn: it can be made, and its words and registers are used.
 
 ghost use Rattle.std.specs.Prelude.{◌≡◌, [], IfOk};
 ghost use Rattle.chip_memory.specs.Chips.{turn_sight};

@@ -13,8 +13,8 @@ const SEND: &[(Deed, usize)] = &[(Deed::Send, 100)];
 
 const RECEIVE: &[(Deed, usize)] = &[(Deed::Receive, 100)];
 
-/// A receive waits until the sender has taken its turns. Once the message is sent the sender waits in its turn, and
-/// the receive goes on.
+/// A receive waits until the sender has taken its turns. After the message is sent, the sender waits in its turn, and the receive
+/// continues.
 const RECEIVE_WAITS: &[Step] = &[
     Step::Rounds(&[1], 20, false),
     Step::Turn(1, Answer::Waits),
@@ -50,7 +50,7 @@ const LONG_AND_SHORT: &[(Deed, usize)] = &[(Deed::Post, 3_584), (Deed::Post, 7)]
 
 const THEIR_RECEIVES: &[(Deed, usize)] = &[(Deed::Receive, 3_584), (Deed::Receive, 7)];
 
-/// A second post waits. The first is received while the sender does nothing, and the second has not come.
+/// A second post waits. The first is received while the sender does nothing, and the second has not arrived.
 const SECOND_POST_WAITS: &[Step] = &[
     Step::Rounds(&[0], 300, false),
     Step::Turn(0, Answer::Waits),

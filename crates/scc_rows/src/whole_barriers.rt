@@ -20,7 +20,7 @@ use std::test::Fail;
 /// How many failed polls in a row end a whole barrier.
 const POLLS: u32 = 3;
 
-/// A rank that passes barriers of a communicator by whole calls, one in each turn. A call that gave up goes on in the next turn.
+/// A rank that passes barriers of a communicator by whole calls, one in each turn. If a call gives up, the next turn continues it.
 #[derive(Drop)]
 struct Passer {
     core: Core<Never>,
@@ -60,7 +60,7 @@ impl Player for Passer {
     }
 }
 
-// Shows that the ranks of a chip take these steps, and then those, by whole calls of this communicator's barriers.
+// Shows that the ranks of a chip take the first steps and then the others, by whole calls of this communicator's barriers.
 fn shows_passers(
     alloc: Global,
     chip: Chip,
@@ -75,8 +75,8 @@ fn shows_passers(
     as_named(takes(&mut team, first) && takes(&mut team, second))
 }
 
-/// A rank waits at each of the other's flags in turn, and the barrier then goes on, at both: the lines of the gather
-/// and the release flags of the world.
+/// At the root and at the other rank, a call waits at each of the flags in turn, and then the barrier continues. The lines are those of the
+/// gather and the release flags of the world.
 const BY_LINES: &[Step] = &[
     Step::Turn(0, Answer::WaitsAt(97)),
     Step::Turn(1, Answer::WaitsAt(105)),

@@ -14,11 +14,11 @@ use Rattle.steps_program.specs.declared.accesses.Kind.{Kind}
 use Rattle.steps_program.specs.declared.accesses.Kind.TheVariants.{Loads, Stores}
 use Rattle.steps_program.specs.Steps.{HasMade, HasMadeAway}
 
--- a case: where the accesses go, and of which kind they are
+-- a case: the target of the accesses, and their kind
 abbrev pub case : Way → Kind → Option Case
 case way kind = Some (record { way = way; kind = kind })
 
--- the case that the word KIND names
+-- the case that the word KIND names: the target of the accesses, and their kind
 abbrev pub case_of : List ℕ → Option Case
 case_of word =
     if bytes_eq word (codes "table-load") then case Table Loads
@@ -52,7 +52,7 @@ steps_job_of (kind ∷ count ∷ []) =
     option_and_then (λ case. option_map (λ n. record { case = case; count = n }) (count_number count)) (case_of kind)
 steps_job_of _ = None
 
--- the requested accesses were made where they were asked for: on a chip, by a rank whose port is with it or in a thread
+-- the result has the requested way, and rank 0 made the accesses if the way is a chip; about a bare table nothing is claimed
 abbrev pub HasMadeAt : Way → Kind → ℕ → Made → Type 0
 HasMadeAt Table kind count made = made ≡ OnTable
 HasMadeAt Port kind count (AtHome chip) = HasMade chip kind count
