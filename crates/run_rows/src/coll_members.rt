@@ -113,7 +113,7 @@ impl<V: Evict + Drop> Member<V> {
         }
     }
 
-    // a rank waits for the receiver of the posted message in its slot, before that of its send
+    // One turn of a call. A message with another head keeps the call unfinished.
     fn go_on<P: Port>(&mut self, port: &mut P, mut op: MoreOp) -> Turn
         requires no_op { self.old.op ≡ None }
         requires stands { Stands (taking_part (P.sight port.old) self.old.core op self.old.slot self.old.src.items self.old.dst.items) }

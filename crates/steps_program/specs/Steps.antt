@@ -24,7 +24,7 @@ access_step e = record { access = e.access; place = e.place }
 abbrev pub access_steps : List Event → List Step
 access_steps events = map access_step events
 
--- the kind of access that a job makes
+-- the access of a kind: a load or a store
 abbrev pub access_of : Kind → Access
 access_of Loads = Load
 access_of Stores = Store

@@ -27,7 +27,7 @@ fn make_at_home(chip: &mut Chip, kind: Kind, count: u32)
     make_many(&mut port, kind, count);
 }
 
-/// Makes this many loads, or stores, by rank 0 of a chip, whose port is with the chip.
+/// Makes this many loads, or stores, by rank 0, whose port is with the chip.
 pub fn by_port(alloc: Global, kind: Kind, count: u32) -> Result<Chip, AllocError>
     ensures made { IfOk result (λ chip. HasMade chip kind count) }
 {
@@ -56,7 +56,7 @@ fn make_away(chip: &mut Chip, kind: Kind, count: u32) -> Token
     port.into_token()
 }
 
-/// Makes this many loads, or stores, by rank 0 of a chip, whose port is in a thread.
+/// Makes this many loads, or stores, by rank 0, whose port is in a thread.
 pub fn by_seat(alloc: Global, kind: Kind, count: u32) -> Result<Away, AllocError>
     ensures made { IfOk result (λ made. HasMadeAway made.chip made.token kind count) }
 {
