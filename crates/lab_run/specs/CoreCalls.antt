@@ -51,8 +51,8 @@ pub record IsLineGot (me : ℕ) (memory : Memory) (old new : CoreAt) (line : Lin
   pub call : IsCall (line_got me line) me memory old new
   pub same : words ≡ line_in memory line
 
--- Each call of put and get's core, by its relation and over any port, is a step of a lab's core. Reads and transfers need an empty buffer
--- and a port whose events were steps of the shared words.
+-- Each call of put and get's core, by its relation and over any port, is a step of a lab's core. Reads, puts and gets need an empty buffer;
+-- reads and gets also need a port whose events were steps of the shared words.
 pub record CoreCallsLaw : Type 0 where
   pub write : (me : ℕ) (memory : Memory) (old new : CoreAt) (p : WordAt) (v : ℕ) → Writes old.port old.core p v new.port new.core
       → IsCall (word_written me p v) me memory old new
