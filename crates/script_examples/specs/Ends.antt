@@ -13,7 +13,7 @@ use Rattle.script_plain.specs.Ends.{Ended}
 use Rattle.script_plain.specs.Meaning.{plain_ends}
 use Rattle.script_machine.specs.Printed.{Printed}
 
--- what the ranks of a script leave behind at the end of its run, or the first fault of the script
+-- the results of a script's ranks at the end of its run, or the first fault of the script
 abbrev pub ends_of_text : List ℕ → ℕ → Result (List Ended) ReadFault
 ends_of_text text nue = parse_script text nue >>= λ script. Ok (plain_ends script)
 

@@ -9,14 +9,14 @@ ghost use Rattle.groups.specs.Collectives.{head_of_kind};
 ghost use Rattle.groups.specs.declared.operations.Ty.TheVariants.{Int, Long};
 ghost use Rattle.script_examples.specs.Ends.{ends_of_text, finishes, shows, shows_value, stops, waits};
 
-/// Three ranks pass two barriers. Where one of them does not come the others wait.
+/// Three ranks pass two barriers. If one of them does not come, the others wait.
 pub fn barriers_meet()
     ensures twice { ends_of_text (codes "all\nbarrier\nbarrier\nbytes x ff\nprint x\n") 3
         ≡ Ok (finishes (shows 0 (255 ∷ []) ∷ []) ∷ finishes (shows 0 (255 ∷ []) ∷ []) ∷ finishes (shows 0 (255 ∷ []) ∷ []) ∷ []) }
     ensures missed { ends_of_text (codes "ue 0-1\nbarrier\n") 3 ≡ Ok (waits 2 (Bar 0) [] ∷ waits 2 (Bar 0) [] ∷ finishes [] ∷ []) }
 {}
 
-/// The barrier of a group is passed by its members. Where one of them does not come the other waits.
+/// The barrier of a group is passed by its members. If one of them does not come, the other waits.
 pub fn groups_meet()
     ensures both { ends_of_text (codes "all\nsplit 1 mod 2\nue 0\nbarrier 1\nue 2\nbarrier 1\n") 3
         ≡ Ok (finishes [] ∷ finishes [] ∷ finishes [] ∷ []) }

@@ -1,4 +1,4 @@
-//! Whole scripts with what they come to, computed by the definitions.
+//! Complete scripts with their results, computed by the definitions.
 #![tactic(auto)]
 
 mod collectives;

@@ -14,7 +14,7 @@ pub fn all_post_first()
         ∷ finishes (shows 1 (9 ∷ []) ∷ []) ∷ []) }
 {}
 
-/// A rank goes on behind its post, and at its end and at its next post it waits until the message is taken.
+/// A rank goes on after its post. At its end and at its next post it waits until the message is taken.
 pub fn a_post_is_taken()
     ensures at_end { ends_of_text (codes "ue 0\nbytes x 01\npost 1 x\nprint x\n") 2
         ≡ Ok (posted_to 1 (waits 3 (Post 1 (plain_head 1)) (shows 0 (1 ∷ []) ∷ [])) ∷ finishes [] ∷ []) }

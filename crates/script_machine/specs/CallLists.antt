@@ -1,5 +1,4 @@
--- The calls of a rank without the bytes that go with them, which are known of its program before it runs (this project's
--- profile).
+-- The calls of a rank without their bytes, which its program determines before it runs (this project's profile).
 use Rattle.std.specs.Prelude.{ℕ, min, List, [], ◌∷◌, ◌++◌, Some, None}
 use Rattle.scc_base.specs.Heads.{plain_head, most_post}
 use Rattle.scc_base.specs.declared.calls.Call.{Call}
@@ -10,7 +9,7 @@ use Rattle.script_machine.specs.Local.{local_start, head_with_length}
 use Rattle.script_machine.specs.Program.{Act, Prim, program_of}
 use Rattle.script_machine.specs.Program.Act.{Set, Own, Send, Post, Recv, Gather, Bar, Begin, Fold, Accept, Finish}
 
--- the call that a primitive makes where these are the lengths, if it makes one
+-- the call that a primitive makes at these lengths, if it makes one
 abbrev pub calls_made : Lengths → Act → List Call
 calls_made l (Set reg content) = []
 calls_made l (Own own) = []
@@ -25,11 +24,11 @@ calls_made l (Fold op ty) = []
 calls_made l (Accept reg) = []
 calls_made l (Finish reg) = []
 
--- the calls of primitives that are left where these are the lengths, in order
+-- the calls of the primitives that are left, in order, from these lengths on
 abbrev pub calls_from : Lengths → List Prim → List Call
 calls_from l [] = []
 calls_from l (prim ∷ prims) = calls_made l prim.act ++ calls_from (lengths_after l prim.act) prims
 
--- the calls of a rank of a script, in order, with the heads that they have
+-- the calls of a rank of a script with their heads, in order
 abbrev pub calls_of : Script → ℕ → List Call
 calls_of script rank = calls_from (lengths_of (local_start script rank)) (program_of script rank)

@@ -1,4 +1,4 @@
--- How many repeats of a rank are open at a place of a script, and where its items stand.
+-- How many repeats of a rank are open at each place of a script, and which places have items of the rank.
 use Rattle.std.specs.Prelude.{◌≡◌, ℕ, zero, suc, ◌+◌, ◌-◌, ◌<◌, ◌≤◌, false, List, [], ◌∷◌, length, slice_get, Some}
 use Rattle.script_machine.specs.Program.{nesting_at}
 use Rattle.script_rules.specs.declared.effect.Nesting.{Nesting}
@@ -7,13 +7,13 @@ use Rattle.script_machine.specs.declared.course.Open.{Open}
 use Rattle.script_rules.specs.declared.script.Item.{Item}
 use Rattle.script_rules.specs.Script.{has_rank}
 
--- how many repeats are open behind an item, where `depth` are open before it
+-- how many repeats are open after an item, if `depth` are open before it
 abbrev pub depth_after : Nesting → ℕ → ℕ
 depth_after (nesting.Opens times) depth = depth + 1
 depth_after (nesting.Closes start) depth = depth - 1
 depth_after nesting.Stays depth = depth
 
--- how many repeats of a rank are open before the item at a place, where `depth` are open before the first one
+-- how many repeats of a rank are open before the item at a place, if `depth` are open before the first one
 abbrev pub depth_from : ℕ → ℕ → ℕ → List Item → ℕ
 depth_from rank depth zero items = depth
 depth_from rank depth (suc place) [] = depth
@@ -23,17 +23,17 @@ depth_from rank depth (suc place) (item ∷ items) = depth_from rank (depth_afte
 abbrev pub depth_at : ℕ → List Item → ℕ → ℕ
 depth_at rank items place = depth_from rank 0 place items
 
--- at the start of each open repeat, at least that one and those around it are open
+-- at the start of each open repeat, it and those around it are open
 abbrev pub AreHeld : ℕ → List Item → List Open → Type 0
 AreHeld rank items [] = Unit {0}
 AreHeld rank items (o ∷ repeats) = (length repeats < depth_at rank items o.start) × AreHeld rank items repeats
 
--- no more repeats are open at a place than the items before it leave open, and so at the start of each of these repeats
+-- at this place, and at the start of each of these repeats, at least so many repeats are open by the items before
 pub record IsDeep (rank : ℕ) (items : List Item) (place : ℕ) (repeats : List Open) : Type 0 where
   pub here : length repeats ≤ depth_at rank items place
   pub held : AreHeld rank items repeats
 
--- room for the repeats that are open at each place
+-- a table of this capacity can hold the repeats that are open at each place
 abbrev pub HasRoom : ℕ → List Item → ℕ → Type 0
 HasRoom rank items room = (place : ℕ) → depth_at rank items place ≤ room
 

@@ -1,4 +1,4 @@
--- What the machine of a rank holds, and what a statement of the rank alone does to it.
+-- What the machine of a rank holds, and how a local statement changes it.
 use Rattle.std.specs.Prelude.{ℕ, ◌+◌, ◌<◌, ◌≤◌, List, [], ◌∷◌, ◌++◌, length, replicate, slice_index_or, slice_set}
 use Rattle.script_rules.specs.declared.script.OwnStmt.TheVariants as own
 use Rattle.script_machine.specs.declared.held.Held.{Held}
@@ -10,11 +10,11 @@ use Rattle.script_machine.specs.Local.{Local, fold_if_fits}
 use Rattle.script_machine.specs.Rooms.{Rooms, local_by, rooms_by}
 use Rattle.script_machine.specs.Walk.{WalkView, content_of}
 
--- what a rank comes to that holds this
+-- the state of a rank whose machine holds this
 abbrev pub local_with : Held → WalkView → Standing → Local
 local_with h walk state = local_by h.registers h.folded h.taken walk h.prints state
 
--- the rooms of what is held
+-- the capacities of what is held
 abbrev pub rooms_with : Held → Rooms
 rooms_with h = rooms_by h.registers h.folded h.taken h.spare h.prints
 
@@ -22,7 +22,7 @@ rooms_with h = rooms_by h.registers h.folded h.taken h.spare h.prints
 abbrev pub held_at : Held → ℕ → List ℕ
 held_at h reg = slice_index_or h.registers.registers reg []
 
--- what is held at the start: nothing, in these rooms
+-- what is held at the start: nothing, with these capacities
 abbrev pub empty : Rooms → Held
 empty room =
     record {
@@ -33,7 +33,7 @@ empty room =
       prints = record { items = []; room = room.lengths.items; bytes = room.lengths.printed };
     }
 
--- the rooms are great enough for what a statement brings
+-- the capacities suffice for a statement
 abbrev pub HasRoomFor : Action → Held → Type 0
 HasRoomFor (action.Set reg content) h =
     reg < length h.registers.rooms → length (content_of content) ≤ slice_index_or h.registers.rooms reg 0
@@ -54,7 +54,7 @@ HasRoomFor (action.Finish reg) h = reg < length h.registers.rooms → length h.f
 abbrev pub held_with : Held → ℕ → List ℕ → Held
 held_with h reg bytes = record h { registers = record { registers = slice_set h.registers.registers reg bytes; rooms = h.registers.rooms } }
 
--- what is held after a statement of the rank alone
+-- what is held after a local statement
 abbrev pub held_after_own : Action → Held → Held
 held_after_own (action.Set reg content) h = held_with h reg (content_of content)
 held_after_own (action.Own (own.Apply op ty dst src)) h =

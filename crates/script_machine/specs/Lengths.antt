@@ -1,5 +1,5 @@
--- How many bytes a rank's registers and work buffers have, and how much it has printed, which is known of each point of its
--- program before it runs (this project's profile).
+-- How many bytes a rank's registers and work buffers have, and how much it has printed, at each point of its program. All are
+-- known before it runs (this project's profile).
 use Rattle.std.specs.Prelude.{ℕ, ◌+◌, List, map, length, slice_index_or, slice_set, sum_by, Option, Some, None}
 use Rattle.scc_base.specs.Heads.{MessageHead}
 use Rattle.script_rules.specs.declared.script.OwnStmt.TheVariants as own
@@ -10,8 +10,8 @@ use Rattle.script_machine.specs.Local.{Local}
 use Rattle.script_machine.specs.Program.{Act}
 use Rattle.script_machine.specs.Program.Act.{Set, Own, Send, Post, Recv, Gather, Bar, Begin, Fold, Accept, Finish}
 
--- how many bytes each register, the accumulator and the buffer of received bytes have, how many items are printed so far,
--- and how many bytes these have
+-- the lengths in bytes of each register, of the accumulator and of the received bytes, and the number and the bytes of the
+-- items printed so far
 pub record Lengths : Type 0 where
   pub registers : List ℕ
   pub accumulator : ℕ
@@ -19,7 +19,7 @@ pub record Lengths : Type 0 where
   pub items : ℕ
   pub printed : ℕ
 
--- how many bytes items have together
+-- the total length of printed items, in bytes
 abbrev pub printed_bytes : List Printed → ℕ
 printed_bytes items = sum_by (λ item. length item.bytes) items
 
@@ -38,7 +38,7 @@ lengths_of u =
 abbrev pub length_of_register : Lengths → ℕ → ℕ
 length_of_register l reg = slice_index_or l.registers reg 0
 
--- how many bytes a send takes
+-- how many bytes a send sends
 abbrev pub source_length : Lengths → Source → ℕ
 source_length l (source.Own reg) = length_of_register l reg
 source_length l source.Accumulator = l.accumulator
@@ -48,11 +48,11 @@ abbrev pub asked_length : Lengths → MessageHead → Option ℕ → ℕ
 asked_length l head None = head.len
 asked_length l head (Some reg) = length_of_register l reg
 
--- the lengths after a register got one
+-- the lengths after a register was set
 abbrev pub with_register : Lengths → ℕ → ℕ → Lengths
 with_register l reg len = record l { registers = slice_set l.registers reg len }
 
--- the lengths after a primitive: what is folded into stays as long as it is, and a receive takes as much as it asks for
+-- the lengths after a primitive: a fold keeps the length, and a receive takes as many bytes as it asks for
 abbrev pub lengths_after : Lengths → Act → Lengths
 lengths_after l (Set reg content) = with_register l reg (length content)
 lengths_after l (Own (own.Apply op ty dst src)) = l

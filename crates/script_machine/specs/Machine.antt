@@ -1,4 +1,4 @@
--- What is seen of the machine that runs the program of a rank.
+-- The view of the machine that runs a rank's program.
 use Rattle.std.specs.Prelude.{ℕ}
 use Rattle.scc_base.specs.Setups.{SetupView}
 use Rattle.script_rules.specs.Script.{Script}
@@ -6,7 +6,7 @@ use Rattle.script_machine.specs.Local.{Local}
 use Rattle.script_machine.specs.declared.posts.OnItsWay.{OnItsWay}
 use Rattle.script_machine.specs.declared.posts.Posted.{Posted}
 
--- the script, the setup and the rank that a machine runs, and what the rank holds
+-- the script, the setup and the rank of a machine, and the rank's state
 pub record MachineView : Type 0 where
   pub script : Script
   pub setup : SetupView

@@ -1,4 +1,4 @@
--- What stands next at a rank: all that the step of a run needs to know of it. `U` is whatever a rank's state is.
+-- The next action of a rank, which is all that a step of a run must know. `U` is the type of a rank's state.
 use Rattle.std.specs.Prelude.{ℕ, ◌==◌, Bool, true, false, List, Option, Some, None}
 use Rattle.scc_base.specs.Heads.{MessageHead}
 use Rattle.scc_base.specs.declared.calls.Call.{Call}
@@ -7,13 +7,13 @@ use Rattle.script_machine.specs.declared.facing.Facing.{Facing}
 use Rattle.script_machine.specs.declared.facing.Facing.TheVariants as facing
 use Rattle.script_machine.specs.declared.posts.Posted.{Posted}
 
--- What stands next at a rank: all that the step of a run needs to know of it. `U` is whatever a rank's state is.
+-- the next action of a rank, which is all that a step of a run must know; `U` is the type of a rank's state
 pub data Next (U : Type 0) : Type 0 where
-  -- nothing: the rank's program has ended, or the rank was stopped
+  -- none: the rank's program has ended, or the rank was stopped
   Ends : Next U
-  -- a statement of this rank alone, and the state after it
+  -- a local statement, and the state after it
   Goes : (after : U) → Next U
-  -- a post: the message that it leaves behind, and the state after it
+  -- a post: the message that it puts into its slot, and the state after it
   Posts : (message : Posted) → (after : U) → Next U
   -- a send, and the state after it
   Sends : (to : ℕ) → (head : MessageHead) → (bytes : List ℕ) → (after : U) → Next U
@@ -22,7 +22,7 @@ pub data Next (U : Type 0) : Type 0 where
   -- a barrier of a communicator, and the state after it
   Bars : (comm : ℕ) → (after : U) → Next U
 
--- the call that stands next
+-- the call that a rank makes next, if it makes one
 abbrev pub call_next : {U : Type 0} → Next U → Option Call
 call_next Ends = None
 call_next (Goes after) = None
@@ -31,7 +31,7 @@ call_next (Sends to head bytes after) = Some (call.Send to head)
 call_next (Recvs from head take refuse) = Some (call.Recv from head)
 call_next (Bars comm after) = Some (call.Bar comm)
 
--- whether a statement of the rank alone stands next
+-- the next action is a local statement
 abbrev pub is_going : {U : Type 0} → Next U → Bool
 is_going Ends = false
 is_going (Goes after) = true
@@ -40,7 +40,7 @@ is_going (Sends to head bytes after) = false
 is_going (Recvs from head take refuse) = false
 is_going (Bars comm after) = false
 
--- whether a barrier of this communicator stands next
+-- the next action is a barrier of this communicator
 abbrev pub is_at_barrier : {U : Type 0} → ℕ → Next U → Bool
 is_at_barrier comm Ends = false
 is_at_barrier comm (Goes after) = false
@@ -58,7 +58,7 @@ facing_of (Sends to head bytes after) = facing.One to
 facing_of (Recvs from head take refuse) = facing.One from
 facing_of (Bars comm after) = facing.Group
 
--- a state, past the barrier that stands next there
+-- the state after a barrier
 abbrev pub past_barrier : {U : Type 0} → Next U → U → U
 past_barrier Ends u = u
 past_barrier (Goes after) u = u

@@ -1,4 +1,4 @@
--- A walk through the items of a rank, and the course below it, which keeps its place and the repeats that are open.
+-- A walk through a rank's primitives, and the course that it follows, which keeps its place and the open repeats.
 use Rattle.std.specs.Prelude.{◌≡◌, ℕ, zero, suc, ◌+◌, ◌-◌, ◌<◌, ◌≤◌, Bool, true, false, IfSome, List, [], ◌∷◌, ◌++◌, map, length, drop, slice_get, Option, Some, None}
 use Rattle.std.specs.Option.{option_map}
 use Rattle.scc_base.specs.Setups.{SetupView}
@@ -38,7 +38,7 @@ IsShort (action.Fold op ty) = Unit {0}
 IsShort (action.Accept reg) = Unit {0}
 IsShort (action.Finish reg) = Unit {0}
 
--- the primitive that is meant
+-- the action that an action of the code means
 abbrev pub act_meant : Action → Act
 act_meant (action.Set reg content) = Set reg (content_of content)
 act_meant (action.Own own) = Own own
@@ -52,7 +52,7 @@ act_meant (action.Fold op ty) = Fold op ty
 act_meant (action.Accept reg) = Accept reg
 act_meant (action.Finish reg) = Finish reg
 
--- whether a primitive is one of the rank alone
+-- a primitive needs no other rank
 abbrev pub is_own_act : Act → Bool
 is_own_act (Set reg content) = true
 is_own_act (Own own) = true
@@ -66,11 +66,11 @@ is_own_act (Fold op ty) = true
 is_own_act (Accept reg) = true
 is_own_act (Finish reg) = true
 
--- whether an action is the rank's own: it needs no other rank
+-- an action needs no other rank
 abbrev pub is_own : Action → Bool
 is_own action = is_own_act (act_meant action)
 
--- the primitive that one of the code stands for
+-- the primitive that a primitive of the code means
 abbrev pub prim_meant : Primitive → Prim
 prim_meant p = record { line = p.line; act = act_meant p.action }
 
@@ -88,24 +88,24 @@ pub record CourseView : Type 0 where
   pub rank : ℕ
   pub left : List (Option Prim)
 
--- whether the end of a pass comes next
+-- the next mark is the end of a pass
 abbrev pub is_end : Option (Option Prim) → Bool
 is_end None = false
 is_end (Some None) = true
 is_end (Some (Some prim)) = false
 
--- whether a pass of a repeat ends with a statement
+-- a statement ends a pass of a repeat
 abbrev pub is_closing : Nesting → Bool
 is_closing (nesting.Opens times) = false
 is_closing (nesting.Closes start) = true
 is_closing nesting.Stays = false
 
--- the primitive that comes next: none where the end of a pass does
+-- the next primitive: none if the next mark is the end of a pass
 abbrev pub prim_of : Option (Option Prim) → Option Prim
 prim_of None = None
 prim_of (Some mark) = mark
 
--- a primitive is the one that comes next among marks which begin with no end of a pass
+-- the next primitive of marks that do not begin with an end of a pass
 pub record IsFront (marks : List (Option Prim)) (next : Option Primitive) : Type 0 where
   pub stands : is_end (slice_get marks 0) ≡ false
   pub same : option_map prim_meant next ≡ slice_get (prims_in marks) 0
@@ -121,7 +121,7 @@ woven here [] more = here
 woven here (next ∷ behind) [] = here
 woven here (next ∷ behind) (passes ∷ more) = here ++ (passes ++ woven next behind more)
 
--- what is left of what items make, where `more` has the further passes of each repeat that is open before them
+-- what is left of the items, if `more` has the further passes of each repeat that is open before them
 abbrev pub left_of : {A : Type 0} → Unrolled A → List (List A) → List A
 left_of u more = woven u.here u.behind more
 
@@ -130,18 +130,18 @@ abbrev pub left_at : SetupView → ℕ → List Item → ℕ → List Open → L
 left_at s rank items place open_repeats =
     left_of (unrolled_marks s rank (drop place items)) (map (again s rank items) open_repeats)
 
--- each open repeat is the one whose end comes next: what stands behind its end is what stands behind that one
+-- each open repeat is the one whose end comes next: the same marks follow both ends
 abbrev pub AreOpen : SetupView → ℕ → List Item → List (List (Option Prim)) → List Open → Type 0
 AreOpen s rank items [] open_repeats = Unit {0}
 AreOpen s rank items (next ∷ behind) [] = Unit {0}
 AreOpen s rank items (next ∷ behind) (o ∷ open_repeats) =
     ((unrolled_marks s rank (drop o.start items)).behind ≡ next ∷ behind) × AreOpen s rank items behind open_repeats
 
--- these repeats are open at a place: behind the end of each stands what the script has there
+-- these repeats are open at a place: the same marks follow their ends as in the script
 abbrev pub AreOpenAt : SetupView → ℕ → List Item → ℕ → List Open → Type 0
 AreOpenAt s rank items place open_repeats = AreOpen s rank items (unrolled_marks s rank (drop place items)).behind open_repeats
 
--- an item, if there is one, has more marks than this
+-- an item, if there is one, has more than `step` marks
 abbrev pub HasMore : SetupView → ℕ → Option Item → ℕ → Type 0
 HasMore s rank None step = Unit {0}
 HasMore s rank (Some item) step = step < length (marks_of s rank item)
@@ -150,7 +150,7 @@ HasMore s rank (Some item) step = step < length (marks_of s rank item)
 abbrev pub HasMoreMarks : SetupView → ℕ → List Item → ℕ → ℕ → Type 0
 HasMoreMarks s rank items place step = HasMore s rank (slice_get items place) step
 
--- a course stands where it can go on: each open repeat has its end, and the item there has more marks than were passed
+-- a course can go on: each open repeat has its end, and the item at its place has more marks than were passed
 pub record IsAt (s : SetupView) (rank : ℕ) (items : List Item) (place step : ℕ) (repeats : List Open) : Type 0 where
   pub within : rank < s.nue
   pub opens : AreOpenAt s rank items place repeats
@@ -161,49 +161,49 @@ abbrev pub mark_count : SetupView → ℕ → Option Item → ℕ
 mark_count s rank None = 0
 mark_count s rank (Some item) = length (marks_of s rank item)
 
--- whether an item, if there is one, is the end of a pass
+-- an item, if there is one, is the end of a pass
 abbrev pub is_pass_end : ℕ → Option Item → Bool
 is_pass_end rank None = false
 is_pass_end rank (Some item) = is_closing (nesting_at rank item)
 
--- how many marks the item at a place has, and whether one is the end of a pass
+-- how many marks the item at a place has, and whether it is the end of a pass
 pub record IsStand (s : SetupView) (rank : ℕ) (here : Option Item) (count : ℕ) (closes : Bool) : Type 0 where
   pub count_is : count ≡ mark_count s rank here
   pub closes_is : closes ≡ is_pass_end rank here
 
--- the repeats that are open behind the beginning of a repeat
+-- the repeats that are open after an item that may begin one
 abbrev pub repeats_behind_begin : Nesting → ℕ → List Open → List Open
 repeats_behind_begin (nesting.Opens times) at repeats = record { start = at + 1; left = times - 1 } ∷ repeats
 repeats_behind_begin (nesting.Closes start) at repeats = repeats
 repeats_behind_begin nesting.Stays at repeats = repeats
 
--- the place behind the end of a pass: the repeat's start where a pass is left, and else the next place
+-- the place after the end of a pass: the repeat's start if a pass is left, otherwise the next place
 abbrev pub next_pass : ℕ → ℕ → ℕ → ℕ
 next_pass at start zero = at + 1
 next_pass at start (suc left) = start
 
--- the place behind the end of a pass of the innermost open repeat, and `end` where none is open
+-- the place after the end of a pass of the innermost open repeat, or `end` if none is open
 abbrev pub closed_to : ℕ → ℕ → List Open → ℕ
 closed_to at end [] = end
 closed_to at end (o ∷ repeats) = next_pass at o.start o.left
 
--- the open repeats behind the end of a pass, where `left` passes are left of the innermost one
+-- the open repeats after the end of a pass, if `left` passes of the innermost one are left
 abbrev pub closed_by : ℕ → ℕ → List Open → List Open
 closed_by start zero repeats = repeats
 closed_by start (suc left) repeats = record { start = start; left = left } ∷ repeats
 
--- the open repeats behind the end of a pass of the innermost one
+-- the open repeats after the end of a pass of the innermost one
 abbrev pub repeats_behind_pass : List Open → List Open
 repeats_behind_pass [] = []
 repeats_behind_pass (o ∷ repeats) = closed_by o.start o.left repeats
 
--- the place behind an item that has marks
+-- the place after an item that has marks
 abbrev pub passed_to : Nesting → ℕ → ℕ → List Open → ℕ
 passed_to (nesting.Opens times) at end repeats = at + 1
 passed_to (nesting.Closes start) at end repeats = closed_to at end repeats
 passed_to nesting.Stays at end repeats = at + 1
 
--- the open repeats behind an item that has marks
+-- the open repeats after an item that has marks
 abbrev pub repeats_behind_marks : Nesting → List Open → List Open
 repeats_behind_marks (nesting.Opens times) repeats = repeats
 repeats_behind_marks (nesting.Closes start) repeats = repeats_behind_pass repeats

@@ -1,4 +1,4 @@
-//! What stands next at a rank: the call, the bytes that it sends and the bytes that it asks for.
+//! A rank's next action: the call, the bytes that it sends and the bytes that it asks for.
 #![tactic(auto, unfolding(crate::specs::Local::local_next))]
 
 ghost use Rattle.std.specs.Prelude.{◌≡◌};
@@ -19,7 +19,7 @@ impl<'s> Machine<'s> {
     ghost use Rattle.script_machine.specs.Moves.{bytes_out, length_asked, line_out, post_of};
     ghost use Rattle.scc_base.specs.Heads.{most_message};
 
-    /// Whether a statement of the rank alone stands next.
+    /// Whether the next action is a local statement.
     pub fn is_going(&self) -> bool
         ensures { result ≡ is_going (local_next self.now.local) }
     {
@@ -29,7 +29,7 @@ impl<'s> Machine<'s> {
         }
     }
 
-    /// The call that stands next.
+    /// The call that the rank makes next, if it makes one.
     #[inline(always)]
     pub fn call(&self) -> Option<Call>
         ensures { result ≡ call_next (local_next self.now.local) }
@@ -64,7 +64,7 @@ impl<'s> Machine<'s> {
         }
     }
 
-    /// Whom the rank faces in what stands next.
+    /// Whom the rank's next call is with.
     pub fn facing(&self) -> Facing
         ensures { result ≡ facing_of (local_next self.now.local) }
     {
@@ -86,7 +86,7 @@ impl<'s> Machine<'s> {
         }
     }
 
-    /// The bytes of the send or post that stands next; none where something else does.
+    /// The bytes of the next send or post; none if the next action is another one.
     pub fn bytes(&self) -> &[u8]
         ensures { result.now ≡ bytes_out (local_next self.now.local) }
     {
@@ -116,7 +116,7 @@ impl<'s> Machine<'s> {
         }
     }
 
-    /// The line of the statement that stands next; 0 where nothing does.
+    /// The line of the rank's next statement, or 0 if its program has ended.
     pub fn stands_at(&self) -> u32
         ensures { result ≡ statement_line self.now.local }
     {
@@ -126,7 +126,7 @@ impl<'s> Machine<'s> {
         }
     }
 
-    /// The post that stands next, without its bytes.
+    /// The message of the next post, without its bytes.
     pub fn post(&self) -> Option<OnItsWay>
         ensures { result ≡ post_of (local_next self.now.local) }
     {
@@ -152,7 +152,7 @@ impl<'s> Machine<'s> {
         }
     }
 
-    /// The line of the post that stands next; 0 where something else does.
+    /// The line of the next post, or 0 if the next action is another one.
     pub fn line(&self) -> u32
         ensures { result ≡ line_out (local_next self.now.local) }
     {
@@ -174,7 +174,7 @@ impl<'s> Machine<'s> {
         }
     }
 
-    /// How many bytes the receive that stands next asks for; 0 where something else stands.
+    /// How many bytes the next receive asks for, or 0 if the next action is another one.
     pub fn asked(&self) -> usize
         ensures { result ≡ length_asked (local_next self.now.local) }
     {
@@ -205,7 +205,7 @@ impl Lengths {
     ghost use Rattle.script_machine.specs.Lengths.{asked_length, source_length};
     ghost use Rattle.script_machine.specs.Walk.{act_meant};
 
-    /// How many bytes a send takes.
+    /// How many bytes a send sends.
     fn sent(&self, source: &Source) -> Length
         ensures { result ≡ source_length self.now source.now }
     {
@@ -245,7 +245,7 @@ impl Lengths {
     }
 }
 
-/// Whether a primitive is one of the rank alone.
+/// Whether a primitive needs no other rank.
 fn is_own(action: &Action) -> bool
     ensures { result ≡ is_own action.now }
 {

@@ -24,9 +24,9 @@ pub struct Open {
     pub left: u32,
 }
 
-/// A course through the items of a rank: its place in the script, how many marks the item there has and whether one is the
-/// end of a pass, the step of a collective call there, and the repeats that are open, the innermost one first. There is
-/// room for the most that the script opens. The items of the rank stand from the place `first` on and before the place `end`.
+/// A course through the items of a rank. It keeps its place, how many marks the item there has and whether one is the end of a
+/// pass, the step of a collective call there, and the open repeats, the innermost one first. It can hold as many open repeats
+/// as the script opens. The items of the rank are at places from `first` up to `end`, which is excluded.
 #[derive(Drop)]
 pub struct Course<'s> {
     scripts: &'s Scripts,
@@ -118,7 +118,7 @@ impl<'s> Course<'s> {
         self.rank
     }
 
-    /// Whether the end of a pass comes next.
+    /// Whether the next mark is the end of a pass.
     #[inline(always)]
     pub fn is_at_end(&self) -> bool
         ensures { result ≡ is_end (slice_get self.now.left 0) }
@@ -126,7 +126,7 @@ impl<'s> Course<'s> {
         self.closes
     }
 
-    /// The primitive that comes next: none where the end of a pass does.
+    /// The next primitive: none if the next mark is the end of a pass.
     #[inline(always)]
     pub fn front(&self) -> Option<Primitive<'s>>
         ensures same { option_map prim_meant result ≡ prim_of (slice_get self.now.left 0) }
@@ -177,7 +177,7 @@ impl<'s> Course<'s> {
         self.repeats.clear();
     }
 
-    /// Goes past the mark that comes next.
+    /// Passes the next mark.
     #[inline(always)]
     pub fn advance(&mut self)
         ensures { self.new ≡ record self.old { left = drop 1 self.old.left } }
@@ -206,7 +206,7 @@ impl<'s> Course<'s> {
         self.step = 0;
     }
 
-    /// How many passes come after the one that ends next, where no other repeat stands in theirs, and else 0.
+    /// How many passes follow the one that ends next if no other repeat is in them, otherwise 0.
     pub(crate) fn passes(&self) -> u32
         requires { is_end (slice_get self.now.left 0) ≡ true }
         ensures { HasPasses self.now.left result }
@@ -214,7 +214,7 @@ impl<'s> Course<'s> {
         flat_passes(self.scripts, self.rank, self.place, &self.repeats)
     }
 
-    /// Leaves these passes out.
+    /// Skips these passes.
     pub(crate) fn leave(&mut self)
         requires { is_end (slice_get self.old.left 0) ≡ true }
         ensures leaves { LeavesOut self.old.left self.new.left }
@@ -227,7 +227,7 @@ impl<'s> Course<'s> {
     }
 }
 
-/// How many primitives an item is for a rank.
+/// How many primitives an item makes for a rank.
 #[inline(always)]
 fn count_prims(setup: &Setup, rank: Rank, item: &Item) -> u32
     requires within { rank < setup.now.nue }
@@ -241,7 +241,7 @@ fn count_prims(setup: &Setup, rank: Rank, item: &Item) -> u32
     }
 }
 
-/// How many marks an item is for a rank, where it is told whether one is the end of a pass.
+/// How many marks an item has for a rank, given whether one is the end of a pass.
 #[inline(always)]
 fn count_at(setup: &Setup, rank: Rank, item: &Item, closes: bool) -> u32
     requires within { rank < setup.now.nue }
@@ -267,7 +267,7 @@ fn first_of(scripts: &Scripts, rank: Rank) -> usize
     scripts.len()
 }
 
-/// How far the items of a rank reach: the place behind the last one, and the most repeats that are open at a place.
+/// How far the items of a rank reach: the place after the last one, and the most repeats that are open at a place.
 #[derive(Clone, Copy)]
 struct Reach {
     end: usize,
@@ -311,8 +311,8 @@ fn enter(rank: Rank, item: &Item, at: usize, repeats: &mut VecDeque<Open>)
     }
 }
 
-/// The first place from here on at which an item has a mark for the rank, or the end. From the place `end` on none is
-/// an item of the rank.
+/// The first place from here on at which an item has a mark for the rank, or the end. From the place `end` on, no item is the
+/// rank's.
 #[inline(always)]
 fn settled(
     scripts: &Scripts,
@@ -355,7 +355,7 @@ fn settled(
     }
 }
 
-/// The place behind the end of a pass of the innermost open repeat: the next pass, or what stands behind the end.
+/// The place after the end of a pass of the innermost open repeat: the start of its next pass, or the place after its end.
 fn close(at: usize, end: usize, repeats: &mut VecDeque<Open>) -> usize
     requires below { at < usize.MAX }
     requires room { length repeats.old.items ≤ deque_capacity repeats.old }
@@ -378,7 +378,7 @@ fn close(at: usize, end: usize, repeats: &mut VecDeque<Open>) -> usize
     }
 }
 
-/// The place behind the marks of an item, of which one may be the end of a pass.
+/// The place after the marks of an item, of which one may be the end of a pass.
 #[inline(always)]
 fn pass_marks(closes: bool, at: usize, end: usize, repeats: &mut VecDeque<Open>) -> usize
     requires below { at < usize.MAX }

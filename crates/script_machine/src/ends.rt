@@ -5,14 +5,14 @@ use scc_base::{Call, Head, Rank};
 /// How the run of a rank ended.
 #[derive(Drop, PartialEq, Eq)]
 pub enum UeEnd {
-    /// Its program is done.
+    /// Its program has ended.
     Finished,
-    /// It waits at the call of this line.
+    /// It waits in the call of this line.
     Waits {
         line: u32,
         call: Call,
     },
-    /// A message came from this rank that has another head than the receive of this line asked for.
+    /// A message from this rank has another head than the receive of this line asked for.
     Mismatch {
         line: u32,
         from: Rank,

@@ -1,8 +1,8 @@
-//! Whom a rank faces.
+//! Whom a rank's next call is with.
 
 use scc_base::Rank;
 
-/// Whom a rank faces in what stands next.
+/// Whom a rank's next call is with.
 #[derive(Clone, Copy)]
 pub enum Facing {
     Nobody,

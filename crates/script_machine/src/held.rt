@@ -7,8 +7,8 @@ use crate::rooms::{Registers, Room};
 use script_rules::OwnStmt;
 use std::alloc::{AllocError, Global};
 
-/// What a rank holds: its registers, the two work buffers of collective calls, and what it printed; and a room for the copy
-/// of a register that is applied to one.
+/// What a rank holds: its registers, the two work buffers of collective calls, what it printed, and a scratch buffer for the
+/// copy of the register that `apply` reads.
 #[derive(Drop)]
 pub(crate) struct Held {
     pub(crate) registers: Registers,
@@ -18,7 +18,7 @@ pub(crate) struct Held {
     pub(crate) prints: Prints,
 }
 
-/// Three empty rooms of a rank.
+/// Three empty buffers of a rank.
 #[derive(Drop)]
 struct Buffers {
     folded: Room,
@@ -31,7 +31,7 @@ impl Held {
     ghost use Rattle.script_machine.specs.Holds.{HasRoomFor, empty, held_after_own};
     ghost use Rattle.script_machine.specs.Rooms.{rooms_of};
 
-    /// Nothing yet, in the rooms that are needed.
+    /// Nothing yet, in buffers of the capacities that are needed.
     pub(crate) fn new(alloc: Global, needs: &Needs) -> Result<Held, AllocError>
         ensures { IfOk result (λ h. h ≡ empty (rooms_of needs.now)) }
     {
@@ -51,7 +51,7 @@ impl Held {
         })
     }
 
-    /// Does what a statement of the rank alone does to what it holds; other statements do nothing to it.
+    /// Runs a local statement on what the rank holds; other statements change nothing.
     pub(crate) fn work(&mut self, action: &Action)
         requires { HasRoomFor action.now self.old }
         ensures { self.new ≡ held_after_own action.now self.old }

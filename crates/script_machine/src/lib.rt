@@ -1,4 +1,4 @@
-//! The machine of a rank: the primitives of a rank of a script, what it holds, what stands next there, and what it comes to.
+//! The machine of a rank: its primitives, what it holds, its next action, and its state after that.
 #![tactic(auto)]
 
 mod calls;

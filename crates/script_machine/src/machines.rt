@@ -1,4 +1,4 @@
-//! The machine that runs the program of a rank. It takes all its memory at the start.
+//! The machine that runs the program of a rank. It allocates all its memory at the start.
 #![tactic(auto, unfolding(crate::specs::Local::local_next))]
 
 ghost use Rattle.std.specs.Prelude.{◌≡◌, ◌≤◌, Option};
@@ -20,9 +20,9 @@ use script_rules::Scripts;
 use std::alloc::{AllocError, Global};
 use std::marker::Model;
 
-/// The machine that runs the program of a rank: what stands next there, and what the rank comes to. All its memory is taken
-/// in `new`: room for the repeats that are open, for each register and each work buffer at its greatest length, and for
-/// all that the rank prints.
+/// The machine that runs the program of a rank. It states the rank's next action and moves the rank past it. `new` allocates
+/// all its memory: for the open repeats, for each register and each work buffer at its greatest length, and for all that the
+/// rank prints.
 #[derive(Drop)]
 pub struct Machine<'s> {
     walk: Walk<'s>,
@@ -81,7 +81,7 @@ impl<'s> Machine<'s> {
         Machine::at_start(alloc, reckoned)
     }
 
-    /// The machine of a walk that was reckoned, before its first statement.
+    /// The machine of a walk whose needs are known, before its first statement.
     fn at_start(alloc: Global, reckoned: Reckoned<'s>) -> Result<Machine<'s>, AllocError>
         requires { AreWithin (rooms_of reckoned.needs) (nothing_held (length reckoned.needs.registers.items)) reckoned.walk.left }
         ensures { IfOk result (λ m. m
@@ -108,7 +108,7 @@ impl<'s> Machine<'s> {
         self.walk.rank()
     }
 
-    /// The primitive at which the rank stands.
+    /// The rank's next primitive.
     pub(crate) fn prim(&self) -> Option<&Primitive<'s>>
         ensures same { option_map (λ p. prim_meant p.now) result ≡ next_prim self.now.local }
         ensures short { IfSome result (λ p. IsShort p.now.action) }
@@ -127,7 +127,7 @@ impl<'s> Machine<'s> {
         self.held.registers.bytes(reg).len() as u32
     }
 
-    /// The bytes that a send takes.
+    /// The bytes that a send sends.
     pub(crate) fn source(&self, source: Source) -> &[u8]
         ensures same { result.now ≡ source_bytes self.now.local source }
         ensures within { length (source_bytes self.now.local source) ≤ most_message }
@@ -148,7 +148,7 @@ impl<'s> Machine<'s> {
         }
     }
 
-    /// The head of the message that a post of a register leaves behind.
+    /// The head of the message that a post of a register puts into its slot.
     pub(crate) fn post_head(&self, reg: u8) -> PostHead
         ensures { result ≡ plain_head (min (length (register_at self.now.local reg)) most_post) }
     {
@@ -168,7 +168,7 @@ impl<'s> Machine<'s> {
         }
     }
 
-    /// Does the statement of the rank alone that stands next.
+    /// Runs the next action, which is a local statement.
     pub fn go(&mut self)
         requires { IsTrue (is_going (local_next self.old.local)) }
         ensures { self.new ≡ record self.old { local = went (local_next self.old.local) self.old.local } }
@@ -181,7 +181,7 @@ impl<'s> Machine<'s> {
         self.held.work(&prim.action);
     }
 
-    /// Goes past the send, the post or the barrier that stands next.
+    /// Passes the next action, which is a send, a post or a barrier.
     pub fn pass(&mut self)
         requires { IsTrue (is_passable (local_next self.old.local)) }
         ensures { self.new ≡ record self.old { local = after_pass (local_next self.old.local) self.old.local } }
@@ -189,7 +189,7 @@ impl<'s> Machine<'s> {
         self.walk.advance();
     }
 
-    /// Goes past the receive that stands next, with the message's bytes.
+    /// Passes the next action, which is a receive, and takes the message's bytes.
     pub fn receive(&mut self, bytes: &[u8])
         requires at_receive { IsTrue (is_receiving (local_next self.old.local)) }
         requires long { length bytes.now ≡ length_asked (local_next self.old.local) }
@@ -207,7 +207,7 @@ impl<'s> Machine<'s> {
         }
     }
 
-    /// Stops at the receive that stands next: the message has another head.
+    /// Stops the rank at the next action, a receive: the message has another head.
     pub fn refuse(&mut self, sent: Head)
         requires { IsTrue (is_receiving (local_next self.old.local)) }
         ensures { self.new ≡ record self.old { local = after_refusal (local_next self.old.local) sent self.old.local } }
@@ -238,7 +238,7 @@ impl<'s> Machine<'s> {
         };
     }
 
-    /// How the rank's run ended, with this message on its way.
+    /// How the rank's run ended, if this message of its is in flight.
     pub fn end(&self, post: Option<OnItsWay>) -> UeEnd
         requires { is_going (local_next self.now.local) ≡ false }
         ensures { (slot : Option Posted) → option_map on_its_way slot ≡ post → result ≡ end_of slot self.now.local }
@@ -269,7 +269,7 @@ impl<'s> Machine<'s> {
         }
     }
 
-    /// Hands out the items that the rank printed, in order, and is at its end.
+    /// Hands out the items that the rank printed, in order, and ends the machine.
     pub fn take_items(&mut self, alloc: Global) -> Prints
         ensures gives { result.items ≡ self.old.local.printed }
         ensures ends { self.new ≡ record self.old { local = record self.old.local { left = []; printed = [] } } }
@@ -305,7 +305,7 @@ pub(crate) fn with_length(head: Head, len: u32) -> Head
     }
 }
 
-/// How the run of a rank ended that has nothing left.
+/// How the run of a rank ended whose program has ended.
 fn end_by_slot(post: Option<OnItsWay>) -> UeEnd
     ensures { (slot : Option Posted) → option_map on_its_way slot ≡ post → result ≡ end_by_slot slot }
 {

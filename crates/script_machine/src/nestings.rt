@@ -1,4 +1,4 @@
-//! What the items of a script do to the repeats of a rank, and the repeats in which no other repeat stands.
+//! What the items of a script do to the repeats of a rank, and the repeats without inner repeats.
 
 ghost use Rattle.std.specs.Prelude.{◌≡◌, ◌<◌, ◌≤◌, length, true};
 ghost use Rattle.std.specs.VecDeque.{deque_capacity};
@@ -14,7 +14,7 @@ use scc_base::Rank;
 use script_rules::{Item, Nesting, Scripts, effect_of};
 use std::collections::VecDeque;
 
-/// What an item does to the repeats of a rank. Whose item it is, is asked only of one that opens or closes a repeat.
+/// What an item does to the repeats of a rank. The section is checked only if the item opens or closes a repeat.
 pub(crate) fn nesting_at(rank: Rank, item: &Item) -> Nesting
     ensures { result ≡ nesting_at rank item.now }
 {
@@ -31,7 +31,7 @@ pub(crate) fn nesting_at(rank: Rank, item: &Item) -> Nesting
     }
 }
 
-/// Whether a pass of a rank's repeat ends with an item.
+/// Whether an item ends a pass of a rank's repeat.
 pub(crate) fn ends_pass(rank: Rank, item: &Item) -> bool
     ensures { result ≡ is_closing (nesting_at rank item.now) }
 {
@@ -51,7 +51,7 @@ fn stays(rank: Rank, item: &Item) -> bool
     }
 }
 
-/// How many repeats are open behind an item.
+/// How many repeats are open after an item.
 pub(crate) fn depth_behind(nesting: Nesting, depth: usize) -> usize
     requires { depth < usize.MAX }
     ensures { result ≡ depth_after nesting depth }
@@ -63,7 +63,7 @@ pub(crate) fn depth_behind(nesting: Nesting, depth: usize) -> usize
     }
 }
 
-/// Whether no item from a place on opens or closes a repeat of a rank before another place.
+/// Whether no item between two places opens or closes a repeat of the rank.
 fn is_flat(scripts: &Scripts, rank: Rank, start: usize, end: usize) -> bool
     requires { end ≤ length scripts.now.items }
     ensures { result ≡ true → (s : SetupView) → IsFlat s rank scripts.now.items start end }
@@ -79,7 +79,7 @@ fn is_flat(scripts: &Scripts, rank: Rank, start: usize, end: usize) -> bool
     true
 }
 
-/// How many passes come after the one that ends at this place, where no other repeat stands in theirs, and else 0.
+/// How many passes follow the one that ends at this place if no other repeat is in them, otherwise 0.
 pub(crate) fn flat_passes(scripts: &Scripts, rank: Rank, at: usize, repeats: &VecDeque<Open>) -> u32
     requires { at ≤ length scripts.now.items }
     ensures { 0 < result → IsFlatFront rank scripts.now.items at repeats.now.items result }
@@ -93,7 +93,7 @@ pub(crate) fn flat_passes(scripts: &Scripts, rank: Rank, at: usize, repeats: &Ve
     open.left
 }
 
-/// This pass of the innermost open repeat becomes its last.
+/// Makes this pass of the innermost open repeat its last.
 pub(crate) fn end_passes(repeats: &mut VecDeque<Open>)
     requires { length repeats.old.items ≤ deque_capacity repeats.old }
     ensures left { repeats.new.items ≡ last_pass repeats.old.items }

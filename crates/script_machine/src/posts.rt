@@ -3,8 +3,8 @@
 use crate::registers::Register;
 use scc_base::{PostHead, Rank};
 
-/// A message that its sender left behind and that nobody took yet: for which rank, its head and bytes, and the line of
-/// the statement that posted it.
+/// A message that was posted and not taken yet: its target rank, its head and bytes, and the line of the statement that posted
+/// it.
 #[derive(Drop)]
 pub struct Posted {
     pub to: Rank,

@@ -1,4 +1,4 @@
-//! The primitives of a rank, and what a rank's run leaves behind.
+//! The primitives of a rank, and how a rank's run goes on.
 
 use groups::{Coll, Op, Step, Ty};
 use scc_base::{Head, Rank};
@@ -15,7 +15,7 @@ pub enum Content<'s> {
     Number { ty: Ty, number: u8 },
 }
 
-/// What a send takes its bytes from.
+/// Where a send takes its bytes from.
 #[derive(Clone, Copy)]
 pub enum Source {
     Own { reg: u8 },
@@ -29,7 +29,7 @@ pub enum Action<'s> {
         reg: u8,
         content: Content<'s>,
     },
-    /// A statement of the rank's own.
+    /// A local statement.
     Own(OwnStmt),
     Send {
         to: Rank,
@@ -149,7 +149,7 @@ impl<'s> Primitive<'s> {
     }
 }
 
-/// Whether a rank goes on: not where a message came that has another head than the receive of this line asked for.
+/// Whether a rank is running. A message with another head than the receive of this line asked for stops it.
 #[derive(Drop)]
 pub enum Standing {
     Running,

@@ -1,4 +1,4 @@
-//! What a rank printed, in memory that was taken at the start.
+//! What a rank printed, in memory that was allocated at the start.
 
 ghost use Rattle.std.specs.Prelude.{◌≡◌, ◌≤◌, ◌+◌, ◌++◌, length, vec_capacity};
 ghost use Rattle.scc_base.specs.Heads.{most_message};
@@ -7,7 +7,7 @@ use script_rules::Form;
 use std::alloc::{AllocError, Global};
 use std::marker::Model;
 
-/// A printed register: which one, in which form, and where its bytes stand among the printed bytes.
+/// A printed register: which one, in which form, and the place of its bytes among the printed bytes.
 #[derive(Clone, Copy)]
 pub struct Entry {
     pub reg: u8,
@@ -16,8 +16,8 @@ pub struct Entry {
     pub len: u32,
 }
 
-/// The items that a rank printed: their bytes one behind the other, and a table of the items. There is room for all that
-/// the rank will print.
+/// The items that a rank printed: their bytes one after the other, and a table of the items. It can hold all that the rank will
+/// print.
 #[derive(Drop)]
 pub struct Prints {
     bytes: Vec<u8>,
@@ -44,7 +44,7 @@ impl Model for Prints {
         × ((printed_bytes (map (printed_of_entry p.bytes.items) p.table.items) ≡ length p.bytes.items) × (p.most ≤ vec_capacity p.bytes)) };
 }
 
-/// A printed register, lent.
+/// A printed register, borrowed.
 #[derive(Drop)]
 pub struct PrintedItem<'p> {
     reg: u8,
@@ -87,7 +87,7 @@ impl Prints {
     ghost use Rattle.script_machine.specs.Lengths.{printed_bytes};
     ghost use Rattle.scc_base.specs.Heads.{most_message};
 
-    /// Room for this many items that have this many bytes.
+    /// An empty table that can hold this many items with this many bytes.
     pub(crate) fn new(alloc: Global, items: usize, bytes: usize) -> Result<Prints, AllocError>
         ensures { IfOk result (λ p. p ≡ record { items = []; room = items; bytes = bytes }) }
     {
@@ -100,7 +100,7 @@ impl Prints {
         })
     }
 
-    /// No item, and room for none.
+    /// A table without items that can hold none.
     pub(crate) fn none(alloc: Global) -> Prints
         ensures { result ≡ record { items = []; room = 0; bytes = 0 } }
     {
@@ -111,7 +111,7 @@ impl Prints {
         }
     }
 
-    /// Puts a register behind the items.
+    /// Appends a register to the items.
     pub(crate) fn print(&mut self, reg: u8, form: Form, bytes: &[u8])
         requires short { length bytes.now ≤ most_message }
         requires item { length self.old.items < self.old.room }
@@ -150,7 +150,7 @@ impl Prints {
     }
 }
 
-/// Puts bytes behind others, for which there is room.
+/// Appends bytes to others, within the capacity.
 fn append(bytes: &mut Vec<u8>, more: &[u8])
     requires { length bytes.old.items + length more.now ≤ vec_capacity bytes.old }
     ensures items { bytes.new.items ≡ bytes.old.items ++ more.now }

@@ -1,4 +1,4 @@
-//! The lengths of what a rank holds, and the greatest ones that its program has brought so far.
+//! The lengths of what a rank holds, and the greatest ones that its program has needed so far.
 
 ghost use Rattle.std.specs.Prelude.{◌≡◌, ◌≤◌, length};
 ghost use Rattle.script_machine.specs.Rooms.{greater};
@@ -44,7 +44,8 @@ pub(crate) struct Reckoning {
     spare: Length,
 }
 
-/// How much room the program of a rank needs: for each register and work buffer, for the items that it prints and their bytes.
+/// What capacity the program of a rank needs: for each register and work buffer, for the items that it prints and for their
+/// bytes.
 #[derive(Drop)]
 pub struct Needs {
     pub registers: Vec<Length>,
@@ -72,7 +73,7 @@ impl Lengths {
     ghost use Rattle.script_machine.specs.Rooms.{greater, nothing_held};
     ghost use Rattle.script_machine.specs.Walk.{IsShort, act_meant};
 
-    /// The lengths of a rank that holds nothing and has `count` registers.
+    /// The lengths of a rank that holds nothing yet and has `count` registers.
     pub fn none(alloc: Global, count: usize) -> Result<Lengths, AllocError>
         ensures { IfOk result (λ l. l ≡ nothing_held count) }
     {
@@ -169,14 +170,14 @@ impl Lengths {
         Ok(())
     }
 
-    /// Whether a register stays as long as it is where it becomes this long.
+    /// Whether a register that is set to this length keeps its length.
     fn stays(&self, reg: u8, len: Length) -> bool
         ensures { result ≡ true → KeepsRegisters self.now (with_register self.now reg len) }
     {
         self.len(reg).get() == len.get()
     }
 
-    /// Whether a primitive prints nothing, and leaves the lengths of the registers. Those of the work buffers may change.
+    /// Whether a primitive prints nothing and keeps the lengths of the registers. Those of the work buffers may change.
     pub(crate) fn keeps(&self, action: &Action) -> bool
         requires { IsShort action.now }
         ensures { result ≡ true → KeepsRegisters self.now (lengths_after self.now (act_meant action.now)) }
@@ -308,7 +309,7 @@ impl Reckoning {
         let _spare = self.spare;
     }
 
-    /// The room for what the program brought.
+    /// The capacity that the program so far needs.
     pub(crate) fn needs(self) -> Needs
         ensures { rooms_of result ≡ self.most }
     {

@@ -1,4 +1,4 @@
-//! The bytes of a message on its way.
+//! The bytes of a message in flight.
 
 ghost use Rattle.std.specs.Prelude.{◌≡◌, ◌≤◌};
 ghost use Rattle.scc_base.specs.Heads.{plain_head, most_message};

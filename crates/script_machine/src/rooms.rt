@@ -1,4 +1,4 @@
-//! Rooms for bytes, and the registers of a rank, all taken at the start.
+//! Buffers for bytes, and the registers of a rank, all allocated at the start.
 
 ghost use Rattle.std.specs.Prelude.{◌≡◌, ◌≤◌, ◌%◌, ◌+◌, ◌++◌, [], length, min};
 ghost use Rattle.script_machine.specs.Program.{filling};
@@ -8,7 +8,7 @@ use groups::{Op, Ty, fold_into};
 use std::alloc::{AllocError, Global};
 use std::marker::Model;
 
-/// Behind so many bytes those of a `fill` come again.
+/// The period of a `fill`: after so many bytes they repeat.
 const PERIOD: u32 = 251;
 
 /// A number of bytes that a message may have.
@@ -49,7 +49,7 @@ impl Length {
     }
 }
 
-/// Bytes, of which there are never more than the room that was taken for them.
+/// A buffer of bytes, never more than its capacity.
 #[derive(Drop)]
 pub struct Room {
     bytes: Vec<u8>,
@@ -74,7 +74,7 @@ impl Room {
     ghost use Rattle.script_machine.specs.Walk.{content_of};
     ghost use Rattle.scc_base.specs.Heads.{most_message};
 
-    /// An empty room for this many bytes.
+    /// An empty buffer that can hold this many bytes.
     pub fn new(alloc: Global, room: Length) -> Result<Room, AllocError>
         ensures { IfOk result (λ r. r ≡ record { bytes = []; room = room }) }
     {
@@ -142,7 +142,7 @@ impl Room {
         }
     }
 
-    /// Becomes this many bytes of a filling, of which it holds the first: all of them, or a whole period.
+    /// Becomes this many bytes of a filling, of which it holds the first ones: all of them, or a complete period.
     fn go_on_filling(&mut self, len: usize, start: u32)
         requires begun { self.old.bytes ≡ filling (min len PERIOD) start }
         requires within { len ≤ self.old.room }
@@ -157,8 +157,8 @@ impl Room {
         }
     }
 
-    /// Becomes `bytes op more`, value by value, where the two fit, and stays as it is where they do not: what `fold_into` answers is not
-    /// asked.
+    /// Becomes `bytes op more`, value by value, if the two fit, and otherwise stays as it is. The result of `fold_into` is not
+    /// used.
     pub fn fold(&mut self, op: Op, ty: Ty, more: &[u8])
         ensures { self.new ≡ record self.old { bytes = fold_if_fits op ty self.old.bytes more.now } }
     {
@@ -166,7 +166,7 @@ impl Room {
     }
 }
 
-/// The registers of a rank, each in a room of its own.
+/// The registers of a rank, each in its own buffer.
 #[derive(Drop)]
 pub struct Registers {
     rooms: Vec<Room>,
@@ -187,7 +187,7 @@ impl Registers {
     ghost use Rattle.script_machine.specs.Walk.{content_of};
     ghost use Rattle.scc_base.specs.Heads.{most_message};
 
-    /// Registers with these rooms, none of them set.
+    /// Registers with these capacities, none of them set.
     pub fn new(alloc: Global, lengths: &[Length]) -> Result<Registers, AllocError>
         ensures { IfOk result (λ r. r ≡ record { registers = replicate (length lengths.now) []; rooms = lengths.now }) }
     {
@@ -198,7 +198,7 @@ impl Registers {
         Ok(Registers { rooms })
     }
 
-    /// The bytes of a register: none where no register has this number.
+    /// The bytes of a register, or none if no register has this number.
     pub fn bytes(&self, reg: u8) -> &[u8]
         ensures same { result.now ≡ slice_index_or self.now.registers reg [] }
         ensures within { length (slice_index_or self.now.registers reg []) ≤ most_message }
@@ -229,7 +229,7 @@ impl Registers {
         }
     }
 
-    /// A register becomes `register op more`, value by value, where the two fit.
+    /// A register becomes `register op more`, value by value, if the two fit.
     pub fn fold(&mut self, op: Op, ty: Ty, reg: u8, more: &[u8])
         ensures { self.new
             ≡ record self.old {

@@ -1,4 +1,4 @@
-//! What statements make for a rank.
+//! The primitives that statements make for a rank.
 
 ghost use Rattle.std.specs.Prelude.{◌≡◌, ◌<◌, ◌≤◌, ℕ, length, slice_get, IfSome};
 ghost use Rattle.std.specs.Option.{option_map, option_to_list};
@@ -13,7 +13,7 @@ use groups::{Coll, Op, Ty, step, steps};
 use scc_base::{Rank, Setup};
 use script_rules::{Stmt, parent_of};
 
-/// The primitive of a statement that is one.
+/// The primitive of a statement that makes exactly one.
 #[inline(always)]
 fn single_of<'s>(nue: u8, rank: Rank, stmt: &'s Stmt) -> Option<Action<'s>>
     requires some { 1 ≤ nue }
@@ -69,7 +69,7 @@ fn single_of<'s>(nue: u8, rank: Rank, stmt: &'s Stmt) -> Option<Action<'s>>
     }
 }
 
-/// The collective call of a statement that is one.
+/// The collective call of a statement, if it is one.
 #[inline(always)]
 fn collective_of(stmt: &Stmt) -> Option<Collective>
     ensures { result ≡ collective_of stmt.now }
@@ -181,7 +181,7 @@ fn take_part<'s>(setup: &Setup, rank: Rank, call: Collective, k: u32) -> Action<
     call.operands.part(begun, step(setup, rank, call.coll, k))
 }
 
-/// How many primitives a statement is that is no collective call.
+/// How many primitives a statement makes, if it is no collective call.
 #[inline(always)]
 fn count_single(stmt: &Stmt) -> u32
     ensures { (nue rank : ℕ) → result ≡ length (option_to_list (single_of nue rank stmt.now)) }
@@ -204,7 +204,7 @@ fn count_single(stmt: &Stmt) -> u32
     }
 }
 
-/// How many primitives a statement is for a rank.
+/// How many primitives a statement makes for a rank.
 #[inline(always)]
 pub fn count(setup: &Setup, rank: Rank, stmt: &Stmt) -> u32
     requires within { rank < setup.now.nue }
@@ -217,7 +217,7 @@ pub fn count(setup: &Setup, rank: Rank, stmt: &Stmt) -> u32
     }
 }
 
-/// A primitive that a statement is for a rank.
+/// A primitive that a statement makes for a rank.
 #[inline(always)]
 pub fn action_of<'s>(setup: &Setup, rank: Rank, stmt: &'s Stmt, k: u32) -> Action<'s>
     requires within { rank < setup.now.nue }

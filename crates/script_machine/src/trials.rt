@@ -1,5 +1,5 @@
-//! What memory the program of a rank takes: a course through it over the lengths alone. Where a pass of a repeat changes no
-//! length and no other repeat stands in it, the passes after it need no more room, and are left out.
+//! Computes what memory the program of a rank needs, by a course through it over lengths only. If a pass changes no length and
+//! has no inner repeat, the passes after it need no more capacity and are skipped.
 
 ghost use Rattle.std.specs.Prelude.{◌≡◌, ◌<◌, length, slice_get, true, IfOk, OnOk, None, []};
 ghost use Rattle.script_rules.specs.Script.{rules_of};
@@ -46,7 +46,7 @@ fn reckon_course(alloc: Global, count: usize, course: &mut Course) -> Result<Nee
     Ok(reckoning.needs())
 }
 
-/// Reckons with all that is left.
+/// Computes the needs of all that is left.
 fn reckon_all(course: &mut Course, reckoning: &mut Reckoning) -> Result<(), AllocError>
     ensures holds { OnOk result (HoldsBefore reckoning.new.most reckoning.old.lengths (prims_in course.old.left)
         reckoning.new.lengths []) }
@@ -59,8 +59,8 @@ fn reckon_all(course: &mut Course, reckoning: &mut Reckoning) -> Result<(), Allo
     Ok(())
 }
 
-/// Reckons with what is left up to the next end of a pass. Where this was a pass that changed no length, and others of the
-/// same primitives come after it, these are left out.
+/// Computes the needs up to the next end of a pass. If that pass changed no length, further passes of the same primitives are
+/// skipped.
 fn reckon_pass(course: &mut Course, reckoning: &mut Reckoning) -> Result<(), AllocError>
     requires { is_end (slice_get course.old.left 0) ≡ true }
     ensures holds { OnOk result (HoldsBefore reckoning.new.most reckoning.old.lengths (prims_in course.old.left)
@@ -82,8 +82,8 @@ fn reckon_pass(course: &mut Course, reckoning: &mut Reckoning) -> Result<(), All
     Ok(())
 }
 
-/// Whether the passes that are left can be left out: there are some, and the one that was gone over kept the lengths of the
-/// registers, printed nothing, and left the work buffers as long as they were before it.
+/// Whether the passes that are left can be skipped: there are some, and the last one printed nothing and kept the lengths of
+/// registers and work buffers.
 fn is_quiet(passes: u32, kept: bool, lengths: &Lengths, folded: Length, taken: Length) -> bool
     ensures passes { result ≡ true → 1 < passes }
     ensures kept { result ≡ true → kept ≡ true }
@@ -96,8 +96,8 @@ fn is_quiet(passes: u32, kept: bool, lengths: &Lengths, folded: Length, taken: L
     lengths.accumulator().get() == folded.get() && lengths.received().get() == taken.get()
 }
 
-/// Reckons with the primitives up to the next end of a pass, or to the end. Whether the lengths of the registers stayed,
-/// and nothing was printed.
+/// Computes the needs up to the next end of a pass, or to the end. Returns whether the lengths of the registers stayed and
+/// nothing was printed.
 fn reckon_prims(course: &mut Course, reckoning: &mut Reckoning) -> Result<bool, AllocError>
     ensures stretch { OnOk result (IsStretch reckoning.new.most reckoning.old.lengths reckoning.new.lengths
         course.old.left course.new.left) }

@@ -11,8 +11,7 @@ use script_rules::Scripts;
 use std::alloc::{AllocError, Global};
 use std::marker::Model;
 
-/// A walk through the primitives of a rank: a course that never stands at the end of a pass, and the primitive that comes
-/// next on it.
+/// A walk through the primitives of a rank: a course that is never at the end of a pass, and the next primitive on it.
 #[derive(Drop)]
 pub struct Walk<'s> {
     course: Course<'s>,
@@ -82,7 +81,7 @@ impl<'s> Walk<'s> {
         self.course.rank()
     }
 
-    /// The primitive that comes next.
+    /// The next primitive.
     pub fn front(&self) -> Option<Primitive<'s>>
         ensures same { option_map prim_meant result ≡ slice_get self.now.left 0 }
         ensures short { IfSome result (λ p. IsShort p.action) }
@@ -93,7 +92,7 @@ impl<'s> Walk<'s> {
         }
     }
 
-    /// The same, lent.
+    /// The next primitive, borrowed.
     pub(crate) fn front_lent(&self) -> Option<&Primitive<'s>>
         ensures same { option_map (λ p. prim_meant p.now) result ≡ slice_get self.now.left 0 }
         ensures short { IfSome result (λ p. IsShort p.now.action) }
@@ -123,7 +122,7 @@ impl<'s> Walk<'s> {
         self.next = None;
     }
 
-    /// Goes past the primitive that comes next.
+    /// Passes the next primitive.
     pub fn advance(&mut self)
         ensures { self.new ≡ record self.old { left = drop 1 self.old.left } }
     {
@@ -133,7 +132,7 @@ impl<'s> Walk<'s> {
     }
 }
 
-/// Goes past the ends of passes that come next, and gives the primitive that stands there then.
+/// Passes the next ends of passes, and returns the primitive after them.
 #[inline(always)]
 fn pass_ends<'s>(course: &mut Course<'s>) -> Option<Primitive<'s>>
     ensures same { prims_in course.new.left ≡ prims_in course.old.left }

@@ -8,7 +8,7 @@ use Rattle.script_plain.specs.Meaning.{State, next_of}
 use Rattle.script_machine.specs.Next.{is_at_barrier}
 use Rattle.script_plain.specs.Step.{Configuration}
 
--- whether a call is a barrier of this communicator
+-- a call is a barrier of this communicator
 abbrev pub is_barrier : ℕ → DataCall → Bool
 is_barrier comm (Send to head bytes) = false
 is_barrier comm (Recv from head bytes) = false
@@ -19,7 +19,7 @@ is_barrier comm (Bar asked) = asked == comm
 abbrev pub finished_barriers : ℕ → State → ℕ
 finished_barriers comm u = count_by (is_barrier comm) u.matched
 
--- how many barriers of a communicator a rank has entered: those that it has finished, and one more where it stands at one
+-- how many barriers of a communicator a rank has entered: those that it has finished, and one more if it waits in one
 abbrev pub entered_barriers : ℕ → State → ℕ
 entered_barriers comm u = finished_barriers comm u + (if is_at_barrier comm (next_of u) then 1 else 0)
 

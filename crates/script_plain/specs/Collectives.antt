@@ -1,4 +1,4 @@
--- What collective calls give (RCCE specification 2.0: RCCE_bcast, RCCE_reduce, RCCE_allreduce; the order of a fold is
+-- What collective calls guarantee (RCCE specification 2.0: RCCE_bcast, RCCE_reduce, RCCE_allreduce; the order of a fold is
 -- this project's profile). A rank's calls of one kind, communicator and root are counted by their messages: each is one
 -- message between the root and each of the others.
 use Rattle.std.specs.Prelude.{◌≡◌, ◌≢◌, ℕ, ◌<◌, ◌≤◌, true, List, [], ◌∷◌, ◌++◌, length, map, Some, slice_get, slice_set}
@@ -24,7 +24,7 @@ use Rattle.script_machine.specs.Next.Next.{Ends, Goes, Posts, Sends, Recvs, Bars
 use Rattle.script_machine.specs.Program.{Prim, acts_of, program_of, setup_of}
 use Rattle.script_plain.specs.Step.{Configuration}
 
--- what a rank comes to by itself in its next step: where it receives, it takes these bytes
+-- a rank after its next step by itself; if that is a receive, it takes these bytes
 abbrev pub gone_by : List ℕ → State → Next State → State
 gone_by bytes u Ends = u
 gone_by bytes u (Goes after) = after
@@ -33,8 +33,7 @@ gone_by bytes u (Sends to head sent after) = after
 gone_by bytes u (Recvs from head take refuse) = take bytes
 gone_by bytes u (Bars comm after) = after
 
--- what a rank comes to by itself in as many steps as there are lists of bytes: in each step it takes the next list, where it
--- receives
+-- a rank after as many steps by itself as there are lists of bytes; a step that is a receive takes its list
 abbrev pub gone_through : List (List ℕ) → State → State
 gone_through [] u = u
 gone_through (bytes ∷ more) u = gone_through more (gone_by bytes u (next_of u))
@@ -43,13 +42,13 @@ gone_through (bytes ∷ more) u = gone_through more (gone_by bytes u (next_of u)
 abbrev pub start_of_rank : Script → ℕ → State
 start_of_rank script rank = record { local = local_start script rank; matched = [] }
 
--- the calls that each rank has done are those that it makes by itself from its start, with the bytes that it received
+-- the calls that each rank has done are those that its program makes from the start, given the bytes that it received
 abbrev pub AreOwnWays : Script → Configuration State → Type 0
 AreOwnWays script c =
     (rank : ℕ) (u : State) → slice_get c.cells rank ≡ Some u
     → (path : List (List ℕ)) × (u.matched ≡ (gone_through path (start_of_rank script rank)).matched)
 
--- an item of the script which is one of this rank's
+-- an item of the script that is one of this rank's
 pub record IsOfRank (items : List Item) (rank : ℕ) (item : Item) : Type 0 where
   pub place : ℕ
   pub listed : slice_get items place ≡ Some item
@@ -59,14 +58,14 @@ pub record IsOfRank (items : List Item) (rank : ℕ) (item : Item) : Type 0 wher
 abbrev pub made_by : SetupView → ℕ → Item → List Prim
 made_by s rank item = map (λ act. record { line = item.line; act = act }) (acts_of s rank item.stmt)
 
--- primitives that items of a rank make, one item after another
+-- primitives that a rank's items make, one item after another
 pub data MadeByItems (s : SetupView) (rank : ℕ) (items : List Item) : List Prim → Type 0 where
   Done : MadeByItems s rank items []
   Then : (item : Item) → IsOfRank items rank item → (rest : List Prim) → MadeByItems s rank items rest
       → MadeByItems s rank items (made_by s rank item ++ rest)
 
--- a rank stands at a statement of its own: by itself it came there from its start, what the statement makes comes next, and
--- then what others of its statements make
+-- a rank is at the beginning of one of its statements: its program leads there from the start, and what the statement makes
+-- comes next, followed by what others of its statements make
 pub record StandsAtStatement (script : Script) (rank : ℕ) (statement : Stmt) (u : State) : Type 0 where
   pub way : List (List ℕ)
   pub reached : u ≡ gone_through way (start_of_rank script rank)
@@ -78,16 +77,16 @@ pub record StandsAtStatement (script : Script) (rank : ℕ) (statement : Stmt) (
   pub running : u.local.standing ≡ standing.Running
   pub next : u.local.left ≡ map (λ act. record { line = item.line; act = act }) (acts_of (setup_of script) rank statement) ++ rest
 
--- a rank that holds `now` came to a statement: it stood there when it held `before`, and its calls since then are those of a
--- way on from there
+-- a rank that holds `now` has come to a statement: it was at it when it held `before`, and its calls since then are those of a
+-- path from there
 pub record CameTo (script : Script) (rank : ℕ) (statement : Stmt) (now before : State) : Type 0 where
   pub stood : StandsAtStatement script rank statement before
   pub later : List (List ℕ)
   pub since : now.matched ≡ (gone_through later before).matched
 
--- a rank that holds `now` has done the calls of a statement: it stood there when it held `before`, by itself it comes from
--- there to `after`, behind all that the statement makes, and its calls since then are those of a way on from `after`. (Steps
--- of the rank alone that end the statement may still come: `now` tells its calls.)
+-- a rank that holds `now` has done the calls of a statement. It was at the statement when it held `before`, its program leads
+-- from there to `after`, after all that the statement makes, and its calls since then are those of a path from `after`. (Local
+-- steps that end the statement may still come: `now` determines only the calls.)
 pub record HasDone (script : Script) (rank : ℕ) (statement : Stmt) (now before after : State) : Type 0 where
   pub stood : StandsAtStatement script rank statement before
   pub taken : List (List ℕ)
@@ -96,7 +95,7 @@ pub record HasDone (script : Script) (rank : ℕ) (statement : Stmt) (now before
   pub later : List (List ℕ)
   pub since : now.matched ≡ (gone_through later after).matched
 
--- the program of a rank has a statement of its own in front of these primitives, which others of its statements make
+-- the program of a rank has one of its statements before these primitives, which others of its statements make
 pub record HasStatement (script : Script) (rank : ℕ) (statement : Stmt) (rest : List Prim) : Type 0 where
   pub item : Item
   pub listed : IsOfRank script.items rank item
@@ -105,7 +104,7 @@ pub record HasStatement (script : Script) (rank : ℕ) (statement : Stmt) (rest 
   pub behind : MadeByItems (setup_of script) rank script.items rest
   pub whole : program_of script rank ≡ front ++ (made_by (setup_of script) rank item ++ rest)
 
--- a statement of which a rank has no primitive left is done: what comes behind it was left then
+-- a statement of which a rank has no primitive left is done: what is left now is what was to come after it
 abbrev pub AreDone : Script → Configuration State → Type 0
 AreDone script c =
     (rank : ℕ) (statement : Stmt) (rest : List Prim) (u : State)
@@ -127,8 +126,8 @@ pub record IsOther (s : SetupView) (comm place root rank : ℕ) : Type 0 where
   pub below : rank < s.nue
   pub apart : rank ≢ root
 
--- the n-th broadcast of a communicator and root: each of the others that has done it holds the bytes that the root sent
--- then, in the register that it names, and its other registers are as they were
+-- the n-th broadcast of a communicator and root: each of the others that has done it holds the bytes that the root sent in the
+-- register that it names, and its other registers are unchanged
 abbrev pub AreBroadcast : Script → Configuration State → Type 0
 AreBroadcast script c =
     (comm place len size reg dst root rank : ℕ) (u v begun before after : State)
@@ -139,9 +138,9 @@ AreBroadcast script c =
     → sends_of kind.Bcast comm rank begun ≡ receipts_of kind.Bcast comm root before
     → after.local.registers ≡ slice_set before.local.registers dst (register_at begun.local reg)
 
--- the root came to the broadcast that a rank came to when it held `before`, and sent it these bytes. Eight parameters: the
--- script and where its run stands, which broadcast it is (the communicator, the root's place in the group and its rank), and
--- of the other its rank, its state and its bytes.
+-- the root came to the same broadcast as a rank that held `before`, and sent it these bytes. Eight parameters: the script and
+-- the configuration of its run, which broadcast it is (the communicator, the root's place in the group and its rank), and of
+-- the other its rank, its state and its bytes.
 pub record Casts (script : Script) (c : Configuration State) (comm place root rank : ℕ) (before : State) (bytes : List ℕ) : Type 0 where
   pub reg : ℕ
   pub len : ℕ
@@ -152,8 +151,8 @@ pub record Casts (script : Script) (c : Configuration State) (comm place root ra
   pub same : sends_of kind.Bcast comm rank begun ≡ receipts_of kind.Bcast comm root before
   pub given : register_at begun.local reg ≡ bytes
 
--- where one of the others has done the n-th broadcast of a communicator and root, the root came to its n-th, and what it
--- sent then stands in the register that the other names
+-- if one of the others has done the n-th broadcast of a communicator and root, the root came to its n-th, and what it sent
+-- then is in the register that the other names
 abbrev pub RootCame : Script → Configuration State → Type 0
 RootCame script c =
     (comm place size dst root rank : ℕ) (v before after : State)
@@ -163,9 +162,9 @@ RootCame script c =
     → (bytes : List ℕ) × Casts script c comm place root rank before bytes
     × (after.local.registers ≡ slice_set before.local.registers dst bytes)
 
--- one of the others came to its part in the fold that the root began when it held `begun`, with these bytes. Nine
--- parameters: the script and where its run stands, which fold it is (its statement, the kind of its messages, the
--- communicator, the root, the root's state when it began), and of the other its rank and its bytes.
+-- one of the others came to its part in the fold that the root began when it held `begun`, with these bytes. Nine parameters:
+-- the script and the configuration of its run, which fold it is (its statement, the kind of its messages, the communicator,
+-- the root, the root's state when it began), and of the other its rank and its bytes.
 pub record GivesPart (script : Script) (c : Configuration State) (call : Op → Ty → ℕ → ℕ → Stmt) (kind : Kind) (comm root : ℕ)
     (begun : State) (rank : ℕ) (bytes : List ℕ) : Type 0 where
   pub op : Op
@@ -180,7 +179,7 @@ pub record GivesPart (script : Script) (c : Configuration State) (call : Op → 
   pub given : register_at before.local src ≡ bytes
 
 -- each of the others came to its part in the root's fold, with these bytes by rank. Nine parameters: those of `GivesPart` with
--- the root's place in the group, by which the others are known, in place of the one rank.
+-- the root's place in the group, by which the others are known, instead of the one rank.
 abbrev pub AllGive : Script → Configuration State → (Op → Ty → ℕ → ℕ → Stmt) → Kind → ℕ → ℕ → ℕ → State → (ℕ → List ℕ) → Type 0
 AllGive script c call kind comm place root begun bytes =
     (rank : ℕ) → IsOther (setup_of script) comm place root rank → GivesPart script c call kind comm root begun rank (bytes rank)
@@ -200,8 +199,8 @@ AreReduced script c =
     → after.local.registers ≡ slice_set begun.local.registers dst
     (fold_with op ty (register_at begun.local src) bytes (others_of (setup_of script) comm root place))
 
--- where the root has done its n-th reduction of a communicator, each of the others came to its n-th, and the root holds the
--- fold of what they gave then
+-- if the root has done its n-th reduction of a communicator, each of the others came to its n-th, and the root holds the fold
+-- of what they gave then
 abbrev pub OthersGave : Script → Configuration State → Type 0
 OthersGave script c =
     (comm place dst src root : ℕ) (op : Op) (ty : Ty) (u begun after : State)
@@ -223,7 +222,7 @@ AreReducedToAll script c =
     → after.local.registers ≡ slice_set begun.local.registers dst
     (fold_with op ty (register_at begun.local src) bytes (others_of (setup_of script) comm root 0))
 
--- where member 0 has done its n-th reduction to all of a communicator, each of the others came to its n-th
+-- if member 0 has done its n-th reduction to all of a communicator, each of the others came to its n-th
 abbrev pub OthersGaveToAll : Script → Configuration State → Type 0
 OthersGaveToAll script c =
     (comm dst src root : ℕ) (op : Op) (ty : Ty) (u begun after : State)
@@ -247,9 +246,9 @@ AreToldAll script c =
     → after.local.registers ≡ slice_set before.local.registers to
     (fold_with op ty (register_at begun.local src) bytes (others_of (setup_of script) comm root 0))
 
--- member 0 came to the reduction to all that a rank came to when it held `before`, and so did each of the others; what the
--- rank gave itself is `own`, and `told` is the fold of what all gave. Eight parameters: the script and where its run stands,
--- the communicator and its member 0, and of the other its rank, its state, what it gave and what it was told.
+-- member 0, and each of the others, came to the same reduction to all as a rank that held `before`. The rank itself gave
+-- `own`, and `told` is the fold of what all gave. Eight parameters: the script and the configuration of its run, the
+-- communicator and its member 0, and of the other its rank, its state, what it gave and what it received.
 pub record TellsFold (script : Script) (c : Configuration State) (comm root rank : ℕ) (before : State) (own told : List ℕ) : Type 0 where
   pub op : Op
   pub ty : Ty
@@ -265,8 +264,8 @@ pub record TellsFold (script : Script) (c : Configuration State) (comm root rank
   pub mine : bytes rank ≡ own
   pub result : fold_with op ty (register_at begun.local src) bytes (others_of (setup_of script) comm root 0) ≡ told
 
--- where one of the others has done the n-th reduction to all of a communicator, member 0 came to its n-th, and so did each
--- of the others
+-- if one of the others has done the n-th reduction to all of a communicator, member 0 came to its n-th, and so did each of the
+-- others
 abbrev pub AllCame : Script → Configuration State → Type 0
 AllCame script c =
     (comm root to from rank : ℕ) (op : Op) (ty : Ty) (v before after : State)
@@ -276,8 +275,8 @@ AllCame script c =
     → (told : List ℕ) × TellsFold script c comm root rank before (register_at before.local from) told
     × (after.local.registers ≡ slice_set before.local.registers to told)
 
--- How many calls of a kind a rank has made is told by any of their messages, wherever it stands at a statement: a root has as
--- many with one of the others as with another, and each of the others has sent as many as it has received.
+-- Any messages of a call determine how many calls of its kind a rank has made, at the beginning of each statement: a root has
+-- as many with one of the others as with another, and each of the others has sent as many as it has received.
 pub record AreCountedAlike (script : Script) : Type 0 where
   pub broadcasts : (comm place root one two : ℕ) (statement : Stmt) (u : State)
       → IsOther (setup_of script) comm place root one → IsOther (setup_of script) comm place root two
@@ -292,7 +291,7 @@ pub record AreCountedAlike (script : Script) : Type 0 where
       → IsOther (setup_of script) comm 0 root rank
       → StandsAtStatement script rank statement u → sends_of kind.AllUp comm root u ≡ receipts_of kind.AllDown comm root u
 
--- nobody else's registers change: neither those of the root of a broadcast, nor those of the others in a reduction
+-- no one else's registers change: neither those of the root of a broadcast, nor those of the others in a reduction
 abbrev pub AreUntouched : Script → Type 0
 AreUntouched script =
     (comm place len reg dst src root rank : ℕ) (op : Op) (ty : Ty) (now before after : State)
@@ -300,7 +299,7 @@ AreUntouched script =
     → (HasDone script root (stmt.Bcast comm place reg len) now before after → after.local.registers ≡ before.local.registers)
     × (HasDone script rank (stmt.Reduce comm place op ty dst src) now before after → after.local.registers ≡ before.local.registers)
 
--- what the collective calls of a script give in a configuration, each fact a field
+-- what the collective calls of a script guarantee in a configuration, each fact a field
 pub record CollectivesHold (script : Script) (c : Configuration State) : Type 0 where
   pub messages : AreReceivedAsSent c
   pub broadcasts : AreBroadcast script c

@@ -1,4 +1,4 @@
--- What a rank holds has the lengths that the reader of the script reckoned, and what is left of its program keeps them.
+-- What a rank holds has the lengths that the reader of the script computed, and the rest of its program keeps them.
 use Rattle.std.specs.Prelude.{◌≡◌, ℕ, ◌≤◌, List, [], ◌∷◌, length, reverse, Option, Some, None}
 use Rattle.std.specs.Prelude.{◌⊎◌}
 use Rattle.scc_base.specs.Heads.{MessageHead, most_post}
@@ -9,15 +9,15 @@ use Rattle.script_machine.specs.Next.{Next}
 use Rattle.script_machine.specs.Next.Next.{Ends, Goes, Posts, Sends, Recvs, Bars}
 use Rattle.script_machine.specs.Program.{Act, Prim}
 
--- the length of each register of a rank, where it is set
+-- the length of each register of a rank, if it is set
 abbrev pub reckoned_at : Script → ℕ → ℕ → Option ℕ
 reckoned_at script rank reg = length_at script.nue (reverse script.items) rank reg
 
--- no bytes, or as many as this
+-- a length is 0 or this one
 abbrev pub HoldsLength : Option ℕ → ℕ → Type 0
 HoldsLength o n = (n ≡ 0) ⊎ (o ≡ Some n)
 
--- how many bytes the accumulator and the received bytes have behind an act, or none
+-- the length of the accumulator and the received bytes after an act, or none
 abbrev pub folding : (ℕ → Option ℕ) → Option ℕ → Act → Option ℕ
 folding had acc (Act.Set reg content) = acc
 folding had acc (Act.Own own) = acc
@@ -31,12 +31,12 @@ folding had acc (Act.Fold op ty) = acc
 folding had acc (Act.Accept reg) = acc
 folding had acc (Act.Finish reg) = acc
 
--- how many bytes a message has: as its head says, or as many as the named register has
+-- how many bytes a message has: as its head states, or as many as the named register has
 abbrev pub sized_by : (ℕ → Option ℕ) → MessageHead → Option ℕ → Option ℕ
 sized_by had head None = Some head.len
 sized_by had head (Some reg) = had reg
 
--- how many bytes the received bytes have behind an act, or none
+-- the length of the received bytes after an act, or none
 abbrev pub gathering : (ℕ → Option ℕ) → Option ℕ → Act → Option ℕ
 gathering had got (Act.Set reg content) = got
 gathering had got (Act.Own own) = got
@@ -64,7 +64,7 @@ Sets had acc got (Act.Fold op ty) = Unit {0}
 Sets had acc got (Act.Accept reg) = had reg ≡ got
 Sets had acc got (Act.Finish reg) = had reg ≡ acc
 
--- each primitive that is left keeps the lengths that the reader of the script reckoned
+-- each primitive that is left keeps the lengths that the reader of the script computed
 abbrev pub Keeps : (ℕ → Option ℕ) → Option ℕ → Option ℕ → List Prim → Type 0
 Keeps had acc got [] = Unit {0}
 Keeps had acc got (prim ∷ left) = Sets had acc got prim.act × Keeps had (folding had acc prim.act) (gathering had got prim.act) left
@@ -78,7 +78,7 @@ pub record Fits (had : ℕ → Option ℕ) (u : Local) : Type 0 where
   pub received : HoldsLength got (length u.received)
   pub keeps : Keeps had acc got u.left
 
--- what a rank holds after what stands next has these lengths, and a message has the length of its head
+-- after a rank's next action it still holds these lengths, and a message has the length of its head
 abbrev pub FitsNext : (ℕ → Option ℕ) → Next Local → Type 0
 FitsNext had Ends = Unit {0}
 FitsNext had (Goes after) = Fits had after

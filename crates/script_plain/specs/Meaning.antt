@@ -1,5 +1,4 @@
--- The plain meaning of scripts: what their ranks come to where sends meet receives (RCCE specification 2.0) and nothing
--- is said of a chip.
+-- The plain meaning of scripts: how their ranks run when sends meet receives (RCCE specification 2.0), without a chip.
 use Rattle.std.specs.Prelude.{ℕ, List, [], ◌∷◌, ◌++◌, Option, None, map, replicate, sum_by}
 use Rattle.std.specs.List.{range_with_len}
 use Rattle.scc_base.specs.Calls.{DataCall}
@@ -17,7 +16,7 @@ pub record State : Type 0 where
   pub local : Local
   pub matched : List DataCall
 
--- what stands next at a rank, with the call that it makes put behind those done
+-- a rank's next action, where each state after it has the call added to the calls done
 abbrev pub next_with_calls : List DataCall → Next Local → Next State
 next_with_calls calls Ends = Ends
 next_with_calls calls (Goes after) = Goes (record { local = after; matched = calls })
@@ -31,7 +30,7 @@ next_with_calls calls (Recvs from head take refuse) =
     (λ sent. record { local = refuse sent; matched = calls })
 next_with_calls calls (Bars comm after) = Bars comm (record { local = after; matched = calls ++ Bar comm ∷ [] })
 
--- what stands next at a rank, with the calls done so far
+-- a rank's next action, with the calls done so far
 abbrev pub next_of : State → Next State
 next_of u = next_with_calls u.matched (local_next u.local)
 
@@ -43,7 +42,7 @@ keys_of script = key_of (rules_of script.items)
 abbrev pub plain_step : (ℕ → ℕ → ℕ) → Configuration State → Option (Configuration State)
 plain_step keys c = lowest_step keys next_of c
 
--- the start: nothing is done, and all slots are empty
+-- the start: no call is done, and all slots are empty
 abbrev pub start_of : Script → Configuration State
 start_of script =
     record {
@@ -51,11 +50,11 @@ start_of script =
       slots = replicate script.nue None;
     }
 
--- the most steps that are left: each step uses up a primitive or stops a rank
+-- how many steps are left at most: each step uses up a primitive or stops a rank
 abbrev pub steps_left : Configuration State → ℕ
 steps_left c = sum_by (λ u. most_steps_left u.local) c.cells
 
--- the end: from the start the enabled step with the lowest owner is taken, until none is enabled
+-- the end: from the start, the enabled step with the lowest owner is taken until none is enabled
 abbrev pub plain_end : Script → Configuration State
 plain_end script = run_on (keys_of script) next_of (steps_left (start_of script)) (start_of script)
 
@@ -71,10 +70,10 @@ seen_of c = record { cells = locals_of c; slots = c.slots }
 abbrev pub IsPlainStep : (ℕ → ℕ → ℕ) → ℕ → Configuration State → Configuration State → Type 0
 IsPlainStep keys = IsStepOf keys next_of
 
--- what ranks leave behind in a configuration
+-- the results of the ranks in a configuration
 abbrev pub ends_at : Configuration Local → List Ended
 ends_at c = ends_of c.cells c.slots
 
--- what a script's ranks leave behind at the end
+-- the results of a script's ranks at the end
 abbrev pub plain_ends : Script → List Ended
 plain_ends script = ends_at (seen_of (plain_end script))

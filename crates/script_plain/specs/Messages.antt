@@ -29,12 +29,12 @@ sent_to rank calls = flat_map (sent_by rank) calls
 abbrev pub received_from : ℕ → List DataCall → List Message
 received_from rank calls = flat_map (received_by rank) calls
 
--- the message for a rank that stands in a slot
+-- the message for a rank that is in a slot, if there is one
 abbrev pub waiting_for : ℕ → Option Posted → List Message
 waiting_for rank None = []
 waiting_for rank (Some message) = if message.to == rank then record { head = message.head; bytes = message.bytes } ∷ [] else []
 
--- what a rank has sent to another is what the other has received from it, and then what stands in its slot
+-- what a rank has sent to another is what the other has received from it, followed by what is in its slot
 abbrev pub AreDelivered : Configuration State → Type 0
 AreDelivered c =
     (i j : ℕ) (u v : State) → slice_get c.cells i ≡ Some u → slice_get c.cells j ≡ Some v

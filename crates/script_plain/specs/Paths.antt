@@ -25,8 +25,8 @@ pub data DidCalls {U : Type 0} (next : U → Next U) (v : U) (end : Option Poste
   Met : (u w : U) → (last : Option Posted) → (comm : ℕ) → (calls : List DataCall) → next u ≡ Bars comm w
       → DidCalls next v end w last calls → DidCalls next v end u last (Bar comm ∷ calls)
 
--- the way of a rank from `start`, where it has posted nothing, to a state and the message that it posted last. It grows at
--- its end, and does not tell the calls
+-- the path of a rank from `start`, where it has posted nothing, to a state and the message that it posted last. It grows at
+-- its end, and does not keep the calls.
 pub data Came {U : Type 0} (next : U → Next U) (start : U) : U → Option Posted → Type 0 where
   Began : Came next start start None
   Went : (u v : U) → (last : Option Posted) → Came next start u last → next u ≡ Goes v → Came next start v last

@@ -1,4 +1,4 @@
--- The configurations that a run of a script may come to, by any of its steps.
+-- The configurations that a run of a script can reach, by any of its steps.
 use Rattle.std.specs.Prelude.{◌≡◌, ℕ}
 use Rattle.scc_base.specs.Runs.{Runs}
 use Rattle.script_rules.specs.Script.{Script}

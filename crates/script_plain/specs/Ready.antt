@@ -9,8 +9,8 @@ use Rattle.script_rules.specs.Script.{Script, rules_of}
 use Rattle.script_machine.specs.Next.{Next}
 use Rattle.script_machine.specs.Next.Next.{Ends, Goes, Posts, Sends, Recvs, Bars}
 
--- what stands next is no call, or one that the rank can make: a message with another rank of the run, with a head that a
--- message may have and as many bytes as it says; a post of one chunk at most; a barrier of a communicator that is there
+-- a rank's next action is no call, or one that it can make: a message with another rank of the run, with a valid head and as
+-- many bytes as it states; a post of at most one chunk; a barrier of a communicator with a rule
 abbrev pub CanMakeNext : {U : Type 0} → Script → ℕ → Next U → Type 0
 CanMakeNext script rank Ends = Unit {0}
 CanMakeNext script rank (Goes after) = Unit {0}

@@ -14,7 +14,7 @@ pub record Configuration (U : Type 0) : Type 0 where
   pub cells : List U
   pub slots : List (Option Posted)
 
--- what stands next at rank i: nothing where there is no such rank
+-- the next action of rank i, or none if there is no such rank
 abbrev pub next_at : {U : Type 0} → (U → Next U) → Configuration U → ℕ → Next U
 next_at next c i = option_map_or next (slice_get c.cells i) Ends
 
@@ -34,13 +34,13 @@ configuration_with_slot c i message = record c { slots = slice_set c.slots i mes
 abbrev pub same_head : MessageHead → MessageHead → Bool
 same_head sent asked = (sent.kind == asked.kind) && (sent.comm == asked.comm) && (sent.len == asked.len)
 
--- a post: rank i stands at one, and its slot is empty. The slot holds the message, and i goes on.
+-- a post: rank i's next action is one, and its slot is empty. The slot then holds the message, and i goes on.
 abbrev pub post_step : {U : Type 0} → Configuration U → ℕ → Posted → U → Option Posted → Option (Configuration U)
 post_step c i message after None = Some (configuration_with_slot (with_cell c i after) i (Some message))
 post_step c i message after (Some earlier) = None
 
--- a match: rank i stands at a send to j, its slot is empty, and j stands at a receive from i that asks for the same
--- head. j takes the bytes, and both go on. Its owner is the sender. Eight parameters, since both ends are looked at: the
+-- a match: rank i's next action is a send to j, its slot is empty, and j's is a receive from i that asks for the same head. j
+-- takes the bytes, and both go on. Its owner is the sender. Eight parameters, since both ends are looked at: the
 -- configuration, the two ranks, what i sends (the head, the bytes, its state after), i's slot, and what is next at j.
 abbrev pub match_step : {U : Type 0} → Configuration U → ℕ → ℕ → MessageHead → List ℕ → U → Option Posted → Next U
     → Option (Configuration U)
@@ -53,11 +53,11 @@ match_step c i j head bytes after None (Sends to sent out other) = None
 match_step c i j head bytes after None (Bars comm other) = None
 match_step c i j head bytes after (Some earlier) next = None
 
--- a take: rank j stands at a receive from i, and the slot of i holds a message to j with the head that j asks for. j
--- takes the bytes and goes on, and the slot is empty. A mismatch: the message in the slot of i, or the one that i
--- stands at sending while its slot is empty, has another head. j refuses it and is stopped, and i and its slot stay. Eight
--- parameters, since both ends are looked at: the configuration, the two ranks, what j asks for and its states after a take
--- and after a refusal, i's slot, and what is next at i.
+-- a take: rank j's next action is a receive from i, and the slot of i holds a message to j with the head that j asks for. j
+-- takes the bytes and goes on, and the slot is empty. A mismatch: the message in the slot of i, or the one that i sends next
+-- while its slot is empty, has another head. j refuses it and is stopped, and i and its slot stay. Eight parameters, since
+-- both ends are looked at: the configuration, the two ranks, what j asks for and its states after a take and after a refusal,
+-- i's slot, and what is next at i.
 abbrev pub receive_step : {U : Type 0} → Configuration U → ℕ → ℕ → MessageHead → (List ℕ → U) → (MessageHead → U) → Option Posted
     → Next U → Option (Configuration U)
 receive_step c j i asked take refuse (Some message) next =
@@ -79,25 +79,25 @@ abbrev pub by_rank : {U : Type 0} → (ℕ → U → U) → List U → List U
 by_rank change [] = []
 by_rank change (u ∷ us) = change 0 u ∷ by_rank (λ rank. change (suc rank)) us
 
--- whether each rank whose number passes the test stands at a barrier of this communicator
+-- each rank whose number passes the test waits at a barrier of this communicator
 abbrev pub all_at_barrier : {U : Type 0} → (U → Next U) → ℕ → (ℕ → Bool) → List U → Bool
 all_at_barrier next comm test [] = true
 all_at_barrier next comm test (u ∷ us) =
     (if test 0 then is_at_barrier comm (next u) else true) && all_at_barrier next comm (λ rank. test (suc rank)) us
 
--- a state past its barrier where the test passes, and as it is otherwise
+-- a state after its barrier if the test passes, otherwise unchanged
 abbrev pub past_if : {U : Type 0} → (U → Next U) → Bool → U → U
 past_if next member u = if member then past_barrier (next u) u else u
 
--- a barrier: all members of the group of rank i stand at one of their communicator. All go on. Its owner is member 0.
--- The members are the ranks with the key of i in the communicator.
+-- a barrier: all members of the group of rank i are at one of their communicator. All go on. Its owner is member 0. The
+-- members are the ranks with the key of i in the communicator.
 abbrev pub barrier_step : {U : Type 0} → (ℕ → ℕ → ℕ) → (U → Next U) → Configuration U → ℕ → ℕ → Option (Configuration U)
 barrier_step keys next c i comm =
     if (root_in (keys comm) i == i) && all_at_barrier next comm (is_with (keys comm) i) c.cells
     then Some (record c { cells = by_rank (λ rank. past_if next (is_with (keys comm) i rank)) c.cells })
     else None
 
--- the step that rank i owns, by what stands next there. A local step is a statement of this rank alone.
+-- the step that rank i owns, by its next action. A local step is a statement of this rank alone.
 abbrev pub step_by : {U : Type 0} → (ℕ → ℕ → ℕ) → (U → Next U) → Configuration U → ℕ → Next U → Option (Configuration U)
 step_by keys next c i Ends = None
 step_by keys next c i (Goes after) = Some (with_cell c i after)
@@ -123,7 +123,7 @@ lowest keys next c (suc n) i = option_or (step_of keys next c i) (lowest keys ne
 abbrev pub lowest_step : {U : Type 0} → (ℕ → ℕ → ℕ) → (U → Next U) → Configuration U → Option (Configuration U)
 lowest_step keys next c = lowest keys next c (length c.cells) 0
 
--- what comes of taking the enabled step with the lowest owner, again and again until none is enabled, at most n times
+-- the configuration after the enabled step with the lowest owner is taken until none is enabled, at most n times
 abbrev pub run_on : {U : Type 0} → (ℕ → ℕ → ℕ) → (U → Next U) → ℕ → Configuration U → Configuration U
 run_on keys next zero c = c
 run_on keys next (suc n) c = option_map_or (run_on keys next n) (lowest_step keys next c) c

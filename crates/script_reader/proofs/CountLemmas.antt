@@ -1,4 +1,4 @@
--- A statement of n words: what it says where a line has n words behind its first one, and that no other number will do.
+-- Statements with a fixed number of words after the first one: any other number is a fault.
 use Rattle.std.proofs.Common.{◌≡◌, ℕ, List, [], ◌∷◌, arith, get_or, length, map, refl, Err, Result}
 use Rattle.script_rules.specs.declared.fault.FaultKind.{FaultKind}
 use Rattle.script_rules.specs.declared.fault.FaultKind.TheVariants as kind

@@ -56,7 +56,7 @@ pub record IsSound (p : ReadingSoFar) (e : Effect) : Type 0 where
   pub printed : is_refused kind.TooLong p e ≡ false
   pub few : nat_lt most_names (length p.names) ≡ false
 
--- each kind is found among those of the table, wherever it stands there
+-- each kind is found in the table, whatever its place there
 each-absent : (p : ReadingSoFar) (e : Effect) → AreAbsent (has_fault p e) fault_table → IsSound p e
 each-absent p e absent =
     record {

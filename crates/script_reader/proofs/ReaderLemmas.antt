@@ -38,7 +38,7 @@ short-sized : (o : Option Target) → option_map_or (λ target. is_past_most tar
 short-sized None short = tt
 short-sized (Some target) short = size-short target.size short
 
--- a run of the rules behind these statements
+-- a run by the rules after these statements
 pub run-after : (nue : ℕ) (items : List Item) (rules : List CommRule) → rules ≡ rules_of items → record { nue = nue; layout = layout.LineFlags; hosts = []; comms = rules } ≡ run_of nue (reverse items)
 run-after nue items rules same = ap {A = List CommRule} {B = SetupView} (λ r. record { nue = nue; layout = layout.LineFlags; hosts = []; comms = r }) same ∙ sym (run-straight nue items)
 

@@ -1,4 +1,4 @@
--- Where a step of a reading stops, so does the reading.
+-- If a step of a reading stops, the reading stops.
 use Rattle.std.proofs.Common.{◌≡◌, ap, Result, Ok, Err, IsErr, IfOk, IsErrAnd, OnOk, subst, sym}
 use Rattle.script_rules.specs.declared.fault.FaultKind.{FaultKind}
 use Rattle.script_reader.specs.declared.fault.LineStop.{LineStop}
@@ -8,7 +8,7 @@ use Rattle.script_reader.specs.declared.fault.ReadStop.{ReadStop}
 use Rattle.script_reader.specs.declared.fault.ReadStop.TheVariants as stop
 use Rattle.script_reader.specs.Faults.{◌>>=◌, Gives, LineGives}
 
--- whatever would be read next: the kind of the fault is the same, and want of memory says nothing
+-- a fault has the same kind whatever would be read next, and out of memory states nothing
 pub stopped : {A B Y : Type 0} (seen : Y → B) (stop : LineStop) (meant : Result A FaultKind) (next : A → Result B FaultKind)
     → LineGives (λ (x : A). x) (Err stop) meant → LineGives seen (Err stop) (meant >>= next)
 stopped seen (line_stop.Kind kind) meant next gives = ap (λ (r : Result _ FaultKind). r >>= next) gives

@@ -39,8 +39,7 @@ use Rattle.script_rules.proofs.ClosedLemmas.{closed-of}
 use Rattle.script_reader.proofs.FaultLemmas.{IsSound, no-fault}
 use Rattle.script_reader.proofs.VersionLemmas.{IsPlain, said-plain}
 
--- the lines so far: they name no more registers than a file may, each end names the innermost repeat that is open before it, each repeat
--- is done at least once, and what stands in an open one is of the section that is open
+-- the lines so far: no more names than a file may have, repeats well nested, each run at least once and within one section
 record IsLaid (p : ReadingSoFar) : Type 0 where
   matched : AreMatched (past p)
   within : StayInSection (past p)

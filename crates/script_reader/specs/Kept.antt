@@ -1,4 +1,4 @@
--- What the reader keeps of the statements so far, what stays true at each line, and the registers of a statement of two.
+-- What the reader keeps of the statements so far, and the invariant that each line preserves.
 use Rattle.std.specs.Prelude.{◌≡◌, ℕ, ◌<◌, ◌≤◌, List, length, reverse, All}
 use Rattle.scc_base.specs.Communicators.{AreRules}
 use Rattle.scc_base.specs.Setups.{SetupView}
@@ -16,9 +16,9 @@ use Rattle.script_rules.specs.Settled.{AreInLine, ArePassed, HaveRules, IsNamed,
 use Rattle.script_rules.specs.Tally.{AreTallies}
 use Rattle.script_reader.specs.Progress.{ReadingSoFar, with_known_name, register_of}
 
--- what is kept of the statements so far: their groups, the open repeats and the tallies are those of the statements, and
--- their lengths and registers fit. Seven parameters: what the reader is told (the version, the number of ranks), what was
--- read (the statements, the names of registers), and the three that it keeps of them.
+-- the reader's invariant: groups, open repeats and tallies are those of the statements so far, whose lengths and registers
+-- fit. Seven parameters: what the reader is given (the version, the number of ranks), what was read (the statements, the names
+-- of registers), and the three that it keeps of them.
 pub record IsKept (version : Version) (nue : ℕ) (items : List Item) (names : List (List ℕ)) (run : SetupView) (repeats : List Open)
     (tallies : List Tally) : Type 0 where
   pub some : 1 ≤ nue
@@ -36,12 +36,12 @@ pub record IsKept (version : Version) (nue : ℕ) (items : List Item) (names : L
   pub ranked : length tallies ≡ nue
   pub tallied : AreTallies tallies nue (reverse items)
 
--- the lines so far have given at most as many statements as there are lines, and no more names than a file may have; the version stays
+-- so far there are at most as many statements as lines and no more names than a file may have, and the version is unchanged
 pub record IsUpTo (version : Version) (line : ℕ) (p : ReadingSoFar) : Type 0 where
   pub same : p.version ≡ version
   pub named : length p.names ≤ most_names
   pub counted : length p.items ≤ line
 
--- the numbers of two registers, of which the first is named first
+-- the numbers of two registers, of which `dst` is named first
 abbrev pub register_pair : ReadingSoFar → List ℕ → List ℕ → Pair
 register_pair p dst src = record { dst = register_of p.names dst; src = register_of (with_known_name p dst).names src }

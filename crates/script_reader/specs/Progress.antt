@@ -1,4 +1,4 @@
--- The fourth layer of the grammar: what stands after a line (this project's profile).
+-- The fourth layer of the grammar: what has been read after a line (this project's profile).
 use Rattle.std.specs.Prelude.{ℕ, Bool, true, false, ◌||◌, ◌==◌, is_none, nat_lt, min, if◌then◌else◌, List, [], ◌∷◌, ◌++◌, length, reverse, Option, Some, None, Result, Ok, Err}
 use Rattle.std.specs.List.{find, position_or_len}
 use Rattle.std.specs.Option.{ok_or, option_map_or}
@@ -36,8 +36,8 @@ use Rattle.script_rules.specs.Effects.{effect_of}
 use Rattle.script_reader.specs.Faults.{◌>>=◌}
 use Rattle.script_rules.specs.Limits.{most_names}
 
--- what the lines so far have given: the statements, the names of the registers, the section that is open, and whether no
--- line has had words yet
+-- what the lines so far have given: the statements, the names of registers, the current section, and whether no line has had
+-- words yet
 pub record ReadingSoFar : Type 0 where
   pub version : Version
   pub nue : ℕ
@@ -46,7 +46,7 @@ pub record ReadingSoFar : Type 0 where
   pub names : List (List ℕ)
   pub section : Option Who
 
--- what was read before the first line: nothing
+-- nothing has been read before the first line
 abbrev pub start : Version → ℕ → ReadingSoFar
 start version nue = record { version = version; nue = nue; opening = true; items = []; names = []; section = None }
 
@@ -54,23 +54,23 @@ start version nue = record { version = version; nue = nue; opening = true; items
 abbrev pub past : ReadingSoFar → List Item
 past p = reverse p.items
 
--- the number of a register: the place of its name, or the next place for a new name
+-- the number of a register: the place of its name, or the next free place for a new name
 abbrev pub register_of : List (List ℕ) → List ℕ → ℕ
 register_of names name = position_or_len (λ other. bytes_eq other name) names
 
--- the names, with this one among them
+-- the names with this one added, unless it is there already
 abbrev pub with_name : List (List ℕ) → List ℕ → List (List ℕ)
 with_name names name = if register_of names name == length names then names ++ name ∷ [] else names
 
--- a name is known from here on
+-- what has been read, with this name added
 abbrev pub with_known_name : ReadingSoFar → List ℕ → ReadingSoFar
 with_known_name p name = record p { names = with_name p.names name }
 
--- whether the statement has the fault for some rank of the section
+-- a check on ranks refuses the statement for some rank of the section
 abbrev pub is_refused : FaultKind → ReadingSoFar → Effect → Bool
 is_refused kind p e = some_rank p.nue p.section (refuses kind p.nue (past p) e)
 
--- whether a statement with this effect has a fault behind the lines so far. (The words of its line are none of it.)
+-- a statement with this effect has a fault, given the lines so far. (Faults of the words of its line are not among these.)
 abbrev pub has_fault : ReadingSoFar → Effect → FaultKind → Bool
 has_fault p e kind.NotText = false
 has_fault p e kind.UnknownStatement = false
@@ -92,31 +92,31 @@ has_fault p e kind.TooManyOps = turns_too_often (turns_in (open_of (past p))) e.
 has_fault p e kind.TooLong = is_too_long e || is_refused kind.TooLong p e
 has_fault p e kind.TooManyNames = nat_lt most_names (length p.names)
 
--- the faults that a statement may have, in the order of the fault table: the first that it has counts
+-- the faults that a statement may have, in the order of the fault table: the first one found is reported
 abbrev pub fault_table : List FaultKind
 fault_table =
     kind.RankRange ∷ kind.SelfMessage ∷ kind.UnknownComm ∷ kind.NotSplit ∷ kind.Unset ∷ kind.Shape ∷ kind.NoSection
     ∷ kind.StrayEnd ∷ kind.TooDeep ∷ kind.TooManyOps ∷ kind.TooLong ∷ kind.TooManyNames ∷ []
 
--- the first fault of a statement
+-- the first fault of a statement, in the order of the fault table
 abbrev pub first_fault : ReadingSoFar → Effect → Option FaultKind
 first_fault p e = find (has_fault p e) fault_table
 
--- the section of a statement behind the lines so far, or its first fault
+-- the section that a statement belongs to, or its first fault
 abbrev pub section_or_fault : ReadingSoFar → Effect → Result Who FaultKind
 section_or_fault p e = option_map_or Err (first_fault p e) (ok_or p.section kind.NoSection)
 
--- the statement behind the others, unless a check refuses it
+-- the statements with this one added, unless a check refuses it
 abbrev pub place : ℕ → ReadingSoFar → Stmt → Result ReadingSoFar FaultKind
 place line p stmt = do
   who ← section_or_fault p (effect_of stmt)
   Ok (record p { items = p.items ++ (record { line = line; who = who; stmt = stmt }) ∷ [] })
 
--- a number as a rank
+-- a number as a rank of the run, or the fault RankRange
 abbrev pub rank_said : ℕ → ℕ → Result ℕ FaultKind
 rank_said nue number = if nat_lt number nue then Ok number else Err kind.RankRange
 
--- the peer that was said: a number is a rank of the run
+-- the peer that a word names; a number must be a rank of the run
 abbrev pub peer_in : ℕ → PeerSaid → Result Peer FaultKind
 peer_in nue (peer.Abs rank) = do
   rank ← rank_said nue rank
@@ -124,20 +124,20 @@ peer_in nue (peer.Abs rank) = do
 peer_in nue (peer.Plus up) = Ok (to.Plus up)
 peer_in nue (peer.Minus down) = Ok (to.Minus down)
 
--- the number of a communicator, or of a place in a group: one past all of them stands as 255
+-- the number of a communicator, or of a place in a group: each number above 255 is stored as 255
 abbrev pub small : ℕ → ℕ
 small number = min number 255
 
--- the rule of a split by its colour, its parent and its number of parts
+-- the rule of a split, by its kind (`mod` or `div`), its parent and its number of parts
 abbrev pub rule_said : Colour → ℕ → ℕ → CommRule
 rule_said colour.Mod parent parts = rule.Mod parent parts
 rule_said colour.Div parent parts = rule.Div parent parts
 
--- a section line: the statements that follow belong to these ranks
+-- a section line: the statements that follow belong to these ranks. No repeat may be open.
 abbrev pub open_section : ReadingSoFar → Who → Result ReadingSoFar FaultKind
 open_section p who = if length (open_of (past p)) == 0 then Ok (record p { section = Some who }) else Err kind.UnclosedRepeat
 
--- what is read after the head of a section, which opens it
+-- what has been read after a section line, whose ranks must be ranks of the run
 abbrev pub after_section : ReadingSoFar → Section → Result ReadingSoFar FaultKind
 after_section p section.All = open_section p ranks.All
 after_section p section.Even = open_section p ranks.Even
@@ -147,7 +147,7 @@ after_section p (section.Span first last) = do
   last ← rank_said p.nue last
   if nat_lt last first then Err kind.RankRange else open_section p (ranks.Span first last)
 
--- a statement with its registers by number, and the names that are known behind it
+-- a statement with its registers by number, and the names that are known after it
 pub record NumberedStmt : Type 0 where
   pub names : List (List ℕ)
   pub statement : Stmt
@@ -164,7 +164,7 @@ naming_two names first second says =
       statement = says (register_of names first) (register_of (with_name names first) second);
     }
 
--- the statement of the rank's own that was said, behind these names
+-- a local statement with its registers by number, given the names so far
 abbrev pub local_numbered : List (List ℕ) → Local → NumberedStmt
 local_numbered names (local.Bytes name bytes) = naming_one names name (λ reg. stmt.Bytes reg bytes)
 local_numbered names (local.Fill name len start) = naming_one names name (λ reg. stmt.Fill reg len start)
@@ -172,12 +172,12 @@ local_numbered names (local.RankOf name ty) = naming_one names name (λ reg. stm
 local_numbered names (local.Apply op ty dst src) = naming_two names dst src (λ dst src. stmt.Own (own.Apply op ty dst src))
 local_numbered names (local.Print name form) = naming_one names name (λ reg. stmt.Own (own.Print reg form))
 
--- what is read after a statement of the rank's own: its item, or why it is refused
+-- what has been read after a local statement, or the fault for which it is refused
 abbrev pub after_local : ℕ → ReadingSoFar → Local → Result ReadingSoFar FaultKind
 after_local line p local =
     place line (record p { names = (local_numbered p.names local).names }) (local_numbered p.names local).statement
 
--- what is read after a statement of a message: its item, or why it is refused
+-- what has been read after a send, a post or a receive, or the fault for which it is refused
 abbrev pub after_message : ℕ → ReadingSoFar → Message → Result ReadingSoFar FaultKind
 after_message line p (message.Send peer name) = do
   peer ← peer_in p.nue peer
@@ -189,7 +189,7 @@ after_message line p (message.Recv peer name len) = do
   peer ← peer_in p.nue peer
   place line (with_known_name p name) (stmt.Recv peer (register_of p.names name) len)
 
--- what is read after a statement of a group: its item, or why it is refused
+-- what has been read after a statement on a communicator, or the fault for which it is refused
 abbrev pub after_group : ℕ → ReadingSoFar → Collective → Result ReadingSoFar FaultKind
 after_group line p (group.Barrier comm) = place line p (stmt.Barrier (small comm))
 after_group line p (group.Split comm parent colour parts) = place line p (stmt.Split (small comm) (rule_said colour (small parent) parts))
@@ -202,7 +202,7 @@ after_group line p (group.Allreduce comm op ty dst src) =
     place line (with_known_name (with_known_name p dst) src)
     (stmt.Allreduce (small comm) op ty (register_of p.names dst) (register_of (with_known_name p dst).names src))
 
--- what stands after a line that says this
+-- what has been read after a line with this content
 abbrev pub after_script_line : ℕ → ReadingSoFar → Said → Result ReadingSoFar FaultKind
 after_script_line line p said.Version = Ok p
 after_script_line line p (said.Section section) = after_section p section

@@ -1,5 +1,5 @@
--- The second layer of the grammar: what a line says by its words alone (this project's profile). In a line the number of
--- words is checked first, then words that are fixed, then numbers, then bytes, then names.
+-- The second layer of the grammar: what a line means by its words alone (this project's profile). In a line, the number of
+-- words is checked first, then fixed words, then numbers, then bytes, then names.
 use Rattle.std.specs.Prelude.{ℕ, ◌+◌, ◌&&◌, ◌++◌, ◌==◌, nat_le, Bool, true, length, if◌then◌else◌, List, [], ◌∷◌, codes, drop, take, slice_index, Option, Some, None, Result, Ok, Err}
 use Rattle.std.specs.List.{position_or_len}
 use Rattle.std.specs.Option.{ok_or}
@@ -37,15 +37,15 @@ use Rattle.texts.specs.Numbers.{number_of}
 abbrev pub number_said : List ℕ → Result ℕ FaultKind
 number_said word = ok_or (number_of word) kind.BadNumber
 
--- a number within two bounds
+-- the number, if it is within two bounds, both included
 abbrev pub from_range : ℕ → ℕ → ℕ → Result ℕ FaultKind
 from_range low high number = if nat_le low number && nat_le number high then Ok number else Err kind.BadNumber
 
--- a number within two bounds, as a word
+-- a word as a number within two bounds, both included
 abbrev pub range_said : ℕ → ℕ → List ℕ → Result ℕ FaultKind
 range_said low high word = number_said word >>= from_range low high
 
--- a word as bytes in hex, or the kind of its fault
+-- a word as bytes in hexadecimal, or the kind of its fault
 abbrev pub hex_said : List ℕ → Result (List ℕ) FaultKind
 hex_said word = ok_or (bytes_of word) kind.BadHex
 
@@ -60,7 +60,7 @@ type_said word =
     else if bytes_eq word (codes "long") then Ok ty.Long
     else Err kind.UnknownStatement
 
--- the name of a fold
+-- the operator of a fold: `sum`, `min`, `max` or `prod`
 abbrev pub operation_said : List ℕ → Result Op FaultKind
 operation_said word =
     if bytes_eq word (codes "sum") then Ok op.Sum
@@ -80,18 +80,18 @@ colour_said word =
 abbrev pub of_said : List ℕ → Result Bool FaultKind
 of_said word = if bytes_eq word (codes "of") then Ok true else Err kind.UnknownStatement
 
--- PEER: a rank, or `+K` or `-K`
+-- PEER: a rank, `+K` or `-K`
 abbrev pub peer_said : List ℕ → Result PeerSaid FaultKind
 peer_said word =
     if slice_index word 0 == 43 then number_said (drop 1 word) >>= (λ up. Ok (peer.Plus up))
     else if slice_index word 0 == 45 then number_said (drop 1 word) >>= (λ down. Ok (peer.Minus down))
     else number_said word >>= (λ rank. Ok (peer.Abs rank))
 
--- the bytes of the value that a word stands for, behind other bytes
+-- the bytes `front`, and after them the bytes of the value that a word states
 abbrev pub value_behind : Ty → List ℕ → List ℕ → Result (List ℕ) FaultKind
 value_behind type front word = ok_or (value_of_word type word) kind.BadNumber >>= λ bytes. Ok (front ++ bytes)
 
--- the bytes of values, behind those of the values before
+-- the bytes `front`, and after them the bytes of the values that the words state
 abbrev pub values_said : Ty → List ℕ → List (List ℕ) → Result (List ℕ) FaultKind
 values_said type front [] = Ok front
 values_said type front (word ∷ words) = value_behind type front word >>= λ bytes. values_said type bytes words
@@ -112,13 +112,13 @@ span_said first last = do
 abbrev pub dash_of : List ℕ → ℕ
 dash_of word = position_or_len (λ b. b == 45) word
 
--- the ranks of a section: one, or two with a dash between them
+-- the ranks of a section: one number, or two with a dash between them
 abbrev pub ranks_said : List ℕ → Result Said FaultKind
 ranks_said word =
     if dash_of word == length word then span_said word word
     else span_said (take (dash_of word) word) (drop (dash_of word + 1) word)
 
--- the words behind `ue`
+-- the words after `ue`
 abbrev pub ue_said : List (List ℕ) → Result Said FaultKind
 ue_said (ranks ∷ []) = ranks_said ranks
 ue_said _ = Err kind.WrongCount
@@ -138,7 +138,7 @@ values_named type name values = do
   name ← name_said name
   Ok (local.Bytes name bytes)
 
--- the words behind `ints` or `longs`: a name, and one value at least
+-- the words after `ints` or `longs`: a name and at least one value
 abbrev pub numbers_said : Ty → List (List ℕ) → Result Local FaultKind
 numbers_said type [] = Err kind.WrongCount
 numbers_said type (name ∷ values) = if length values == 0 then Err kind.WrongCount else values_named type name values
@@ -151,7 +151,7 @@ fill_words name len start = do
   name ← name_said name
   Ok (local.Fill name len start)
 
--- the words behind `fill`
+-- the words after `fill`
 abbrev pub fill_said : List (List ℕ) → Result Local FaultKind
 fill_said words = of_three_words fill_words words
 
@@ -172,24 +172,24 @@ apply_words operation type dst src = do
   src ← name_said src
   Ok (local.Apply operation type dst src)
 
--- the words behind `apply`
+-- the words after `apply`
 abbrev pub apply_said : List (List ℕ) → Result Local FaultKind
 apply_said words = of_four_words apply_words words
 
--- `print NAME` and `print TYPE NAME`
+-- `print NAME`
 abbrev pub hex_print_said : List ℕ → Result Local FaultKind
 hex_print_said name = do
   name ← name_said name
   Ok (local.Print name form.Hex)
 
--- the words behind `print`, with a type
+-- `print TYPE NAME`
 abbrev pub typed_print_said : List ℕ → List ℕ → Result Local FaultKind
 typed_print_said type name = do
   type ← type_said type
   name ← name_said name
   Ok (local.Print name (form.Decimal type))
 
--- the words behind `print`: a name, with a type before it or none
+-- the words after `print`: a name, with or without a type before it
 abbrev pub print_said : List (List ℕ) → Result Local FaultKind
 print_said (name ∷ []) = hex_print_said name
 print_said (type ∷ name ∷ []) = typed_print_said type name
@@ -202,7 +202,7 @@ send_words peer name = do
   name ← name_said name
   Ok (said.Message (message.Send peer name))
 
--- the words behind `send`
+-- the words after `send`
 abbrev pub send_said : List (List ℕ) → Result Said FaultKind
 send_said words = of_two_words send_words words
 
@@ -213,7 +213,7 @@ post_words peer name = do
   name ← name_said name
   Ok (said.Message (message.Post peer name))
 
--- the words behind `post`
+-- the words after `post`
 abbrev pub post_said : List (List ℕ) → Result Said FaultKind
 post_said words = of_two_words post_words words
 
@@ -225,7 +225,7 @@ recv_words peer name len = do
   name ← name_said name
   Ok (said.Message (message.Recv peer name len))
 
--- the words behind `recv`
+-- the words after `recv`
 abbrev pub recv_said : List (List ℕ) → Result Said FaultKind
 recv_said words = of_three_words recv_words words
 
@@ -255,7 +255,7 @@ parent_split_said comm of parent how parts = do
   parts ← range_said 1 48 parts
   Ok (said.Collective (group.Split comm parent how parts))
 
--- version 1 has splits of the world alone
+-- the words after `split`; version 1 can split only the world
 abbrev pub split_said : Version → List (List ℕ) → Result Said FaultKind
 split_said version (comm ∷ how ∷ parts ∷ []) = world_split_said comm how parts
 split_said version.Two (comm ∷ of ∷ parent ∷ how ∷ parts ∷ []) = parent_split_said comm of parent how parts
@@ -270,7 +270,7 @@ bcast_words comm root name len = do
   name ← name_said name
   Ok (said.Collective (group.Bcast comm root name len))
 
--- the words behind `bcast`
+-- the words after `bcast`
 abbrev pub bcast_said : List (List ℕ) → Result Said FaultKind
 bcast_said words = of_four_words bcast_words words
 
@@ -285,7 +285,7 @@ reduce_words comm root operation type dst src = do
   src ← name_said src
   Ok (said.Collective (group.Reduce comm root operation type dst src))
 
--- the words behind `reduce`
+-- the words after `reduce`
 abbrev pub reduce_said : List (List ℕ) → Result Said FaultKind
 reduce_said words = of_six_words reduce_words words
 
@@ -299,7 +299,7 @@ allreduce_words comm operation type dst src = do
   src ← name_said src
   Ok (said.Collective (group.Allreduce comm operation type dst src))
 
--- the words behind `allreduce`
+-- the words after `allreduce`
 abbrev pub allreduce_said : List (List ℕ) → Result Said FaultKind
 allreduce_said words = of_five_words allreduce_words words
 
@@ -310,7 +310,7 @@ repeat_said (times ∷ []) = do
   Ok (said.Repeat times)
 repeat_said _ = Err kind.WrongCount
 
--- `rcce N`, with the number of the version
+-- `rcce N`, where N must be the number of the version
 abbrev pub rcce_said : Version → List (List ℕ) → Result Said FaultKind
 rcce_said version (number ∷ []) = do
   number ← range_said (version_number version) (version_number version) number
@@ -328,7 +328,7 @@ section_said first words =
     else if bytes_eq first (codes "end") then one_word_said said.End words
     else Err kind.UnknownStatement
 
--- a statement of the groups of a communicator, by its first word, or else a section line or a repeat
+-- a statement on a communicator, by its first word, or else a section line or a repeat
 abbrev pub group_said : Version → List ℕ → List (List ℕ) → Result Said FaultKind
 group_said version first words =
     if bytes_eq first (codes "barrier") then barrier_said words
@@ -338,7 +338,7 @@ group_said version first words =
     else if bytes_eq first (codes "allreduce") then allreduce_said words
     else section_said first words
 
--- the statement that a word begins, if a rank does it by itself
+-- the local statement that a first word begins, if it begins one
 abbrev pub local_word : List ℕ → Option LocalWord
 local_word first =
     if bytes_eq first (codes "bytes") then Some first_word.Bytes
@@ -350,7 +350,7 @@ local_word first =
     else if bytes_eq first (codes "print") then Some first_word.Print
     else None
 
--- a statement that a rank does by itself, by its first word
+-- a local statement, by its first word
 abbrev pub local_said : LocalWord → List (List ℕ) → Result Local FaultKind
 local_said first_word.Bytes words = bytes_said words
 local_said first_word.Ints words = numbers_said ty.Int words
@@ -360,19 +360,18 @@ local_said first_word.Rank words = rank_of_said words
 local_said first_word.Apply words = apply_said words
 local_said first_word.Print words = print_said words
 
--- a line by the statement that its first word begins: one that a rank does by itself, or else another line
+-- a local statement, if the first word begins one, or else another line
 abbrev pub register_said_by : Version → List ℕ → List (List ℕ) → Option LocalWord → Result Said FaultKind
 register_said_by version first words None = group_said version first words
 register_said_by version first words (Some word) = do
   statement ← local_said word words
   Ok (said.Local statement)
 
--- a statement of registers, by its first word, or else another line
+-- a line by its first word: a local statement, or another line
 abbrev pub register_said : Version → List ℕ → List (List ℕ) → Result Said FaultKind
 register_said version first words = register_said_by version first words (local_word first)
 
--- what a line says that has these words behind its first one. `opening` is whether no line before it has words: `rcce`
--- stands there alone
+-- what a line means, by its first word and the words after it. `opening`: no earlier line has words, so `rcce` is allowed.
 abbrev pub said_of : Version → Bool → List ℕ → List (List ℕ) → Result Said FaultKind
 said_of version opening first words =
     if bytes_eq first (codes "send") then send_said words

@@ -11,17 +11,17 @@ use Rattle.groups.specs.declared.operations.Ty.TheVariants as ty
 use Rattle.hex.specs.Hex.{decode_of}
 use Rattle.texts.specs.Numbers.{decimal_of}
 
--- the greatest value of a type. The least one is one further below zero
+-- the greatest value of a type; the least value is minus this, minus 1
 abbrev pub greatest : Ty → ℕ
 greatest ty.Int = 2147483647
 greatest ty.Long = 9223372036854775807
 
--- the bytes of the value `size` of a type: little-endian two's complement
+-- the bytes of the value `size` of a type, in little-endian two's complement
 abbrev pub bytes_above : Ty → ℕ → List ℕ
 bytes_above ty.Int size = to_le_bytes w32 size
 bytes_above ty.Long size = to_le_bytes w64 size
 
--- the bytes of the value `size` below zero of a type: little-endian two's complement
+-- the bytes of the value minus `size` of a type, in little-endian two's complement
 abbrev pub bytes_below : Ty → ℕ → List ℕ
 bytes_below ty.Int size = to_le_bytes w32 ((2 ^ 32 - size) % 2 ^ 32)
 bytes_below ty.Long size = to_le_bytes w64 ((2 ^ 64 - size) % 2 ^ 64)
@@ -33,14 +33,14 @@ value_of_word ty word =
     then option_map (bytes_below ty) (decimal_of 20 (greatest ty + 1) (drop 1 word))
     else option_map (bytes_above ty) (decimal_of 20 (greatest ty) word)
 
--- a letter, a digit or an underscore
+-- a byte is a letter, a digit or an underscore
 abbrev pub is_name_byte : ℕ → Bool
 is_name_byte b = is_ascii_alphabetic b || is_ascii_digit b || b == 95
 
--- a name: 1 to 16 letters, digits and underscores, and first a letter
+-- a word is a name: 1 to 16 letters, digits and underscores, of which the first is a letter
 abbrev pub is_name : List ℕ → Bool
 is_name word = nat_le 1 (length word) && nat_le (length word) 16 && is_ascii_alphabetic (slice_index word 0) && list_all is_name_byte word
 
--- the bytes that a word stands for: none for `-`, else two hex digits each
+-- the bytes that a word states: none for `-`, otherwise one for each two hex digits
 abbrev pub bytes_of : List ℕ → Option (List ℕ)
 bytes_of word = if bytes_eq word (codes "-") then Some [] else result_ok (decode_of word)

@@ -5,7 +5,7 @@ ghost use Rattle.std.specs.Prelude.{◌≡◌};
 use script_rules::FaultKind;
 use std::alloc::{AllocError, AllocFailed};
 
-/// The faults that a statement may have, in the order of the fault table: the first that it has counts.
+/// The faults that a statement may have, in the order of the fault table. The first one found is reported.
 pub(crate) const FAULT_TABLE: [FaultKind; 12] = [
     FaultKind::RankRange,
     FaultKind::SelfMessage,
@@ -21,14 +21,14 @@ pub(crate) const FAULT_TABLE: [FaultKind; 12] = [
     FaultKind::TooManyNames,
 ];
 
-/// The first fault of a file. Lines count from 1; line 0 stands for the file as a whole.
+/// The first fault of a file. Lines count from 1; line 0 means the file as a whole.
 #[derive(Clone, Copy, Debug, PartialEq, Eq)]
 pub struct ReadFault {
     pub line: u32,
     pub kind: FaultKind,
 }
 
-/// Why a reading stops: the file has a fault, or no memory is left.
+/// Why a reading stops: the file has a fault, or memory has run out.
 #[derive(Clone, Copy, Debug)]
 pub enum ReadStop {
     Fault(ReadFault),

@@ -1,4 +1,4 @@
-//! The reading of a script: what a file of bytes says, as a list of statements, or the first fault in it.
+//! Reads a script: returns a file of bytes as a list of statements, or the first fault in it.
 #![tactic(auto)]
 
 mod fault;

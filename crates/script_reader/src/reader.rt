@@ -1,4 +1,4 @@
-//! The lines so far, and what a line adds to them.
+//! The lines so far, and what one more line adds to them.
 
 use crate::fault::{FAULT_TABLE, LineStop};
 use arrayvec::ArrayVec;
@@ -21,7 +21,7 @@ pub(crate) struct Pair {
     pub(crate) src: u8,
 }
 
-/// The statements, the names and the section that the lines so far have given, with what is kept of the statements.
+/// The statements, names and section of the lines so far, and what the reader keeps of the statements.
 #[derive(Drop)]
 pub(crate) struct Reader {
     version: Version,
@@ -66,7 +66,7 @@ impl Reader {
     ghost use Rattle.script_rules.specs.Tally.{IsAimed, IsMade};
     ghost use Rattle.script_rules.specs.Limits.{most_names};
 
-    /// Before the first line.
+    /// A reader before the first line.
     pub(crate) fn new(alloc: Global, version: Version, nue: u8) -> Result<Reader, AllocError>
         requires some { 1 ≤ nue }
         requires most { nue ≤ 48 }
@@ -86,7 +86,7 @@ impl Reader {
         })
     }
 
-    /// What was read, as a script.
+    /// The script of what was read.
     pub(crate) fn finish(self) -> Scripts
         requires { length self.items < 2 ^ 32 }
         ensures same { result ≡ script_of self }
@@ -128,7 +128,7 @@ impl Reader {
         self.opening
     }
 
-    /// Notes that a line has words.
+    /// Records that a line has words.
     pub(crate) fn begin(&mut self)
         ensures { self.new ≡ record self.old { opening = false } }
     {
@@ -149,7 +149,7 @@ impl Reader {
         innermost(self.repeats.as_slice())
     }
 
-    /// Whether the statement has the fault for a rank.
+    /// Whether a check refuses the statement for this rank.
     fn refuses(&self, kind: FaultKind, effect: &Effect, rank: u8) -> bool
         requires { rank < self.now.nue }
         ensures { result ≡ refuses kind self.now.nue (past self.now) effect.now rank }
@@ -165,7 +165,7 @@ impl Reader {
         )
     }
 
-    /// Whether the statement has the fault for some of these ranks.
+    /// Whether a check refuses the statement for some of these ranks.
     fn is_refused_by(&self, who: &Who, kind: FaultKind, effect: &Effect) -> bool
         ensures { result ≡ some_below self.now.nue (λ rank. has_rank who.now rank
             && refuses kind self.now.nue (past self.now) effect.now rank) }
@@ -178,7 +178,7 @@ impl Reader {
         false
     }
 
-    /// Whether the statement has the fault for some rank of the section.
+    /// Whether a check refuses the statement for some rank of the section.
     fn is_refused(&self, kind: FaultKind, effect: &Effect) -> bool
         ensures { result ≡ is_refused kind self.now effect.now }
     {
@@ -188,7 +188,8 @@ impl Reader {
         }
     }
 
-    /// Whether the statement has the fault behind the lines so far. No rank is asked where the statement has nothing to ask of.
+    /// Whether the statement has the fault after the lines so far. Ranks are checked only if the statement has what the check
+    /// is about.
     fn has_fault(&self, effect: &Effect, kind: FaultKind) -> bool
         ensures { result ≡ has_fault self.now effect.now kind }
     {
@@ -235,7 +236,7 @@ impl Reader {
         None
     }
 
-    /// The section of a statement behind the lines so far, or its first fault.
+    /// The section that a statement belongs to, or its first fault.
     fn checked(&self, effect: &Effect) -> Result<Who, FaultKind>
         ensures same { result ≡ section_or_fault self.now effect.now }
         ensures passed { OnOk result (first_fault self.now effect.now ≡ None) }
@@ -250,7 +251,7 @@ impl Reader {
         }
     }
 
-    /// The number of a register: the place of its name, which is put behind the others where it is new.
+    /// The number of a register: the place of its name, which is added if it is new.
     pub(crate) fn register(&mut self, name: Name) -> Result<u8, AllocError>
         requires { length self.old.names ≤ most_names + 1 }
         ensures gives { IfOk result (λ reg. reg ≡ register_of self.old.names name) }
@@ -266,7 +267,7 @@ impl Reader {
         Ok(place as u8)
     }
 
-    /// The numbers of two registers, of which the first is named first.
+    /// The numbers of two registers, of which `dst` is named first.
     pub(crate) fn registers(&mut self, dst: Name, src: Name) -> Result<Pair, AllocError>
         requires { length self.old.names ≤ most_names }
         ensures gives { IfOk result (λ pair. pair ≡ register_pair self.old dst src) }
@@ -279,7 +280,7 @@ impl Reader {
         Ok(Pair { dst, src })
     }
 
-    /// Puts an item behind the others, whose statement has this effect.
+    /// Adds an item whose statement has this effect.
     fn add_item(&mut self, item: Item, effect: &Effect) -> Result<(), AllocError>
         requires meant { effect.now ≡ effect_of item.stmt }
         requires made { IsMade effect.now }
@@ -303,7 +304,7 @@ impl Reader {
         Ok(())
     }
 
-    /// Puts a statement behind the others, unless it has a fault.
+    /// Adds a statement, unless it has a fault.
     pub(crate) fn place(&mut self, line: u32, stmt: Stmt) -> Result<(), LineStop>
         requires made { IsMade (effect_of stmt) }
         requires named { IsNamed (length self.old.names) (effect_of stmt) }
@@ -318,7 +319,7 @@ impl Reader {
         Ok(())
     }
 
-    /// Opens a section of these ranks.
+    /// Starts a section of these ranks.
     pub(crate) fn open_section(&mut self, who: Who) -> Result<(), FaultKind>
         ensures { MatchResult result (λ _. open_section self.old who ≡ Ok self.new) (λ kind. open_section self.old who ≡ Err kind) }
     {
@@ -334,7 +335,7 @@ ghost use Rattle.std.specs.Prelude.{◌≡◌, ◌≤◌, length};
 ghost use Rattle.std.specs.List.{position_or_len};
 ghost use Rattle.std.specs.Str.{bytes_eq};
 
-/// The place of a name among others, or their number where it is none of them.
+/// The place of a name among others, or their number if it is not among them.
 fn place_of(names: &[Name], name: &Name) -> usize
     ensures place { result ≡ position_or_len (λ other. bytes_eq other name.now) names.now }
     ensures within { result ≤ length names.now }

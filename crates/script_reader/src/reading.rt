@@ -1,4 +1,4 @@
-//! What the lines of a file say, one after another.
+//! The lines of a file, one after another.
 
 ghost use Rattle.std.specs.Prelude.{◌≡◌, ◌<◌, ◌≤◌, ◌^◌, IfOk, OnOk, length, map};
 ghost use Rattle.script_reader.specs.Faults.{Gives, LineGives, stop_of};
@@ -32,7 +32,7 @@ fn says_two(words: &[&[u8]]) -> bool
     }
 }
 
-/// The version of a file, by its first line that has words.
+/// The version of a file, by its first line with words.
 fn version_of(alloc: Global, lines: &[&[u8]]) -> Result<Version, AllocError>
     ensures { IfOk result (λ version. version ≡ version_of (map (λ line. line.now) lines.now)) }
 {
@@ -84,7 +84,7 @@ fn read_line(alloc: Global, reader: &mut Reader, number: u32, line: &[u8]) -> Re
     read_words(alloc, reader, number, words.as_slice())
 }
 
-/// Why a reading stops, where this is why it stops at this line.
+/// The end of a reading that stops in this line.
 fn stop_at(line: u32, stop: LineStop) -> ReadStop
     ensures { result ≡ stop_of line stop }
 {
@@ -113,7 +113,7 @@ fn read_lines(alloc: Global, reader: &mut Reader, lines: &[&[u8]]) -> Result<(),
     Ok(())
 }
 
-/// The script that a file says in a version of the language, or its first fault with its line and kind.
+/// The script that these bytes are in a version of the language, or their first fault with its line and kind.
 fn read_all_lines(
     alloc: Global,
     version: Version,
@@ -137,7 +137,7 @@ fn read_all_lines(
     Ok(reader.finish())
 }
 
-/// The script that a file says, or its first fault with its line and kind.
+/// The script that a file is, or its first fault with its line and kind.
 pub(crate) fn read_file(alloc: Global, bytes: &[u8], nue: u8) -> Result<Scripts, ReadStop>
     requires some { 1 ≤ nue }
     requires most { nue ≤ 48 }
@@ -160,9 +160,10 @@ pub fn read_script(alloc: Global, bytes: &[u8], nue: u8) -> Result<Scripts, Read
     requires some { 1 ≤ nue }
     requires most { nue ≤ 48 }
     ensures gives { Gives (λ script. script) result (parse_script bytes.now nue) }
-    // It has as many ranks as it was read for.
+    // The script has as many ranks as it was read for.
     ensures ranks { IfOk result (λ script. script.nue ≡ nue) }
-    // It neither names a communicator past the last of its version nor has a rule for one, and in version 1 the world alone is split.
+    // It names no communicator above the highest of its version and has no rule for one. In version 1 it splits only the
+    // world.
     ensures named { IfOk result (NamesCommsTo (last_comm (version_of (lines_of bytes.now)))) }
     ensures low { IfOk result (HasCommsTo (last_comm (version_of (lines_of bytes.now)))) }
     ensures flat { version_of (lines_of bytes.now) ≡ One → IfOk result SplitsWorldAlone }

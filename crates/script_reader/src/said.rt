@@ -1,4 +1,4 @@
-//! What a line says by its words alone.
+//! What a line means by its words alone.
 
 ghost use Rattle.std.specs.Prelude.{◌≡◌, map};
 ghost use Rattle.script_reader.specs.Faults.{LineGives};
@@ -16,7 +16,7 @@ use script_rules::{FaultKind, Form, MOST_OPERATIONS, Name, Version};
 use std::alloc::Global;
 use texts::Bytes;
 
-/// What a line says, before it is held against the lines before it.
+/// What a line means, before it is checked against the lines before it.
 #[derive(Drop)]
 pub(crate) enum Said {
     /// The version of the language.
@@ -38,7 +38,7 @@ pub(crate) enum Section {
     Span { first: u32, last: u32 },
 }
 
-/// A statement that a rank does by itself.
+/// A local statement.
 #[derive(Drop)]
 pub(crate) enum Local {
     Bytes {
@@ -66,7 +66,7 @@ pub(crate) enum Local {
     },
 }
 
-/// The first word of a statement that a rank does by itself.
+/// The first word of a local statement.
 #[derive(Clone, Copy)]
 pub(crate) enum LocalWord {
     Bytes,
@@ -86,7 +86,7 @@ pub(crate) enum PeerSaid {
     Minus(u32),
 }
 
-/// A statement with a message.
+/// A send, a post or a receive.
 #[derive(Drop)]
 pub(crate) enum Message {
     Send {
@@ -104,14 +104,14 @@ pub(crate) enum Message {
     },
 }
 
-/// What a split keeps together: places with one remainder, or with one quotient.
+/// Which places a split keeps together: those with equal remainders, or those with equal quotients.
 #[derive(Clone, Copy)]
 pub(crate) enum Colour {
     Mod,
     Div,
 }
 
-/// A statement of the groups of a communicator.
+/// A statement on a communicator.
 #[derive(Drop)]
 pub(crate) enum Collective {
     Barrier {
@@ -252,14 +252,14 @@ fn group_said(version: Version, first: &[u8], words: &[&[u8]]) -> Result<Said, F
     }
 }
 
-/// What a line says that takes no memory, for a reading that can stop for want of it.
+/// The result for a line that needs no memory, as the result of a reading that can run out of memory.
 fn widened(said: Result<Said, FaultKind>) -> Result<Said, LineStop>
     ensures { LineGives (λ said. said) result said }
 {
     Ok(said?)
 }
 
-/// The statement that a word begins, if a rank does it by itself.
+/// The local statement that a first word begins, if it begins one.
 fn local_word(first: &[u8]) -> Option<LocalWord>
     ensures { result ≡ local_word first.now }
 {
@@ -282,14 +282,14 @@ fn local_word(first: &[u8]) -> Option<LocalWord>
     }
 }
 
-/// A statement that a rank does by itself and that takes no memory, for a reading that can stop for want of it.
+/// The result for a local statement that needs no memory, as the result of a reading that can run out of memory.
 fn widened_local(said: Result<Local, FaultKind>) -> Result<Local, LineStop>
     ensures { LineGives (λ said. said) result said }
 {
     Ok(said?)
 }
 
-/// A statement that a rank does by itself, by its first word.
+/// A local statement, by its first word.
 fn local_said(alloc: Global, first: LocalWord, words: &[&[u8]]) -> Result<Local, LineStop>
     ensures { LineGives (λ said. said) result (local_said first (map (λ word. word.now) words.now)) }
 {
@@ -318,7 +318,7 @@ fn register_said(
     }
 }
 
-/// What a line says that has these words behind its first one. `opening` is whether no line before it has words.
+/// What a line means, by its first word and the words after it. `opening` is whether no line before it has words.
 pub(crate) fn said_of(
     alloc: Global,
     version: Version,

@@ -1,4 +1,4 @@
-//! What a line says of the groups of a communicator.
+//! Statements on a communicator, by their words.
 
 ghost use Rattle.std.specs.Prelude.{◌≡◌, map};
 ghost use Rattle.script_reader.specs.Said.{allreduce_words, reduce_words, bcast_words, allreduce_said, barrier_said, bcast_said, parent_split_said, reduce_said, split_said, world_split_said};

@@ -1,4 +1,4 @@
-//! What a line says that names registers or another rank.
+//! Statements that name registers or another rank, by their words.
 
 ghost use Rattle.std.specs.Prelude.{◌≡◌, [], ◌∷◌, map};
 ghost use Rattle.script_reader.specs.Faults.{LineGives};

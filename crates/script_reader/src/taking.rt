@@ -17,7 +17,7 @@ use groups::{Op, Ty};
 use scc_base::{CommRule, Rank};
 use script_rules::{FaultKind, Name, OwnStmt, Peer, Stmt, Who};
 
-/// A number as a rank.
+/// A number as a rank of the run.
 fn rank_said(nue: u8, number: u32) -> Result<Rank, FaultKind>
     requires { nue ≤ 48 }
     ensures same { result ≡ rank_said nue number }
@@ -29,7 +29,7 @@ fn rank_said(nue: u8, number: u32) -> Result<Rank, FaultKind>
     Ok(Rank::of(number as u8))
 }
 
-/// The other rank of a message, as a statement has it.
+/// The peer that a word names, which must be a rank of the run.
 fn peer_in(nue: u8, peer: PeerSaid) -> Result<Peer, FaultKind>
     requires { nue ≤ 48 }
     ensures same { result ≡ peer_in nue peer }
@@ -42,7 +42,7 @@ fn peer_in(nue: u8, peer: PeerSaid) -> Result<Peer, FaultKind>
     }
 }
 
-/// The number of a communicator, or of a place in a group: one past all of them stands as 255.
+/// The number of a communicator, or of a place in a group. Each number above 255 is stored as 255.
 fn small(number: u32) -> u8
     ensures { result ≡ small number }
 {
@@ -291,7 +291,7 @@ fn take_group(reader: &mut Reader, line: u32, group: Collective) -> Result<(), L
     }
 }
 
-/// Takes in what a line says.
+/// Adds what a line means to what was read.
 pub(crate) fn take(reader: &mut Reader, line: u32, said: Said) -> Result<(), LineStop>
     requires few { length reader.old.names ≤ most_names }
     requires counted { length reader.old.items < line }

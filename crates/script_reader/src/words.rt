@@ -29,7 +29,7 @@ pub(crate) fn number_said(word: &[u8]) -> Result<u32, FaultKind>
     number(word).ok_or(FaultKind::BadNumber)
 }
 
-/// A word as a number from a range.
+/// A word as a number within two bounds, both included.
 pub(crate) fn range_said(word: &[u8], low: u32, high: u32) -> Result<u32, FaultKind>
     ensures gives { result ≡ range_said low high word.now }
     ensures least { IfOk result (λ number. low ≤ number) }
@@ -43,7 +43,7 @@ pub(crate) fn range_said(word: &[u8], low: u32, high: u32) -> Result<u32, FaultK
     }
 }
 
-/// The K of `mod K` or `div K`, by which a split takes the groups of its parent apart: 1 to 48.
+/// The K of `mod K` or `div K`, by which a split divides the groups of its parent: 1 to 48.
 #[derive(Clone, Copy)]
 pub(crate) struct Parts {
     count: u8,
@@ -81,7 +81,7 @@ impl Parts {
     }
 }
 
-/// A word as the number of a split.
+/// A word as the K of a split.
 pub(crate) fn parts_said(word: &[u8]) -> Result<Parts, FaultKind>
     ensures { result ≡ range_said 1 48 word.now }
 {
@@ -109,7 +109,7 @@ pub(crate) fn type_said(word: &[u8]) -> Result<Ty, FaultKind>
     }
 }
 
-/// A word as an operation.
+/// A word as the operator of a fold.
 pub(crate) fn operation_said(word: &[u8]) -> Result<Op, FaultKind>
     ensures { result ≡ operation_said word.now }
 {
@@ -126,7 +126,7 @@ pub(crate) fn operation_said(word: &[u8]) -> Result<Op, FaultKind>
     }
 }
 
-/// A word as what a split keeps together.
+/// A word as the kind of a split, `mod` or `div`.
 pub(crate) fn colour_said(word: &[u8]) -> Result<Colour, FaultKind>
     ensures { result ≡ colour_said word.now }
 {
@@ -161,7 +161,7 @@ pub(crate) fn peer_said(word: &[u8]) -> Result<PeerSaid, FaultKind>
     }
 }
 
-/// Puts the bytes of a value that is so far above zero behind others.
+/// Appends the bytes of the value `size`.
 fn push_above(bytes: &mut Vec<u8>, ty: Ty, size: u64) -> Result<(), AllocError>
     requires { size ≤ greatest ty }
     ensures { OnOk result (bytes.new.items ≡ bytes.old.items ++ bytes_above ty size) }
@@ -172,7 +172,7 @@ fn push_above(bytes: &mut Vec<u8>, ty: Ty, size: u64) -> Result<(), AllocError>
     }
 }
 
-/// Puts the bytes of a value that is so far below zero behind others.
+/// Appends the bytes of the value minus `size`.
 fn push_below(bytes: &mut Vec<u8>, ty: Ty, size: u64) -> Result<(), AllocError>
     requires { size ≤ greatest ty + 1 }
     ensures { OnOk result (bytes.new.items ≡ bytes.old.items ++ bytes_below ty size) }
@@ -193,7 +193,7 @@ fn greatest(ty: Ty) -> u64
     }
 }
 
-/// Puts the bytes of the value that a word stands for behind others.
+/// Appends the bytes of the value that a word states.
 fn push_value(bytes: &mut Vec<u8>, ty: Ty, word: &[u8]) -> Result<(), LineStop>
     ensures { LineGives (λ _. bytes.new.items) result (value_behind ty bytes.old.items word.now) }
 {
@@ -248,7 +248,7 @@ pub(crate) fn name_said(word: &[u8]) -> Result<Name, FaultKind>
     }
 }
 
-/// A word as bytes: none for `-`, else two hex digits each.
+/// A word as bytes: none for `-`, otherwise one for each two hex digits.
 pub(crate) fn hex_said(alloc: Global, word: &[u8]) -> Result<Bytes, LineStop>
     ensures { LineGives (λ bytes. bytes) result (hex_said word.now) }
 {

@@ -1,4 +1,4 @@
--- What the checks of a script's statements leave, as facts of each statement.
+-- Facts of each statement that follow from the checks.
 use Rattle.std.proofs.Common.{◌≡◌, ℕ, zero, suc, ◌+◌, ◌-◌, ◌*◌, ◌%◌, ◌<◌, ◌≤◌, Bool, true, false, not, ◌||◌, ◌&&◌, cond, eqb, ltb, List, [], ◌∷◌, ◌++◌, length, reverse, take, drop, slice_get, is_none, unwrap_or, Option, Some, None, refl, sym, ap, ◌∙◌, arith, subst, append_assoc, inl, inr}
 use Rattle.std.proofs.lemmas.Bool.Decides.{eqb_tells}
 use Rattle.std.proofs.lemmas.Bool.{eqb-true, ltb-false, not-false}
@@ -34,7 +34,7 @@ use Rattle.script_rules.specs.Settled.{AreInLine, ArePassed, IsInLine, IsWholeSc
 use Rattle.script_rules.proofs.CheckLemmas.{false-left, false-right}
 use Rattle.script_rules.proofs.SettledLemmas.{Extends, and-false, key-same, present-low, same-more}
 
--- the statements that stand behind a place, and those before it, the latest first
+-- the statements after a place, and those before it, the latest first
 around : (items : List Item) (place : ℕ) (item : Item) → slice_get items place ≡ Some item → (front : List Item) × (reverse items ≡ front ++ item ∷ reverse (take place items))
 around [] place item found = absurd cc
 around (first ∷ items) zero item found =
@@ -239,12 +239,12 @@ postable (stmt.Post peer reg) nue past rank after set short stays =
     post-value (length_at nue past rank reg) (after reg) (unwrap_or (length_at nue past rank reg) 0) is (stays reg (unwrap_or (length_at nue past rank reg) 0) is) short
 postable _ nue past rank after set short stays = tt
 
--- where a rank runs the latest statement, its lengths behind it
+-- if a rank runs the latest statement, its lengths after it
 length-new : (nue : ℕ) (past : List Item) (item : Item) (rank reg : ℕ) → has_rank item.who rank ≡ true
     → length_at nue (item ∷ past) rank reg ≡ option_or (length_at nue past rank reg) (sets_to (set_by (run_of nue past) (length_at nue past rank) (effect_of item.stmt) rank) reg)
 length-new nue past item rank reg has = rw has refl
 
--- a statement of a script that was read, behind those before it
+-- a statement of an accepted script, after those before it
 record IsPlaced (script : Script) (past : List Item) (item : Item) : Type 0 where
   front : List Item
   is : reverse script.items ≡ front ++ item ∷ past
@@ -267,7 +267,7 @@ placed script place item whole found =
           (extends-longer script.nue split.0 past item lines.1);
     }
 
--- what a register has behind a statement it has in the whole script
+-- a register's length after a statement is its length in the complete script
 length-stays : (script : Script) (past : List Item) (item : Item) (rank reg len : ℕ) → IsPlaced script past item → length_at script.nue (item ∷ past) rank reg ≡ Some len → length_of script rank reg ≡ Some len
 length-stays script past item rank reg len p is =
     subst (λ (list : List Item). length_at script.nue list rank reg ≡ Some len) (sym p.is) (length-longer script.nue p.front (item ∷ past) rank reg len is)

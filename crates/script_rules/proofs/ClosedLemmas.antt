@@ -1,4 +1,4 @@
--- The repeats of a script that were told their ends.
+-- The repeats of a script, each with the place of its end.
 use Rattle.std.proofs.Common.{◌≡◌, ◌⊎◌, ℕ, zero, suc, ◌*◌, ◌<◌, List, [], ◌∷◌, ◌++◌, length, reverse, take, ◌-◌, slice_get, slice_set, Option, Some, None, refl, sym, ap, ◌∙◌, arith, subst, inl, inr, append_assoc}
 use Rattle.std.proofs.lemmas.Bool.{cases_lt}
 use Rattle.std.proofs.lemmas.Bool.Decides.{eqb_tells}
@@ -59,7 +59,7 @@ set_other (first ∷ items) zero (suc place) new other = refl
 set_other (first ∷ items) (suc start) zero new other = refl
 set_other (first ∷ items) (suc start) (suc place) new other = set_other items start place new (λ same. other (ap suc same))
 
--- the statement behind a list
+-- the statement after a list
 at_seam : (front : List Item) (item : Item) (rest : List Item) (n : ℕ) → length front ≡ n → stmt_at (front ++ item ∷ rest) n ≡ Some item.stmt
 at_seam [] item rest zero same = refl
 at_seam [] item rest (suc n) same = absurd (omega (arith, same))
@@ -103,7 +103,7 @@ other_repeat items list place s times end same other here is =
     let alike : bare s ≡ stmt.Repeat times 0 = cc in
     other.no_repeat times 0 (sym other.same ∙ alike)
 
--- what an end tells, and that no other statement tells anything
+-- an end gives its place to its repeat, and no other statement changes an item
 none_in : (items : List Item) (place : ℕ) (o : Option Item) → ((start : ℕ) → option_map (λ item. item.stmt) o ≡ Some (stmt.End start) → ⊥) → option_map_or (λ item. with_end_told items place (effect_of item.stmt).nesting) o items ≡ items
 none_in items place None none = refl
 none_in items place (Some item) none =
@@ -120,7 +120,7 @@ tells_in items place start (Some item) is = let same : item.stmt ≡ stmt.End st
 tells_end : (items : List Item) (place start : ℕ) → stmt_at items place ≡ Some (stmt.End start) → told_at items place ≡ with_end_at items start place
 tells_end items place start is = tells_in items place start (slice_get items place) is
 
--- a repeat behind an end: the one that was told, or another one as it was
+-- a repeat after an end was noted: its own end sets its place, any other leaves it as it was
 abbrev AfterEnd : List Item → ℕ → ℕ → ℕ → ℕ → ℕ → Type 0
 AfterEnd items start told place times end = ((place ≡ start) × (end ≡ told)) ⊎ ((place ≡ start → ⊥) × (stmt_at items place ≡ Some (stmt.Repeat times end)))
 
@@ -187,7 +187,7 @@ open-last : (new : Open) (repeats : List Open) → IsOpen new.start (repeats ++ 
 open-last new [] = inl refl
 open-last new (repeat ∷ repeats) = inr (open-last new repeats)
 
--- a list of two repeats and more has the same last one as its rest, which stays but for it
+-- a list of at least two repeats and the list without its first one have the same last repeat
 one_less : (n : ℕ) → suc n - 1 ≡ n
 one_less n = omega arith
 

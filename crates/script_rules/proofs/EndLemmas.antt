@@ -1,4 +1,4 @@
--- What stays where repeats are told their ends.
+-- What does not change when repeats get the places of their ends.
 use Rattle.std.proofs.Common.{◌≡◌, ℕ, zero, suc, List, [], ◌∷◌, All, map, Option, Some, None, length, slice_get, slice_set, refl, sym, ap, ◌∙◌, ◌≤◌, arith}
 use Rattle.std.proofs.Math.Path.{fun_ext}
 use Rattle.std.proofs.lemmas.List.{length-set}
@@ -17,7 +17,7 @@ use Rattle.script_rules.specs.Effects.{comm_named, effect_of, split_rule}
 use Rattle.script_rules.specs.Script.{IsSized, first_split, or_rule, rules_of}
 use Rattle.script_rules.specs.Settled.{IsNamed}
 
--- what a list has, whatever its repeats say of their ends
+-- what a list has, whatever places its repeats have for their ends
 pub record IsKeptBy (P : List Item → Type 0) : Type 0 where
   pub keeps : (items : List Item) (start place : ℕ) (item : Item) (times end : ℕ) → slice_get items start ≡ Some item → item.stmt ≡ stmt.Repeat times end → P items → P (slice_set items start (record item { stmt = stmt.Repeat times place }))
 

@@ -32,7 +32,7 @@ use Rattle.script_rules.specs.Script.{first_split, has_rank, or_rule, peer_of, r
 use Rattle.script_rules.specs.Settled.{HasRule, HaveRules, IsSettled, run_with}
 use Rattle.script_rules.proofs.RuleLemmas.{first_split-more, last-within, or_rule-kept, rule-more, run-straight, split-at, splittable}
 
--- the rules behind one more statement have the same rule where there was one
+-- a rule stays the same after one more statement
 pub record Extends (comms after : List CommRule) : Type 0 where
   pub same : (c : ℕ) → (rule_of comms c ≡ rule.Absent → ⊥) → rule_of after c ≡ rule_of comms c
   pub low : (c : ℕ) → (rule_of comms c ≡ rule.Absent → ⊥) → c < 16
@@ -103,7 +103,7 @@ settled-push nue items item rules all new =
     (λ k d below. IsSettled-more nue (rules_of items) (rules_of (items ++ item ∷ [])) (get_or items k d) e (all k d below))
     (IsSettled-more nue (rules_of items) (rules_of (items ++ item ∷ [])) item e new)
 
--- where no rank of a section is refused, none is
+-- if no rank of a section is refused, each of its ranks passes
 none-below : (n : ℕ) (test : ℕ → Bool) → some_below n test ≡ false → (k : ℕ) → k < n → test k ≡ false
 none-below zero test none k below = absurd (omega arith)
 none-below (suc n) test none k below =

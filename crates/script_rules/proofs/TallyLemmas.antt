@@ -22,7 +22,7 @@ use Rattle.script_rules.specs.Limits.{most_operations, most_printed}
 use Rattle.script_rules.specs.Script.{has_rank}
 use Rattle.script_rules.specs.Tally.{AreTallies, IsMade, IsSplitMade, IsTally, empty_tally, length_in, tally_after, noted_at, refuses_by, with_length, with_split}
 
--- a default stands everywhere in a list of defaults
+-- each item of a list of defaults is the default
 defaults : {A : Type 0} (n k : ℕ) (d : A) → get_or (replicate n d) k d ≡ d
 defaults n k d = elim (cases_lt k n) [ inl below ↦ get_or-replicate n k d d below | inr past ↦ get_or_past (replicate n d) k d (omega (arith, past, length-replicate n d)) ]
 
@@ -53,7 +53,7 @@ or_true : (a : Bool) → (a || true) ≡ true
 or_true true = refl
 or_true false = refl
 
--- a length that is set where none stands: it stands at its register, and the others stay
+-- a length is set if there is none yet, and the other registers keep theirs
 set-lengths : (lengths : List (Option ℕ)) (set reg len : ℕ) (had : Option ℕ) → set < length lengths → get_or lengths set None ≡ had
     → get_or (cond (is_none had) (slice_set lengths set (Some len)) lengths) reg None ≡ option_or (get_or lengths reg None) (cond (eqb set reg) (Some len) None)
 set-lengths lengths set reg len None within had =

@@ -12,13 +12,13 @@ use Rattle.script_rules.specs.Checks.{innermost, open_of}
 use Rattle.script_rules.specs.Effects.{effect_of}
 use Rattle.script_rules.specs.Script.{Script}
 
--- an end stands where a repeat is open, and names the innermost one
+-- an `end` closes the innermost open repeat, and there is one
 abbrev pub Closes : List Open → Nesting → Type 0
 Closes repeats (nesting.Opens times) = Unit {0}
 Closes repeats (nesting.Closes start) = (1 ≤ length repeats) × (start ≡ innermost repeats)
 Closes repeats nesting.Stays = Unit {0}
 
--- each end among these statements, the latest first, names the innermost repeat that is open before it
+-- each `end` among these statements, the latest first, closes the innermost repeat that is open before it
 abbrev pub AreMatched : List Item → Type 0
 AreMatched [] = Unit {0}
 AreMatched (item ∷ past) = AreMatched past × Closes (open_of past) (effect_of item.stmt).nesting
@@ -27,7 +27,7 @@ AreMatched (item ∷ past) = AreMatched past × Closes (open_of past) (effect_of
 abbrev pub stmt_at : List Item → ℕ → Option Stmt
 stmt_at items place = option_map (λ item. item.stmt) (slice_get items place)
 
--- each repeat has the place of an end that stands behind it and names it
+-- each repeat names the place of its `end`, which comes later and names the repeat
 abbrev pub HaveEnds : List Item → Type 0
 HaveEnds items =
     (place times end : ℕ) → stmt_at items place ≡ Some (stmt.Repeat times end) → (place < end) × (stmt_at items end ≡ Some (stmt.End place))
@@ -37,24 +37,24 @@ abbrev pub latest_section : List Item → Option Who
 latest_section [] = None
 latest_section (item ∷ past) = Some item.who
 
--- where a repeat is open, each of these statements, the latest first, stands in the section of the one before it
+-- while a repeat is open, no statement starts another section (the latest statement first)
 abbrev pub StayInSection : List Item → Type 0
 StayInSection [] = Unit {0}
 StayInSection (item ∷ past) = StayInSection past × (1 ≤ length (open_of past) → latest_section past ≡ Some item.who)
 
--- a repeat is done at least once
+-- a repeat runs at least once
 abbrev pub HasPass : Nesting → Type 0
 HasPass (nesting.Opens times) = 1 ≤ times
 HasPass (nesting.Closes start) = Unit {0}
 HasPass nesting.Stays = Unit {0}
 
--- each repeat among the statements is done at least once
+-- each repeat among the statements runs at least once
 abbrev pub HavePasses : List Item → Type 0
 HavePasses [] = Unit {0}
 HavePasses (item ∷ past) = HavePasses past × HasPass (effect_of item.stmt).nesting
 
--- no repeat is open behind the last statement of a script, each end is that of the innermost repeat that is open before it,
--- each repeat has the place of its end, stands with it in one section, and is done at least once
+-- the repeats of a script are well nested: each is closed by its own `end` in the same section, names the place of that `end`,
+-- and runs at least once
 pub record IsClosed (script : Script) : Type 0 where
   pub none_open : open_of (reverse script.items) ≡ []
   pub matched : AreMatched (reverse script.items)

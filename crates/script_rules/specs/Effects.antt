@@ -1,4 +1,4 @@
--- What a statement needs and does, said once: each test of the grammar and each count reads it (this project's profile).
+-- What a statement needs and does, defined once. Each check of the grammar and each count reads it (this project's profile).
 use Rattle.std.specs.Prelude.{ℕ, ◌≤◌, ◌==◌, ◌||◌, Bool, false, if◌then◌else◌, length, Option, Some, None}
 use Rattle.groups.specs.Folds.{bytes_in}
 use Rattle.groups.specs.declared.collectives.Coll.TheVariants as coll
@@ -28,7 +28,7 @@ use Rattle.script_rules.specs.declared.script.Stmt.{Stmt}
 use Rattle.script_rules.specs.declared.script.Stmt.TheVariants as stmt
 use Rattle.scc_base.specs.Heads.{most_message}
 
--- the effect of a statement that is one operation, and needs and does nothing else
+-- the effect of a statement that is one operation and has no other effect
 abbrev pub plain_effect : Effect
 plain_effect = record {
   peer = None;
@@ -50,22 +50,22 @@ use_all reg fit = record { reg = reg; at = at.All; fit = fit }
 abbrev pub target_of : ℕ → At → Size → Option Target
 target_of reg at size = Some (record { reg = reg; at = at; size = size })
 
--- what a print needs of its register: whole values, where it prints values of a type
+-- a print of typed values requires a multiple of the type's width; a hexadecimal print requires nothing
 abbrev pub fit_of : Form → Fit
 fit_of form.Hex = fit.Any
 fit_of (form.Decimal ty) = fit.Whole ty
 
--- the registers that a statement of the rank's own reads
+-- the registers that a local statement reads
 abbrev pub own_uses : OwnStmt → Uses
 own_uses (own.Apply op ty dst src) = uses.Two (use_all dst (fit.Like src)) (use_all src (fit.Whole ty))
 own_uses (own.Print reg form) = uses.One (use_all reg (fit_of form))
 
--- the register that a statement of the rank's own prints
+-- the register that a local statement prints
 abbrev pub own_prints : OwnStmt → Option ℕ
 own_prints (own.Apply op ty dst src) = None
 own_prints (own.Print reg form) = Some reg
 
--- what a reduce needs and does, by whichever operation
+-- what a reduce needs and does, whatever its operator
 abbrev pub reduce_effect : ℕ → ℕ → Ty → ℕ → ℕ → Effect
 reduce_effect comm root ty dst src = record plain_effect {
   group = group.Of comm;
@@ -75,7 +75,7 @@ reduce_effect comm root ty dst src = record plain_effect {
   cost = cost.Steps (coll.Reduce comm root 0);
 }
 
--- what an allreduce needs and does, by whichever operation
+-- what an allreduce needs and does, whatever its operator
 abbrev pub allreduce_effect : ℕ → Ty → ℕ → ℕ → Effect
 allreduce_effect comm ty dst src = record plain_effect {
   group = group.Of comm;
@@ -107,32 +107,32 @@ effect_of (stmt.Allreduce comm op ty dst src) = allreduce_effect comm ty dst src
 effect_of (stmt.Repeat times end) = record plain_effect { cost = cost.Free; nesting = nesting.Opens times }
 effect_of (stmt.End start) = record plain_effect { nesting = nesting.Closes start }
 
--- whether some register that a statement reads passes a test
+-- some register that a statement reads passes the test
 abbrev pub some_use : (Use → Bool) → Uses → Bool
 some_use test uses.Nothing = false
 some_use test (uses.One first) = test first
 some_use test (uses.Two first second) = test first || test second
 
--- a fact holds of each register that a statement reads
+-- a fact holds for each register that a statement reads
 abbrev pub EachUse : (Use → Type 0) → Uses → Type 0
 EachUse P uses.Nothing = Unit {0}
 EachUse P (uses.One first) = P first
 EachUse P (uses.Two first second) = P first × P second
 
--- the communicator that a rule takes apart
+-- the communicator that a rule splits
 abbrev pub parent_of : CommRule → ℕ
 parent_of rule.Absent = 0
 parent_of rule.World = 0
 parent_of (rule.Mod parent k) = parent
 parent_of (rule.Div parent k) = parent
 
--- the communicator that a statement names: the world where it names none
+-- the communicator that a statement names, or the world if it names none
 abbrev pub comm_named : Group → ℕ
 comm_named group.World = 0
 comm_named (group.Of comm) = comm
 comm_named (group.Split comm rule) = comm
 
--- the communicator whose groups a statement needs: the world where it needs none
+-- the communicator whose groups a statement needs, or the world if it needs none
 abbrev pub comm_needed : Group → ℕ
 comm_needed group.World = 0
 comm_needed (group.Of comm) = comm
@@ -144,13 +144,13 @@ is_split_of group.World comm = false
 is_split_of (group.Of named) comm = false
 is_split_of (group.Split split rule) comm = split == comm
 
--- the rule that a statement gives a communicator, and no rule where it does not split it
+-- the rule by which a statement splits this communicator, or no rule if it does not split it
 abbrev pub split_rule : Group → ℕ → CommRule
 split_rule group.World comm = rule.Absent
 split_rule (group.Of named) comm = rule.Absent
 split_rule (group.Split split by) comm = if split == comm then by else rule.Absent
 
--- a length that a statement says is at most 65,536, the most that a message has
+-- a length that a statement states is at most 65,536, the greatest of a message
 abbrev pub IsSizedBy : Size → Type 0
 IsSizedBy (size.Bytes len) = len ≤ most_message
 IsSizedBy (size.Same reg) = Unit {0}

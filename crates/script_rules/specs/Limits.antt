@@ -1,18 +1,18 @@
 -- The limits of a script (this project's profile).
 use Rattle.std.specs.Prelude.{ℕ}
 
--- the most operations of a rank, and the most times that a statement runs
+-- how many operations a rank may have, and how often a statement may run
 abbrev pub most_operations : ℕ
 most_operations = 100000
 
--- the most bytes of registers that a rank prints
+-- how many bytes of registers a rank may print
 abbrev pub most_printed : ℕ
 most_printed = 1048576
 
--- the most names of registers in a file
+-- how many names of registers a file may have
 abbrev pub most_names : ℕ
 most_names = 64
 
--- the most repeats that are open at once
+-- how many repeats may be open at once
 abbrev pub most_open : ℕ
 most_open = 8

@@ -1,4 +1,4 @@
--- What is true of each statement of a script that was read, by the rules of its communicators (this project's profile).
+-- What holds for each statement of an accepted script, by the rules of its communicators (this project's profile).
 use Rattle.std.specs.Prelude.{◌≡◌, ◌≢◌, ℕ, ◌<◌, ◌≤◌, true, false, List, [], ◌∷◌, All, IfSome, length, reverse}
 use Rattle.scc_base.specs.Communicators.{AreRules, rule_of}
 use Rattle.scc_base.specs.Setups.{SetupView}
@@ -14,7 +14,7 @@ use Rattle.script_rules.specs.Checks.{has_no_root, is_to_self, is_too_deep, open
 use Rattle.script_rules.specs.Effects.{EachUse, comm_named, comm_needed, effect_of, parent_of}
 use Rattle.script_rules.specs.Script.{IsSized, Script, has_rank, peer_of, rules_of}
 
--- a run with these communicators. (On which cores it runs, and in which layout, does not matter here.)
+-- a run with these communicators. Cores and layout do not matter here, so any will do.
 abbrev pub run_with : ℕ → List CommRule → SetupView
 run_with nue comms = record { nue = nue; layout = layout.LineFlags; hosts = []; comms = comms }
 
@@ -22,8 +22,8 @@ run_with nue comms = record { nue = nue; layout = layout.LineFlags; hosts = []; 
 abbrev pub HasPeer : ℕ → Effect → ℕ → Type 0
 HasPeer nue e rank = IfSome e.peer (λ peer. peer_of nue peer rank < nue)
 
--- for each rank of the section: a message of the statement is to or from a rank of the run, and not the rank itself, the
--- communicator that it needs has a rule, and the root that it names is a place of the rank's group
+-- for each rank of the section: its peer is another rank of the run, the communicator that it needs has a rule, and the root
+-- is a place of its group
 pub record IsSettled (nue : ℕ) (comms : List CommRule) (item : Item) : Type 0 where
   pub below : (rank : ℕ) → rank < nue → has_rank item.who rank ≡ true → HasPeer nue (effect_of item.stmt) rank
   pub other : (rank : ℕ) → rank < nue → has_rank item.who rank ≡ true → is_to_self nue (effect_of item.stmt) rank ≡ false
@@ -31,26 +31,26 @@ pub record IsSettled (nue : ℕ) (comms : List CommRule) (item : Item) : Type 0 
       → rule_of comms (comm_needed (effect_of item.stmt).group) ≢ rule.Absent
   pub rooted : (rank : ℕ) → rank < nue → has_rank item.who rank ≡ true → has_no_root (run_with nue comms) (effect_of item.stmt) rank ≡ false
 
--- a split has a rule
+-- a split names a rule
 abbrev pub HasRule : Group → Type 0
 HasRule group.World = Unit {0}
 HasRule (group.Of comm) = Unit {0}
 HasRule (group.Split comm by) = by ≡ rule.Absent → ⊥
 
--- each split among the statements has a rule that it may have
+-- each split among the statements names a rule
 abbrev pub HaveRules : List Item → Type 0
 HaveRules [] = Unit {0}
 HaveRules (item ∷ past) = HaveRules past × HasRule (effect_of item.stmt).group
 
--- no check refuses the latest statement for a rank of its section, and none a statement before it
+-- no check on ranks refuses any of these statements for a rank of its section, each after those before it
 abbrev pub ArePassed : ℕ → List Item → Type 0
 ArePassed nue [] = Unit {0}
 ArePassed nue (item ∷ past) =
     ArePassed nue past × ((kind : FaultKind) (rank : ℕ) → rank < nue → has_rank item.who rank ≡ true
     → refuses kind nue past (effect_of item.stmt) rank ≡ false)
 
--- a statement that the checks of its line let pass behind others: the splits so far are rules that a setup may have, the
--- communicator that it needs has one, a length that it sets is one of a message, and it opens no repeat too many
+-- a statement that passed the checks of its line: communicators have valid rules, the length that it sets fits a message, and
+-- it is not nested too deep
 pub record IsInLine (nue : ℕ) (past : List Item) (item : Item) : Type 0 where
   pub rules : AreRules (rules_of (reverse past))
   pub present : (rank : ℕ) → rank < nue → has_rank item.who rank ≡ true
@@ -58,16 +58,16 @@ pub record IsInLine (nue : ℕ) (past : List Item) (item : Item) : Type 0 where
   pub sized : IsSized item.stmt
   pub flat : is_too_deep (open_of past) (effect_of item.stmt).nesting ≡ false
 
--- each statement is in line with those before it
+-- each statement passed the checks of its line, after those before it
 abbrev pub AreInLine : ℕ → List Item → Type 0
 AreInLine nue [] = Unit {0}
 AreInLine nue (item ∷ past) = AreInLine nue past × IsInLine nue past item
 
--- the registers of a statement are among the first `count` names
+-- each register of the statement is among the first `count` names
 abbrev pub IsNamed : ℕ → Effect → Type 0
 IsNamed count e = EachUse (λ used. used.reg < count) e.uses × IfSome e.sets (λ set. set.reg < count)
 
--- what is true of each script that was read
+-- what holds for every accepted script
 pub record IsWholeScript (nue : ℕ) (items : List Item) : Type 0 where
   pub some : 1 ≤ nue
   pub most : nue ≤ 48
@@ -77,19 +77,19 @@ pub record IsWholeScript (nue : ℕ) (items : List Item) : Type 0 where
   pub passed : ArePassed nue (reverse items)
   pub in_line : AreInLine nue (reverse items)
 
--- what is true of each script that was read, with the names of its registers
+-- what holds for every accepted script, together with the names of its registers
 pub record IsAccepted (nue : ℕ) (items : List Item) (names : List (List ℕ)) : Type 0 where
   pub whole : IsWholeScript nue items
   pub named : All (λ item. IsNamed (length names) (effect_of item.stmt)) items
 
--- a script has no rule for a communicator past this one
+-- a script splits no communicator above this number
 abbrev pub HasCommsTo : ℕ → Script → Type 0
 HasCommsTo last script = (comm : ℕ) → last < comm → rule_of (rules_of script.items) comm ≡ rule.Absent
 
--- no statement of a script names a communicator past this one
+-- no statement of a script names a communicator above this number
 abbrev pub NamesCommsTo : ℕ → Script → Type 0
 NamesCommsTo last script = All (λ item. comm_named (effect_of item.stmt).group ≤ last) script.items
 
--- each rule of a script takes apart the world
+-- each rule of a script splits the world
 abbrev pub SplitsWorldAlone : Script → Type 0
 SplitsWorldAlone script = (comm : ℕ) → parent_of (rule_of (rules_of script.items) comm) ≡ 0

@@ -1,4 +1,5 @@
--- What the reader keeps, so that no check goes through the statements again: what it is, and what it becomes with a statement.
+-- What the reader keeps for each rank, so that no check goes through the statements again, and how one more statement changes
+-- it.
 use Rattle.std.specs.Prelude.{◌≡◌, ℕ, ◌+◌, ◌*◌, ◌<◌, ◌≤◌, ◌||◌, IfSome, min, not, replicate, is_none, Bool, true, false, if◌then◌else◌, List, length, slice_index_or, slice_set, Option, Some, None}
 use Rattle.scc_base.specs.Setups.{SetupView}
 use Rattle.scc_base.specs.declared.communicators.CommRule.{CommRule}
@@ -20,16 +21,16 @@ use Rattle.script_rules.specs.Checks.{cost_of, has_no_root, has_split, is_known,
 use Rattle.script_rules.specs.Script.{has_rank}
 use Rattle.script_rules.specs.Limits.{most_operations, most_printed}
 
--- the length that a tally has for a register, if it has one
+-- the length of a register in a tally, if it has one
 abbrev pub length_in : Tally → ℕ → Option ℕ
 length_in tally reg = slice_index_or tally.lengths reg None
 
--- the tally has a split of a communicator
+-- the rank of the tally has split this communicator
 abbrev pub split_in : Tally → ℕ → Bool
 split_in tally comm = slice_index_or tally.splits comm false
 
--- a tally says of a rank's statements what the checks ask: its operations and its printed bytes, each up to one more than
--- is allowed, the length of each register, and its splits
+-- a tally agrees with a rank's statements: operations and printed bytes, each up to one more than is allowed, register
+-- lengths, and splits
 pub record IsTally (tally : Tally) (nue : ℕ) (past : List Item) (rank : ℕ) : Type 0 where
   pub operations_are : tally.operations ≡ min (operations nue past rank) (most_operations + 1)
   pub printed_are : tally.printed ≡ min (bytes_printed nue past rank) (most_printed + 1)
@@ -38,20 +39,20 @@ pub record IsTally (tally : Tally) (nue : ℕ) (past : List Item) (rank : ℕ) :
   pub lengths_room : length tally.lengths ≡ 256
   pub splits_room : length tally.splits ≡ 256
 
--- the tallies of all ranks
+-- each rank's tally agrees with its statements
 abbrev pub AreTallies : List Tally → ℕ → List Item → Type 0
 AreTallies tallies nue past = (rank : ℕ) (d : Tally) → rank < nue → IsTally (slice_index_or tallies rank d) nue past rank
 
--- a tally of no statement
+-- the tally before any statement
 abbrev pub empty_tally : Tally
 empty_tally = record { operations = 0; printed = 0; lengths = replicate 256 None; splits = replicate 256 false }
 
--- the lengths with that of a register set, unless it has one
+-- the lengths after a register is set: a length that it has already stays
 abbrev pub with_length : List (Option ℕ) → Option Setting → List (Option ℕ)
 with_length lengths None = lengths
 with_length lengths (Some set) = if is_none (slice_index_or lengths set.reg None) then slice_set lengths set.reg (Some set.len) else lengths
 
--- the splits with that of a statement
+-- the splits after one more statement
 abbrev pub with_split : List Bool → Group → List Bool
 with_split splits group.World = splits
 with_split splits (group.Of comm) = splits
@@ -66,39 +67,39 @@ tally_after run turns e rank tally = record {
   splits = with_split tally.splits e.group;
 }
 
--- a tally of a rank after one more item of the script, whose statement has this effect
+-- a rank's tally after one more statement with this effect, in a section of these ranks
 abbrev pub noted_at : SetupView → ℕ → Who → Effect → ℕ → Tally → Tally
 noted_at run turns who e rank tally = if has_rank who rank then tally_after run turns e rank tally else tally
 
--- a split's number of parts is one that a rule may have
+-- a split has 1 to 48 parts
 abbrev pub IsParted : CommRule → Type 0
 IsParted rule.Absent = ⊥
 IsParted rule.World = ⊥
 IsParted (rule.Mod parent k) = (1 ≤ k) × (k ≤ 48)
 IsParted (rule.Div parent k) = (1 ≤ k) × (k ≤ 48)
 
--- what the reader knows of the communicator that a statement names
+-- a split names a communicator below 256 and has 1 to 48 parts
 abbrev pub IsSplitMade : Group → Type 0
 IsSplitMade group.World = Unit {0}
 IsSplitMade (group.Of comm) = Unit {0}
 IsSplitMade (group.Split comm rule) = (comm < 256) × IsParted rule
 
--- what the reader knows of a statement that it has made
+-- what the reader ensures for each statement that it builds
 pub record IsMade (e : Effect) : Type 0 where
   pub set : IfSome e.sets (λ target. target.reg < 256)
   pub split : IsSplitMade e.group
 
--- a rank that a statement names is a rank of the run
+-- a rank that a statement names by its number is a rank of the run
 abbrev pub IsPeerWithin : ℕ → Peer → Type 0
 IsPeerWithin nue (peer.Abs rank) = rank < nue
 IsPeerWithin nue (peer.Plus up) = Unit {0}
 IsPeerWithin nue (peer.Minus down) = Unit {0}
 
--- the other rank of a message is one of the run, where it is named
+-- the other rank of a message is a rank of the run, if the statement names it by its number
 abbrev pub IsAimed : ℕ → Effect → Type 0
 IsAimed nue e = IfSome e.peer (IsPeerWithin nue)
 
--- the faults of a statement for a rank of its section, over what is kept
+-- a check on ranks refuses the statement, as answered from what the reader keeps
 abbrev pub refuses_by : FaultKind → SetupView → Tally → ℕ → Effect → ℕ → Bool
 refuses_by kind.RankRange run tally turns e rank = has_no_root run e rank
 refuses_by kind.SelfMessage run tally turns e rank = is_to_self run.nue e rank
@@ -127,7 +128,7 @@ reads uses.Nothing = false
 reads (uses.One first) = true
 reads (uses.Two first second) = true
 
--- a statement that splits a communicator without a rule
+-- a statement splits a communicator that has no rule yet
 abbrev pub is_new_split : SetupView → Group → Bool
 is_new_split run group.World = false
 is_new_split run (group.Of comm) = false

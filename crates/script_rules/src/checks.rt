@@ -12,7 +12,7 @@ use crate::uses::{is_misshapen, is_unset, posts_too_much, prints_too_much};
 use crate::version::Version;
 use scc_base::{CommRule, Rank};
 
-/// Whether the root is past the members of its group.
+/// Whether the root is known to be no place of the rank's group.
 fn has_no_root(run: &Run, effect: &Effect, rank: u8) -> bool
     requires { rank < run.now.nue }
     ensures { result ≡ has_no_root run.now effect.now rank }
@@ -23,7 +23,7 @@ fn has_no_root(run: &Run, effect: &Effect, rank: u8) -> bool
     }
 }
 
-/// Whether a statement is a message of a rank to or from itself.
+/// Whether a rank sends to itself or receives from itself.
 fn is_to_self(nue: u8, effect: &Effect, rank: u8) -> bool
     requires some { 1 ≤ nue }
     requires most { nue ≤ 48 }
@@ -36,7 +36,7 @@ fn is_to_self(nue: u8, effect: &Effect, rank: u8) -> bool
     }
 }
 
-/// The greatest number of a communicator.
+/// The highest communicator number of a version.
 fn last_comm(version: Version) -> u8
     ensures { result ≡ last_comm version }
 {
@@ -46,7 +46,7 @@ fn last_comm(version: Version) -> u8
     }
 }
 
-/// Whether a rule splits this parent by the remainder by `k`.
+/// Whether a rule splits this parent by the remainder modulo `k`.
 fn is_mod_of(rule: CommRule, parent: u8, k: u8) -> bool
     ensures { result ≡ is_mod_of rule parent k }
 {
@@ -72,7 +72,7 @@ fn is_div_of(rule: CommRule, parent: u8, k: u8) -> bool
     }
 }
 
-/// Whether a rule is there, and is not the other one.
+/// Whether there is a rule already, and it is not the other one.
 fn differs_from(rule: CommRule, other: CommRule) -> bool
     ensures { result ≡ differs_from rule other }
 {
@@ -91,7 +91,7 @@ fn is_badly_split(run: &Run, comm: u8, rule: CommRule) -> bool
     comm == 0 || parent_of(rule) >= comm || differs_from(run.rule(comm), rule)
 }
 
-/// Whether a statement names a communicator that it may not name.
+/// Whether a statement names a communicator above the highest of its version, or splits one wrongly.
 pub fn is_unknown(version: Version, run: &Run, group: Group) -> bool
     ensures { result ≡ is_unknown version run.now group }
 {
@@ -110,7 +110,7 @@ fn is_not_split(tally: &Tally, group: Group) -> bool
     comm != 0 && !tally.has_split(comm)
 }
 
-/// Whether a statement splits a parent that no earlier line splits.
+/// Whether no earlier line splits the parent of this split.
 pub fn has_no_parent(run: &Run, group: Group) -> bool
     ensures { result ≡ has_no_parent run.now group }
 {
@@ -130,7 +130,7 @@ pub fn is_new_split(run: &Run, group: Group) -> bool
     }
 }
 
-/// The operations of a statement of a rank, where it runs once.
+/// How many operations one pass of a statement costs a rank.
 pub(crate) fn cost_of(run: &Run, cost: Cost, rank: u8) -> u32
     requires { rank < run.now.nue }
     ensures { result ≡ cost_of run.now cost rank }
@@ -151,7 +151,7 @@ fn is_overworked(run: &Run, tally: &Tally, turns: u32, cost: Cost, rank: u8) -> 
     tally.operations.saturating_add(operations) > MOST_OPERATIONS
 }
 
-/// Whether a statement has this fault for a rank, which has this tally.
+/// Whether the check of this kind refuses a statement for a rank that has this tally.
 pub fn refuses_by(
     kind: FaultKind,
     run: &Run,

@@ -1,4 +1,4 @@
-//! What a statement needs and does, said once: each test of the grammar and each count reads it.
+//! What a statement needs and does, defined once. Each check of the grammar and each count reads it.
 
 ghost use Rattle.std.specs.Prelude.{◌≡◌};
 ghost use Rattle.script_rules.specs.Effects.{effect_of, fit_of, parent_of};
@@ -10,15 +10,15 @@ use scc_base::CommRule;
 /// The communicator that a statement names.
 #[derive(Clone, Copy)]
 pub enum Group {
-    /// None, so that it needs the groups of the world alone.
+    /// None, so the statement needs only the world.
     World,
     Of(u8),
-    /// It splits this one by the rule, so that it needs the groups of the rule's parent.
+    /// The statement splits this one by the rule, so it needs the groups of the rule's parent.
     Split(u8, CommRule),
 }
 
-/// The ranks of the section for which a part of a statement counts: all of them, the root of its collective call, or all
-/// but the root.
+/// The ranks of the section to which a part of a statement applies: all of them, the root of its collective call, or all except
+/// the root.
 #[derive(Clone, Copy)]
 pub enum At {
     All,
@@ -30,11 +30,11 @@ pub enum At {
 #[derive(Clone, Copy)]
 pub enum Fit {
     Any,
-    /// That of whole values of the type.
+    /// A multiple of the type's width.
     Whole(Ty),
     /// This many bytes.
     Long(u32),
-    /// That of another register.
+    /// The length of another register.
     Like(u8),
 }
 
@@ -58,7 +58,7 @@ pub enum Uses {
 #[derive(Clone, Copy)]
 pub enum Size {
     Bytes(u64),
-    /// That of a register that it reads.
+    /// The length of a register that it reads.
     Same(u8),
 }
 
@@ -70,22 +70,22 @@ pub struct Target {
     pub size: Size,
 }
 
-/// How many operations a statement is, where it runs once.
+/// How many operations one pass of a statement costs.
 #[derive(Clone, Copy)]
 pub enum Cost {
     Free,
     One,
-    /// As many as the collective call has steps at the rank. A broadcast has its length; the messages of the others are
-    /// as long as their source, and they have none.
+    /// As many as the collective call has steps at the rank. A broadcast has its length here; the other calls have length 0,
+    /// since their messages are as long as their source.
     Steps(Coll),
 }
 
-/// What a statement does to the repeats.
+/// Whether a statement opens or closes a repeat.
 #[derive(Clone, Copy)]
 pub enum Nesting {
-    /// It opens one of this many passes.
+    /// It opens a repeat of this many passes.
     Opens(u32),
-    /// It closes the innermost one, which is the item at this place.
+    /// It closes the innermost repeat, which is the item at this place.
     Closes(u32),
     Stays,
 }
@@ -96,7 +96,7 @@ pub struct Effect {
     /// The other rank of its message.
     pub peer: Option<Peer>,
     pub group: Group,
-    /// The place of the root of its collective call in the group.
+    /// The root of its collective call, as a place in the group.
     pub root: Option<u8>,
     pub uses: Uses,
     pub sets: Option<Target>,
@@ -108,7 +108,7 @@ pub struct Effect {
     pub nesting: Nesting,
 }
 
-/// The effect of a statement that is one operation, and needs and does nothing else.
+/// The effect of a statement that is one operation and has no other effect.
 const PLAIN: Effect = Effect {
     peer: None,
     group: Group::World,
@@ -145,7 +145,7 @@ impl Target {
     }
 }
 
-/// What a print needs of its register.
+/// What a print requires of its register's length.
 fn fit_of(form: Form) -> Fit
     ensures { result ≡ fit_of form }
 {
@@ -185,7 +185,7 @@ impl OwnStmt {
     }
 }
 
-/// The communicator that a rule takes apart.
+/// The communicator that a rule splits.
 pub fn parent_of(rule: CommRule) -> u8
     ensures { result ≡ parent_of rule }
 {
@@ -213,7 +213,7 @@ impl Effect {
         Effect { sets, ..PLAIN }
     }
 
-    /// The effect of a statement of the rank's own.
+    /// The effect of a local statement.
     #[inline(always)]
     fn of_own(own: OwnStmt) -> Effect
         ensures { result ≡ effect_of (stmt.Own own) }
@@ -227,7 +227,7 @@ impl Effect {
         }
     }
 
-    /// The effect of a send, and of a post, which posts the register.
+    /// The effect of a send or a post; a post also posts the register.
     #[inline(always)]
     fn of_send(peer: Peer, reg: u8, posts: Option<u8>) -> Effect
         ensures { result ≡ record plain_effect { peer = Some peer; uses = uses.One (use_all reg fit.Any); posts = posts } }
@@ -304,7 +304,7 @@ impl Effect {
         }
     }
 
-    /// The effect of a statement which needs these groups and nothing else.
+    /// The effect of a statement that needs these groups and nothing else.
     #[inline(always)]
     fn of_group(group: Group) -> Effect
         ensures { result ≡ record plain_effect { group = group } }
@@ -370,7 +370,7 @@ impl Group {
     ghost use Rattle.std.specs.Prelude.{◌≡◌};
     ghost use Rattle.script_rules.specs.Effects.{comm_needed, split_rule};
 
-    /// The communicator whose groups a statement needs: the world where it needs none.
+    /// The communicator whose groups a statement needs, or the world if it needs none.
     pub fn needed(self) -> u8
         ensures { result ≡ comm_needed self }
     {
@@ -381,7 +381,7 @@ impl Group {
         }
     }
 
-    /// The rule that a statement gives communicator `comm`, and no rule where it does not split it.
+    /// The rule by which a statement splits communicator `comm`, or no rule if it does not split it.
     pub(crate) fn split_rule(self, comm: u8) -> CommRule
         ensures { result ≡ split_rule self comm }
     {

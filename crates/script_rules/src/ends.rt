@@ -6,7 +6,7 @@ ghost use Rattle.script_rules.specs.Ends.{with_end_at, told_at, with_ends};
 use crate::effect::{Nesting, effect_of};
 use crate::script::{Item, Stmt};
 
-/// Gives the repeat at a place the place of its end.
+/// Gives the repeat at `start` the place of its end.
 fn end_at(items: &mut [Item], start: usize, place: u32)
     ensures gives { items.new ≡ with_end_at items.old start place }
 {
@@ -19,7 +19,7 @@ fn end_at(items: &mut [Item], start: usize, place: u32)
     }
 }
 
-/// Tells a repeat the place of its end, if that stands here.
+/// Gives a repeat the place of its end, if the item at `place` is that end.
 fn tell_at(items: &mut [Item], place: usize)
     requires known { place < length items.old }
     requires few { length items.old < 2 ^ 32 }
@@ -31,7 +31,7 @@ fn tell_at(items: &mut [Item], place: usize)
     }
 }
 
-/// Tells each repeat the place of its end.
+/// Gives each repeat the place of its end.
 pub fn tell_ends(items: &mut [Item])
     requires few { length items.old < 2 ^ 32 }
     ensures gives { items.new ≡ with_ends (length items.old) items.old }

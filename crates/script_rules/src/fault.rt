@@ -3,7 +3,7 @@
 ghost use Rattle.std.specs.Prelude.{◌≡◌};
 ghost use Rattle.script_rules.specs.Kinds.{kind_name};
 
-/// What is wrong in a line. In a line the checks go in this order, and the first that refuses counts.
+/// What is wrong in a line. The checks of a line run in this order, and the first that refuses decides.
 #[derive(Clone, Copy, Debug, PartialEq, Eq)]
 pub enum FaultKind {
     NotText,

@@ -1,10 +1,10 @@
-//! The numbers that the limits of a script stand for.
+//! The numbers of the limits of a script.
 
 ghost use Rattle.std.specs.Prelude.{◌≡◌};
 ghost use Rattle.scc_base.specs.Heads.{most_message};
 ghost use Rattle.script_rules.specs.Limits.{most_names, most_open, most_operations, most_printed};
 
-/// The limits of a script: operations and printed bytes of a rank, names of a file, open repeats, and bytes of a register or a
+/// The limits of a script: a rank's operations and printed bytes, a file's names, open repeats, and bytes of a register or a
 /// message.
 pub fn numbers_law()
     ensures operations { most_operations ≡ 100000 }

@@ -5,7 +5,7 @@ ghost use Rattle.std.specs.Prelude.{◌≡◌, ◌≤◌, length};
 use arrayvec::ArrayString;
 use std::marker::Model;
 
-/// The name of a register, seen as its bytes. It takes no memory.
+/// The name of a register, viewed as its bytes. It allocates nothing.
 #[derive(Drop)]
 pub struct Name {
     text: ArrayString<16>,

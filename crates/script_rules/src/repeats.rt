@@ -15,11 +15,11 @@ pub const MOST_OPEN: usize = 8;
 pub struct Open {
     /// The place of its `repeat`, from 0.
     pub start: u32,
-    /// How often a statement in it runs: the times of all repeats that are open, multiplied.
+    /// How often a statement in it runs: the product of the times of all open repeats.
     pub turns: u32,
 }
 
-/// How often a statement runs that stands inside these repeats, the outermost first.
+/// How often a statement inside these repeats runs. The outermost repeat comes first.
 pub fn turns_in(repeats: &[Open]) -> u32
     ensures { result ≡ turns_in repeats.now }
 {
@@ -29,7 +29,7 @@ pub fn turns_in(repeats: &[Open]) -> u32
     }
 }
 
-/// The place of the innermost of these repeats; 0 where none is open.
+/// The place of the innermost of these repeats, or 0 if none is open.
 pub fn innermost(repeats: &[Open]) -> u32
     ensures { result ≡ innermost repeats.now }
 {
@@ -39,7 +39,7 @@ pub fn innermost(repeats: &[Open]) -> u32
     }
 }
 
-/// Whether a statement is an end with no open repeat.
+/// Whether a statement is an `end` with no open repeat.
 pub fn is_stray(repeats: &[Open], nesting: Nesting) -> bool
     ensures { result ≡ is_stray repeats.now nesting }
 {
@@ -49,7 +49,7 @@ pub fn is_stray(repeats: &[Open], nesting: Nesting) -> bool
     }
 }
 
-/// Whether a statement opens one repeat too many.
+/// Whether a statement would open a repeat nested too deep.
 pub fn is_too_deep(repeats: &[Open], nesting: Nesting) -> bool
     ensures { result ≡ is_too_deep repeats.now nesting }
 {

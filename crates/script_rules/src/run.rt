@@ -8,7 +8,7 @@ use groups::{Coll, steps};
 use scc_base::{CommRule, CoreId, Layout, Rank, Setup};
 use std::marker::Model;
 
-// Each rank on the core of its number.
+// Puts each rank on the core of its number.
 fn hosts() -> [CoreId; 48]
     ensures { (r : ℕ) → r < 48 → host_of result r ≡ r }
 {
@@ -28,7 +28,7 @@ fn is_absent(rule: CommRule) -> bool
     }
 }
 
-/// The groups of a run: which layout it has, and on which cores it is, says nothing of them.
+/// The groups of a run. Its layout and its cores do not matter for them.
 #[derive(Drop)]
 pub struct Run {
     nue: u8,
@@ -57,7 +57,7 @@ impl Run {
     ghost use Rattle.groups.specs.declared.collectives.Coll.TheVariants.{Bcast, Reduce, Allreduce};
     ghost use Rattle.script_rules.specs.Checks.{has_place, is_at_place, is_known, is_past_group, of_no_bytes, steps_in};
 
-    /// A run of this many ranks, 1 to 48, with these rules of communicators, which a setup can have.
+    /// A run of 1 to 48 ranks with these rules of communicators, which must be valid for a setup.
     pub fn new(nue: u8, comms: [CommRule; 16]) -> Run
         requires some { 1 ≤ nue }
         requires most { nue ≤ 48 }
@@ -77,7 +77,7 @@ impl Run {
         self.nue
     }
 
-    /// The rule of a communicator; there is none past the last one.
+    /// The rule of a communicator, or no rule above the last one.
     pub(crate) fn rule(&self, comm: u8) -> CommRule
         ensures gives { result ≡ rule_of self.now.comms comm }
         ensures past { 16 ≤ comm → result ≡ Absent }
@@ -90,7 +90,7 @@ impl Run {
         }
     }
 
-    /// Whether the rule of a communicator is known.
+    /// Whether the communicator has a rule.
     pub(crate) fn is_known(&self, comm: u8) -> bool
         ensures same { result ≡ is_known self.now comm }
         ensures below { IsTrue result → comm < 16 }
@@ -115,7 +115,7 @@ impl Run {
         self.is_known(comm) && self.setup.place(comm, Rank::of(rank)) == place
     }
 
-    /// Whether the root of a collective call is a place of the rank's group, which is known.
+    /// Whether the group is known and the root of a collective call is one of its places.
     fn has_root(&self, comm: u8, rank: u8, root: u8) -> bool
         requires { rank < self.now.nue }
         ensures same { result ≡ (is_known self.now comm && has_place self.now comm rank root) }
@@ -125,7 +125,7 @@ impl Run {
         self.is_known(comm) && root < self.setup.group_size(comm, Rank::of(rank))
     }
 
-    /// The steps of a rank in a bcast, as many as can be known.
+    /// The steps of a rank in a broadcast, or 0 if its group or root is not known.
     fn bcast_steps(&self, comm: u8, root: u8, rank: u8) -> u32
         requires { rank < self.now.nue }
         ensures { result ≡ steps_in self.now rank (Bcast comm root 0) }
@@ -138,7 +138,7 @@ impl Run {
         }
     }
 
-    /// The steps of a rank in a reduce, as many as can be known.
+    /// The steps of a rank in a reduce, or 0 if its group or root is not known.
     fn reduce_steps(&self, comm: u8, root: u8, rank: u8) -> u32
         requires { rank < self.now.nue }
         ensures { result ≡ steps_in self.now rank (Reduce comm root 0) }
@@ -155,7 +155,7 @@ impl Run {
         }
     }
 
-    /// The steps of a rank in an allreduce, as many as can be known.
+    /// The steps of a rank in an allreduce, or 0 if its group is not known.
     fn allreduce_steps(&self, comm: u8, rank: u8) -> u32
         requires { rank < self.now.nue }
         ensures { result ≡ steps_in self.now rank (Allreduce comm 0) }
@@ -168,7 +168,7 @@ impl Run {
         }
     }
 
-    /// The steps of a rank in a collective call, as many as can be known.
+    /// The steps of a rank in a collective call, or 0 if its group or root is not known.
     pub(crate) fn steps(&self, call: Coll, rank: u8) -> u32
         requires { rank < self.now.nue }
         ensures { result ≡ steps_in self.now rank (of_no_bytes call) }

@@ -16,7 +16,7 @@ pub enum Who {
     All,
     Even,
     Odd,
-    /// The ranks from the one to the other, both included.
+    /// The ranks from the first to the second, both included.
     Span(Rank, Rank),
 }
 
@@ -33,7 +33,7 @@ impl Who {
         }
     }
 
-    /// Whether the section is one of this rank.
+    /// Whether this rank is in the section.
     pub fn has(&self, rank: u8) -> bool
         ensures { result ≡ has_rank self.now rank }
     {
@@ -50,14 +50,14 @@ impl Who {
 #[derive(Clone, Copy)]
 pub enum Peer {
     Abs(Rank),
-    /// The rank n above the caller, counted round the run.
+    /// The rank n above the caller, modulo the number of ranks.
     Plus(u32),
-    /// The rank n below the caller, counted round the run.
+    /// The rank n below the caller, modulo the number of ranks.
     Minus(u32),
 }
 
 impl Peer {
-    /// The rank that is meant, in a statement of the rank `caller` of a run of `nue` ranks.
+    /// The other rank of a message of the rank `caller`, in a run of `nue` ranks.
     pub fn rank(&self, nue: u8, caller: Rank) -> Rank
         requires some { 1 ≤ nue }
         requires most { nue ≤ 48 }
@@ -85,7 +85,7 @@ pub enum Form {
     Decimal(Ty),
 }
 
-/// A statement that a rank does by itself, with what its registers have. Each register stays as long as it is.
+/// A local statement: it works on the rank's own registers and keeps their lengths.
 #[derive(Clone, Copy)]
 pub enum OwnStmt {
     /// DST becomes `DST op SRC`, value by value.
@@ -114,19 +114,19 @@ pub enum Stmt {
         reg: u8,
         ty: Ty,
     },
-    /// A statement of the rank's own.
+    /// A local statement.
     Own(OwnStmt),
-    /// A plain message with the register's bytes.
+    /// Sends the register's bytes as a plain message.
     Send {
         peer: Peer,
         reg: u8,
     },
-    /// A plain message with the register's bytes, for which the rank does not wait.
+    /// Posts the register's bytes as a plain message; the rank does not wait for the receiver.
     Post {
         peer: Peer,
         reg: u8,
     },
-    /// A plain message of this length into the register.
+    /// Receives a plain message of this length into the register.
     Recv {
         peer: Peer,
         reg: u8,
@@ -136,19 +136,19 @@ pub enum Stmt {
     Barrier {
         comm: u8,
     },
-    /// A barrier of the rule's parent; then the communicator is the group of the rank by this rule.
+    /// A barrier of the rule's parent. After it, the communicator is the rank's group by this rule.
     Split {
         comm: u8,
         rule: CommRule,
     },
-    /// The root's register comes to each member of the group. A root is counted inside the group.
+    /// Copies the root's register to each member of the group. The root is a place in the group.
     Bcast {
         comm: u8,
         root: u8,
         reg: u8,
         len: u32,
     },
-    /// The fold of all members' SRC comes into the root's DST.
+    /// Folds all members' SRC into the root's DST.
     Reduce {
         comm: u8,
         root: u8,
@@ -157,7 +157,7 @@ pub enum Stmt {
         dst: u8,
         src: u8,
     },
-    /// The fold of all members' SRC comes into each member's DST.
+    /// Folds all members' SRC into each member's DST.
     Allreduce {
         comm: u8,
         op: Op,
@@ -204,7 +204,7 @@ impl Model for Scripts {
 }
 
 impl Scripts {
-    /// A script of statements whose lengths fit.
+    /// A script of statements that the checks have accepted.
     pub fn new(ranks: u8, statements: Vec<Item>, registers: Vec<Name>) -> Scripts
         requires { IsAccepted ranks statements.items registers.items }
         ensures { result ≡ record { nue = ranks; items = statements.items; names = registers.items } }
@@ -251,7 +251,7 @@ impl Scripts {
         self.registers.len()
     }
 
-    /// The name of a register; empty where no register has this number.
+    /// The name of a register, or the empty name if no register has this number.
     pub fn name(&self, reg: u8) -> &str
         ensures { result.now ≡ slice_index_or self.now.names reg [] }
     {
@@ -261,8 +261,7 @@ impl Scripts {
         }
     }
 
-    /// The rules of the communicators: the world, and for each other one the rule of its first split. They are such that
-    /// a setup can have them.
+    /// The rules of the communicators: the world, and for each other one the rule of its first split. A setup can have them.
     pub fn comm_rules(&self) -> [CommRule; 16]
         ensures gives { result ≡ rules_of self.now.items }
         ensures valid { AreRules result }
@@ -270,14 +269,14 @@ impl Scripts {
         rules_of(self.statements.as_slice())
     }
 
-    /// The law of acceptance: no check of the table of faults refuses a statement of the script for a rank of its section,
-    /// over the statements before it. The other clauses say what this means, each for every statement and each rank that
-    /// runs it.
+    /// The law of acceptance: no check on ranks refuses a statement of the script for a rank of its section, given the
+    /// statements before it. The other clauses state what this means for every statement and every rank that runs it.
     pub fn acceptance_law(&self)
         ensures accepted { ArePassed self.now.nue (reverse self.now.items) }
-        // All that is true of each script that was read.
+        // All that holds for each accepted script.
         ensures whole { IsWholeScript self.now.nue self.now.items }
-        // A message has another rank of the run, a communicator that is used has a rule, a root is a place of the group.
+        // The peer of a message is another rank of the run, a communicator that is used has a rule, and a root is a place of
+        // its group.
         ensures settled { All (IsSettled self.now.nue (rules_of self.now.items)) self.now.items }
         // A register that is read has been set by the rank in an earlier line.
         ensures set { ForEachRun self.now
@@ -285,26 +284,27 @@ impl Scripts {
         // A register of a rank has one length in the whole script.
         ensures stays { (place rank reg len : ℕ) → length_before self.now place rank reg ≡ Some len
             → length_of self.now rank reg ≡ Some len }
-        // It is the one that each statement gives it or needs; those of a fold are equal, and whole values.
+        // Each statement gives or requires exactly this length. Operands of a fold have equal lengths, multiples of the type's
+        // width.
         ensures fitting { ForEachRun self.now (λ place effect rank. IsFitting (groups_of self.now) (length_of self.now rank) effect rank) }
         ensures postable { ForEachRun self.now (λ place effect rank. IsPostable (length_of self.now rank) effect) }
     {
         let _ranks = self.ranks;
     }
 
-    /// The limits of a script that was read.
+    /// The limits that each accepted script keeps.
     pub fn limits_law(&self)
         ensures short { (rank reg len : ℕ) → length_of self.now rank reg ≡ Some len → len ≤ most_message }
         ensures worked { (rank : ℕ) → rank < self.now.nue → operations self.now.nue (reverse self.now.items) rank ≤ most_operations }
         ensures printed { (rank : ℕ) → rank < self.now.nue → bytes_printed self.now.nue (reverse self.now.items) rank ≤ most_printed }
         ensures named { All (λ item. IsNamed (length self.now.names) (effect_of item.stmt)) self.now.items }
-        // Before each statement, and at the end.
+        // This holds before each statement and at the end.
         ensures shallow { (place : ℕ) → length (open_of (reverse (take place self.now.items))) ≤ most_open }
     {
         let _ranks = self.ranks;
     }
 
-    /// The setup of a run of the script in this layout, on the first of these cores.
+    /// The setup of a run of the script in this layout, on the first `nue` of these cores.
     pub fn setup(&self, layout: Layout, hosts: [CoreId; 48]) -> Setup
         requires apart { AreApart self.now.nue hosts }
         ensures gives { result ≡ record { nue = self.now.nue; layout = layout; hosts = hosts; comms = rules_of self.now.items } }
@@ -338,7 +338,7 @@ fn first_split(items: &[Item], comm: u8) -> CommRule
     CommRule::Absent
 }
 
-/// The rules of the communicators behind these statements.
+/// The rules of the communicators after these statements.
 pub fn rules_of(items: &[Item]) -> [CommRule; 16]
     ensures { result ≡ rules_of items.now }
 {

@@ -24,7 +24,7 @@ pub struct Setting {
     pub len: u64,
 }
 
-/// What the statements of one rank come to. Each sum stops at one more than is allowed.
+/// The totals of one rank's statements. Each sum stops at one more than is allowed.
 #[derive(Drop)]
 pub struct Tally {
     /// How many operations the rank has.
@@ -41,7 +41,7 @@ impl Tally {
     ghost use Rattle.std.specs.Prelude.{◌≡◌, ◌<◌};
     ghost use Rattle.script_rules.specs.Tally.{length_in, tally_after, split_in, with_length, with_split};
 
-    /// The length of a register, if the rank has set it.
+    /// The length of a register in bytes, if the rank has set it.
     pub(crate) fn length(&self, reg: u8) -> Option<u64>
         ensures { result ≡ length_in self.now reg }
     {
@@ -66,7 +66,7 @@ impl Tally {
         }
     }
 
-    /// Marks a split.
+    /// Records a split.
     fn set_split(&mut self, group: Group)
         ensures { self.new ≡ record self.old { splits = with_split self.old.splits group } }
     {
@@ -94,7 +94,7 @@ impl Tally {
     }
 }
 
-/// Counts one more item of the script, which runs `turns` times, for each rank of its section. Tallies are by rank.
+/// Counts one more item of the script, which runs `turns` times, for each rank of its section. `tallies` has one tally a rank.
 pub fn note_item(tallies: &mut [Tally], run: &Run, turns: u32, who: &Who, effect: &Effect)
     requires ranks { length tallies.old ≡ run.now.nue }
     requires most { run.now.nue ≤ 48 }
@@ -108,7 +108,7 @@ pub fn note_item(tallies: &mut [Tally], run: &Run, turns: u32, who: &Who, effect
     }
 }
 
-/// The tallies of all ranks before the first statement. The one error is want of memory.
+/// The tallies of all ranks before the first statement. The only error is out of memory.
 pub fn no_tallies(alloc: Global, nue: u8) -> Result<Vec<Tally>, AllocError>
     ensures ranks { IfOk result (λ tallies. vec_len tallies ≡ nue) }
     ensures empty { IfOk result (λ tallies. AreTallies tallies.items nue []) }

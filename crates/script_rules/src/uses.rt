@@ -27,7 +27,7 @@ fn is_root(run: &Run, effect: &Effect, rank: u8) -> bool
     }
 }
 
-/// Whether a part of the statement counts for the rank.
+/// Whether a part of the statement applies to the rank.
 fn counts_at(run: &Run, effect: &Effect, rank: u8, at: At) -> bool
     requires { rank < run.now.nue }
     ensures { result ≡ counts_at run.now effect.now rank at }
@@ -78,7 +78,7 @@ impl Use {
         counts_at(run, effect, rank, self.at) && tally.length(self.reg).is_none()
     }
 
-    /// Whether the register has another length at the rank than it must have.
+    /// Whether the register has another length at the rank than the statement requires.
     #[inline(always)]
     fn misfits(self, run: &Run, tally: &Tally, effect: &Effect, rank: u8) -> bool
         requires { rank < run.now.nue }
@@ -102,7 +102,7 @@ pub(crate) fn is_unset(run: &Run, tally: &Tally, effect: &Effect, rank: u8) -> b
     }
 }
 
-/// Whether there is another length than this one.
+/// Whether there is a length and it is not this one.
 fn differs(had: Option<u64>, len: u64) -> bool
     ensures { result ≡ differs had len }
 {
@@ -112,7 +112,7 @@ fn differs(had: Option<u64>, len: u64) -> bool
     }
 }
 
-/// Whether there is a length that is no multiple of the type's width.
+/// Whether there is a length and it is not a multiple of the type's width.
 fn is_ragged(ty: Ty, had: Option<u64>) -> bool
     ensures { result ≡ is_ragged ty had }
 {
@@ -122,7 +122,7 @@ fn is_ragged(ty: Ty, had: Option<u64>) -> bool
     }
 }
 
-/// Whether a register gets another length than it has.
+/// Whether a statement would change a register's length.
 fn resizes(tally: &Tally, set: Option<Setting>) -> bool
     ensures { result ≡ resizes (length_in tally.now) set }
 {
@@ -132,7 +132,7 @@ fn resizes(tally: &Tally, set: Option<Setting>) -> bool
     }
 }
 
-/// Whether a register has another length than it must have.
+/// Whether a register has another length than the required one.
 fn is_unfit(tally: &Tally, reg: u8, fit: Fit) -> bool
     ensures { result ≡ is_unfit (length_in tally.now) reg fit }
 {
@@ -144,7 +144,7 @@ fn is_unfit(tally: &Tally, reg: u8, fit: Fit) -> bool
     }
 }
 
-/// Whether a statement needs another length than its registers have.
+/// Whether a statement requires another length than one of its registers has.
 fn misfits(run: &Run, tally: &Tally, effect: &Effect, rank: u8) -> bool
     requires { rank < run.now.nue }
     ensures { result ≡ misfits run.now (length_in tally.now) effect.now rank }
@@ -158,7 +158,7 @@ fn misfits(run: &Run, tally: &Tally, effect: &Effect, rank: u8) -> bool
     }
 }
 
-/// Whether a statement gives a register another length than it has, or needs another one.
+/// Whether a statement would change a register's length, or requires another one.
 pub(crate) fn is_misshapen(run: &Run, tally: &Tally, effect: &Effect, rank: u8) -> bool
     requires { rank < run.now.nue }
     ensures { result ≡ is_misshapen run.now (length_in tally.now) effect.now rank }
@@ -166,7 +166,7 @@ pub(crate) fn is_misshapen(run: &Run, tally: &Tally, effect: &Effect, rank: u8) 
     resizes(tally, set_by(run, tally, effect, rank)) || misfits(run, tally, effect, rank)
 }
 
-/// How many register bytes a statement prints, where it runs once.
+/// How many register bytes one pass of a statement prints.
 pub(crate) fn prints(tally: &Tally, effect: &Effect) -> u64
     ensures { result ≡ prints (length_in tally.now) effect.now }
 {
@@ -176,7 +176,7 @@ pub(crate) fn prints(tally: &Tally, effect: &Effect) -> u64
     }
 }
 
-/// Whether a length that the statement says is more than a message has.
+/// Whether the statement states a length above the greatest of a message.
 fn is_past_most(size: Size) -> bool
     ensures { result ≡ is_past_most size }
 {
@@ -186,7 +186,7 @@ fn is_past_most(size: Size) -> bool
     }
 }
 
-/// Whether a length that the statement sets is more than a message has.
+/// Whether the statement sets a register to a length above the greatest of a message.
 pub fn is_too_long(effect: &Effect) -> bool
     ensures { result ≡ is_too_long effect.now }
 {

@@ -11,7 +11,7 @@ impl Version {
     ghost use Rattle.std.specs.Prelude.{◌≡◌};
     ghost use Rattle.script_rules.specs.Checks.{version_number};
 
-    /// The number of the version, as a file says it.
+    /// The number of the version, as a file states it.
     pub fn number(self) -> u32
         ensures { result ≡ version_number self }
     {

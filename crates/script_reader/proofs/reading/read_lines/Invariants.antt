@@ -3,7 +3,7 @@ use Rattle.script_rules.specs.Limits.{most_names}
 use Rattle.script_reader.specs.Reading.{read_lines}
 use Rattle.script_reader.proofs.reading.read_lines.Given as goal
 
--- the lines that are left, behind those so far, give what all of them give
+-- the lines that are left, read after those so far, give the result of all lines
 abbrev pub invariant-loop-line : goal.invariant-loop-line
 invariant-loop-line l = record {
   version : l.reader.version ≡ l.fn.reader.version;

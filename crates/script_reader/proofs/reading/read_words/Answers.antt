@@ -18,7 +18,7 @@ no-words : {A : Type 0} (number : ℕ) (p : ReadingSoFar) (seen : A → List ℕ
 no-words number p seen [] none = refl
 no-words number p seen (first ∷ rest) none = absurd (omega (arith, none))
 
--- a line by its first word and the words behind it
+-- a line by its first word and the words after it
 some-words : {A : Type 0} (number : ℕ) (p : ReadingSoFar) (seen : A → List ℕ) (words : List A) (d : A) → 1 ≤ length words
     → read_words number p (map seen words) ≡ (said_of p.version p.opening (seen (get_or words 0 d)) (map seen (take (length words - 1) (drop 1 words))) >>= after_script_line number (past_opening p))
 some-words number p seen [] d some = absurd (omega (arith, some))

@@ -31,7 +31,7 @@ empty : (word : List ℕ) → length word < 1 → slice_index word 0 ≡ 45 → 
 empty [] short is = cc
 empty (b ∷ word) short is = omega (arith, short)
 
--- what the digits are behind a dash
+-- the digits after a dash
 below : (c : After-greatest) (size : Option ℕ) → size ≡ decimal_of 20 (c.greatest.result + 1) (take (length c.args.word.now - 1) (drop 1 c.args.word.now))
     → value_behind c.args.ty c.args.bytes.now.items c.args.word.now ≡ (ok_or (option_map (bytes_below c.args.ty) size) kind.BadNumber >>= λ bytes. Ok (c.args.bytes.now.items ++ bytes))
 below c size gives =

@@ -12,7 +12,7 @@ first : {A : Type 0} (ty : Ty) (front : List ℕ) (seen : A → List ℕ) (words
     → values_said ty front (map seen (drop i words)) ≡ (value_behind ty front (seen (get_or words i d)) >>= λ bytes. values_said ty bytes (map seen (drop (suc i) words)))
 first ty front seen words i d below = ap (λ (left : List _). values_said ty front (map seen left)) (drop-cons words i d below)
 
--- where it is a value, the words behind it go on from its bytes
+-- if it is a value, the words after it continue from its bytes
 behind : {A : Type 0} (ty : Ty) (front back : List ℕ) (seen : A → List ℕ) (words : List A) (i : ℕ) (d : A) → i < length words
     → value_behind ty front (seen (get_or words i d)) ≡ Ok back → values_said ty back (map seen (drop (i + 1) words)) ≡ values_said ty front (map seen (drop i words))
 behind ty front back seen words i d below is =

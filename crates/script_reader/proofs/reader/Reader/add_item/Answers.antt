@@ -26,7 +26,7 @@ use Rattle.script_rules.proofs.TallyLemmas.{written-back}
 use Rattle.script_reader.proofs.reader.Reader.add_item.Goals.{After-note_repeat}
 use Rattle.script_reader.proofs.reader.Reader.add_item.Goals as goal
 
--- a statement without a fault opens no repeat too many, nor does it turn too often
+-- a statement without a fault is not nested too deep, and does not run too often
 pub note_repeat-requires-clause-flat : goal.note_repeat-requires-clause-flat
 note_repeat-requires-clause-flat c =
     let sound = subst (λ (p : ReadingSoFar). IsSound p c.args.effect.now) (sym c.self.view_is) (no-fault _ c.args.effect.now c.requires.passed) in
@@ -43,7 +43,7 @@ before c =
     let inside = c.self.inside in
     record { version = inside.version; nue = inside.nue; opening = inside.opening; items = inside.items.items; names = inside.names.items; section = inside.section }
 
--- the statement has no fault behind them
+-- the statement has no fault after them
 sound : (c : After-note_repeat) → IsSound (before c) (effect_of c.args.item.stmt)
 sound c = subst (λ (p : ReadingSoFar). IsSound p (effect_of c.args.item.stmt)) (sym c.self.view_is) (sound-at _ c.args.effect.now c.args.item.stmt c.requires.meant c.requires.passed)
 
@@ -54,7 +54,7 @@ splits c =
     ∙ ap (λ (e : Effect). is_new_split c.self.inside.run e.group) c.requires.meant
     ∙ ap (λ (run : SetupView). is_new_split run (effect_of c.args.item.stmt).group) c.self.invariant.run_is
 
--- where it does, the rules behind it are such that a setup may have them
+-- if it does, a setup may have the rules after it
 valid : (c : After-note_repeat) → c.is_new_split-is_split.result ≡ true → AreRules (rules_of (c.self.inside.items.items ++ c.args.item ∷ []))
 valid c new =
     let inside = c.self.inside in
@@ -63,7 +63,7 @@ valid c new =
     let made = subst (λ (e : Effect). IsMade e) c.requires.meant c.requires.made in
     rules-made e.group inside.items.items c.args.item inside.version inside.nue refl made.split s.unknown s.parented (sym (splits c) ∙ new) c.self.invariant.rules
 
--- what is kept behind it, over the run of the rules behind it
+-- the invariant after it, over the run by the rules after it
 kept : (c : After-note_repeat) (run : SetupView) → run ≡ run_of c.self.inside.nue (reverse (c.self.inside.items.items ++ c.args.item ∷ [])) → AreRules (rules_of (c.self.inside.items.items ++ c.args.item ∷ []))
     → IsKept c.self.inside.version c.self.inside.nue c.push.new.self.items c.self.inside.names.items run c.note_repeat.new.repeats.items
     (take c.self.inside.tallies.len (c.note_item.new.tallies ++ drop (length c.note_item.new.tallies) c.self.inside.tallies.items))
@@ -129,7 +129,7 @@ invariant_of-self c =
 pub returns-in_err-push : goal.returns-in_err-push
 returns-in_err-push c = none-kept c.from_residual.result _ c.from_residual.ensures.0
 
--- what is read behind the statement
+-- what has been read after the statement
 added : (c : After-note_repeat) → record (before c) { items = c.push.new.self.items } ≡ record c.args.self.now { items = c.args.self.now.items ++ c.args.item ∷ [] }
 added c =
     ap (λ (p : ReadingSoFar). record p { items = c.push.new.self.items }) c.self.view_is

@@ -5,7 +5,7 @@ use Rattle.script_rules.specs.declared.fault.FaultKind.{FaultKind}
 use Rattle.script_reader.specs.Progress.{fault_table, has_fault}
 use Rattle.script_reader.proofs.reader.Reader.first_fault.Goals as goal
 
--- a search goes on behind an element that fails
+-- a search goes on after an element that fails
 behind : (test : FaultKind → Bool) (kinds : List FaultKind) (i : ℕ) (d : FaultKind) → i < length kinds → test (get_or kinds i d) ≡ false → find test (drop (i + 1) kinds) ≡ find test (drop i kinds)
 behind test kinds i d below fails =
     let here = ap (find test) (drop-cons kinds i d below) in

@@ -15,7 +15,7 @@ use Rattle.script_reader.proofs.FaultLemmas.{no-fault}
 use Rattle.script_reader.proofs.StopLemmas.{faulted, none-kept, starved}
 use Rattle.script_reader.proofs.reader.Reader.place.Goals as goal
 
--- a statement without a fault stands behind no more names than a file may have
+-- before a statement without a fault there are no more names than a file may have
 pub returns-clause-kept : goal.returns-clause-kept
 returns-clause-kept c =
     let new = c.in_ok-add_item.ensures in
@@ -27,7 +27,7 @@ returns-clause-kept c =
       counted = omega (arith, c.requires.counted, ap (λ (p : ReadingSoFar). length p.items) new, length-append {A = Item});
     }
 
--- what is read where the statement is taken for this section
+-- what has been read if the statement is added to this section
 abbrev behind : ℕ → ReadingSoFar → Stmt → Who → Result ReadingSoFar FaultKind
 behind line p stmt who = Ok (record p { items = p.items ++ (record { line = line; who = who; stmt = stmt }) ∷ [] })
 

@@ -6,7 +6,7 @@ use Rattle.script_reader.proofs.ReaderLemmas.{kept-names}
 use Rattle.script_reader.proofs.reader.Reader.register.Goals.{Joined-place-len, then-place-len+in_ok-push, else-place-len}
 use Rattle.script_reader.proofs.reader.Reader.register.Goals as goal
 
--- the names behind a name that is new, and behind one that is known
+-- the names after a new name, and after a known one
 new-name : (p : ReadingSoFar) (name : List ℕ) (names : List (List ℕ)) → register_of p.names name ≡ length p.names → names ≡ p.names ++ name ∷ [] → names ≡ with_name p.names name
 new-name p name names new is = is ∙ sym (ap (λ (b : Bool). cond b (p.names ++ name ∷ []) p.names) (eq-eqb (register_of p.names name) (length p.names) new))
 
