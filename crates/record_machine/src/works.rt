@@ -117,9 +117,9 @@ pub struct Posted {
     pub is_answered: bool,
 }
 
-/// The state of a rank's messages and barriers: the bytes of a full chunk; the noted words of its header line and
-/// of the chunk in hand, and of each rank whose `sent` was seen those of its header line; what the rank is in the midst of; its posted
-/// message; the values of its gather flags by communicator; and the bytes that are through of its unfinished message.
+/// The state of a rank's messages and barriers. It has the bytes of a full chunk, and the noted words of its header line and
+/// of the chunk in hand. It has the header line noted of each rank whose `sent` was seen, what the rank is in the midst of, its posted
+/// message, the values of its gather flags by communicator, and the bytes that are through of its unfinished message.
 #[derive(Drop)]
 pub struct Work {
     pub size: u32,
