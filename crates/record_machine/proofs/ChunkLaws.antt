@@ -36,7 +36,7 @@ pub bytes_done : (notes : Notes) (items end : List ℕ) (at left : ℕ) → left
 unfolding bytes_from
 bytes_done notes items end at left none is = sym (append-nil items) ∙ ap (λ (k : ℕ). items ++ bytes_from notes at k) (sym none) ∙ is
 
--- the bytes so far have room for one more
+-- the buffer can hold one byte more than those so far
 pub bytes_room : (notes : Notes) (items old : List ℕ) (at left count : ℕ) → items ++ bytes_from notes at left ≡ old ++ bytes_from notes 0 count → length items + left ≡ length old + count
 bytes_room notes items old at left count is =
     ap (λ (n : ℕ). length items + n) (sym (length-bytes_from notes at left)) ∙ sym (length-append items (bytes_from notes at left)) ∙ ap length is

@@ -190,7 +190,7 @@ refused old new e r setup rank stays = record {
   finishes = λ rec f. ap (λ (x : Record). x.calls) (refused_stays old.setup old.rank rec e (stays rec f).0);
 }
 
--- the slot of a register tells whether it is held
+-- the slot of a register states whether the rank holds it
 held_told : (slot : Option NotedFlags) → is_some (option_map flag_words slot) ≡ is_some slot
 held_told None = refl
 held_told (Some flags) = refl

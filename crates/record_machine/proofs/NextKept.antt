@@ -1,4 +1,4 @@
--- What a machine keeps of a stage, by how the rank stands, for what its record allows next.
+-- What a machine keeps of a stage, by what the rank is in the midst of, for what its record allows next.
 use Rattle.std.proofs.Common.{◌≡◌, ℕ, Bool, if◌then◌else◌, List, Option, ap}
 use Rattle.scc_base.specs.Heads.{MessageHead}
 use Rattle.scc_proto.specs.Messages.{Notes, Progress}

@@ -120,11 +120,11 @@ module _ (size : ℕ) (header : NotedLine) (chunk : NotedChunk) (bytes : List �
 
   -- ---- raises
 
-  -- what is drafted where a first chunk is raised
+  -- what is written when a first chunk is raised
   whole_first : (h c : Notes) (to : ℕ) → may_raise size to (Drafting h c) ≡ true → (head : MessageHead) → head_of h ≡ head → is_whole size (fresh_message (head_of h)) c ≡ true
   whole_first h c to may head is = both_first (is_whole size (fresh_message (head_of h)) c) (is_padded size (fresh_message (head_of h)) c) (both_second (is_whole_header h) (is_drafted size (fresh_message (head_of h)) c) may)
 
-  -- a first chunk is raised where a draft stands
+  -- a first chunk is raised if its message is half written
   raises_draft : (mid : Standing) (st : Stage) → KeepsStage size header chunk bytes mid st → ((j : ℕ) (head : MessageHead) → mid ≢ standing.Filling j head) → (to : ℕ) → may_raise size to st ≡ true
       → (h : Notes) × (c : Notes) × (st ≡ Drafting h c) × IsLineOf header h × IsChunkOf chunk c
   raises_draft mid st AtIdle other to may = absurd (cc)
@@ -179,7 +179,7 @@ module _ (size : ℕ) (header : NotedLine) (chunk : NotedChunk) (bytes : List �
       subst (λ (s : Stage). KeepsStage size header chunk [] (standing.Raised to head) (raise_sent to s) × (calls_raised size to s calls ≡ calls) × (post_raised to s post ≡ post)) (sym x.2)
       (plain_raised x.0 x.1 to drafted calls post head (says x.0 x.3) (plain x.0 x.3) x.4)
 
-  -- a message is posted: its call is finished, and it is on its way
+  -- a message is posted: its call is finished, and it is in flight
   pub post_goes : (mid : Standing) (st : Stage) → KeepsStage size header chunk bytes mid st → ((j : ℕ) (head : MessageHead) → mid ≢ standing.Filling j head) → (to : ℕ) → may_raise size to st ≡ true
       → (calls : List DataCall) (post : Option OnItsWay) (head : MessageHead) → ((words : Notes) → IsLineOf header words → TellsHead words (Some head)) → ((words : Notes) → IsLineOf header words → is_posted words ≡ true)
       → (now : List ℕ) → ((m : Progress) (c : Notes) → IsInHand size head [] m → IsChunkOf chunk c → IsThrough size head m c now)
@@ -240,7 +240,7 @@ module _ (size : ℕ) (header : NotedLine) (chunk : NotedChunk) (bytes : List �
         ),
       )
 
-  -- a chunk is through, and the next one may be drafted
+  -- a chunk is through, and the sender may write the next one
   pub sent_more : (j : ℕ) (head : MessageHead) (st : Stage) → KeepsStage size header chunk bytes (standing.Answered j head) st → (calls : List DataCall) (now : List ℕ) (fresh : NotedChunk) → IsChunkOf fresh []
       → ((m : Progress) (c : Notes) → IsInHand size head bytes m → IsChunkOf chunk c → IsThrough size head m c now) → ((m : Progress) → IsInHand size head bytes m → is_last size m ≡ false)
       → KeepsStage size header fresh now (standing.Filling j head) (lower_ready size st) × (calls_sent size st calls ≡ calls)

@@ -1,4 +1,4 @@
--- What a machine keeps of a stage tells which moves the stage permits, and what it keeps of a chunk that is through.
+-- What a machine keeps of a stage decides which moves the stage permits, and what it keeps of a chunk that is through.
 use Rattle.std.proofs.Common.{◌≡◌, ◌≢◌, ℕ, suc, ◌+◌, ◌-◌, ◌*◌, ◌≤◌, min, Bool, true, false, not, ◌&&◌, ◌==◌, nat_le, List, [], ◌++◌, length, length-append, Option, Some, refl, sym, ◌∙◌, ap, subst, arith}
 use Rattle.std.proofs.Math.Nat.{mul-suc}
 use Rattle.scc_base.specs.Heads.{MessageHead, IsHead}
@@ -43,7 +43,7 @@ last_left size head bytes message o =
     let step : size * suc message.chunks ≡ size * message.chunks + size = mul-suc size message.chunks in
     same_le (head.len - length bytes) size message.head.len (size * suc message.chunks) (λ a. omega (arith, a, len, filled, step, within)) (λ a. omega (arith, a, len, filled, step, within))
 
--- a chunk has room behind the bytes that are through
+-- a message can hold a chunk after the bytes that are through
 pub chunk_fits : (size : ℕ) (head : MessageHead) (bytes : List ℕ) (message : Progress) → IsInHand size head bytes message → length bytes + chunk_bytes size message ≤ 65536
 chunk_fits size head bytes message o =
     let len : message.head.len ≡ head.len = ap (λ (h : MessageHead). h.len) o.head_is in

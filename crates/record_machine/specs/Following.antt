@@ -32,16 +32,16 @@ abbrev pub FinishesCall : Result (Option Call) Refused → List ℕ → List Dat
 FinishesCall (Ok call) bytes old new = Adds call bytes old new
 FinishesCall (Err refused) bytes old new = new ≡ old
 
--- a test that tells whether a record permits a move
+-- a test that is true if and only if a record permits a move
 abbrev pub Decides : Work → Move → Bool → Type 0
 Decides w move test = (rec : Record) → StandsFor w rec → test ≡ permits w.size move rec
 
--- a machine's work has followed a rank through one more move, and tells the call that is finished by it
+-- a machine's work has followed a rank through one more move, and returns the call that the move finishes
 pub record MovedOn (size : ℕ) (w : Work) (rec : Record) (move : Move) (call : Option Call) : Type 0 where
   pub stands : StandsFor w (after size move rec)
   pub adds : Adds call w.bytes.items rec.calls (calls_after size move rec)
 
--- a machine's work has followed the move, from each record that it stands for and that permits the move
+-- a machine's work has followed the move, from each record that it follows and that permits the move
 abbrev pub MovesOn : Work → Work → Move → Option Call → Type 0
 MovesOn old new move call = (rec : Record) → StandsFor old rec → permits old.size move rec ≡ true → MovedOn old.size new rec move call
 
@@ -63,11 +63,11 @@ pub record Takes (old : Machine) (e : Event) (new : Machine) (answer : Result (O
   pub finishes : (rec : Record) → FollowsRecord old rec
       → FinishesCall answer new.work.bytes.items rec.calls (record_after old.setup old.rank rec e).calls
 
--- a draft stands open where nothing was open
+-- a half-written message begins, with no call unfinished before
 abbrev pub with_draft_open : Stage → Stage
 with_draft_open Idle = Drafting [] []
 with_draft_open stage = stage
 
--- a machine's work has opened a draft
+-- a machine's work has begun a half-written message
 abbrev pub OpensDraft : Work → Work → Type 0
 OpensDraft old new = (rec : Record) → StandsFor old rec → StandsFor new (record rec { stage = with_draft_open rec.stage })

@@ -1,4 +1,4 @@
--- What a record allows next, in the kinds that are told to a person (this project's profile).
+-- What a record allows next, in kinds for error messages (this project's profile).
 use Rattle.std.specs.Prelude.{ℕ, Bool, true, false, ◌&&◌, ◌||◌, ◌==◌, if◌then◌else◌, Option, Some, None, is_none, is_some}
 use Rattle.scc_base.specs.Places.{WordAt}
 use Rattle.scc_base.specs.Setups.{SetupView}
@@ -19,7 +19,7 @@ use Rattle.record_machine.specs.declared.next.NextEvent.TheVariants as next
 use Rattle.record_machine.specs.declared.next.NextStore.{NextStore}
 use Rattle.record_machine.specs.declared.next.NextStore.TheVariants as may
 
--- the stores that messages and barriers allow next, where a whole chunk has `size` bytes
+-- the stores that messages and barriers allow next, if a full chunk has `size` bytes
 abbrev pub store_allowed : ℕ → Stage → Option OnItsWay → (ℕ → Option Notes) → NextStore
 store_allowed size Idle None notes = may.Begin
 store_allowed size Idle (Some post) notes = may.BesidePost post.to
@@ -33,7 +33,7 @@ store_allowed size (Between from message) post notes = if is_some (notes from) t
 store_allowed size (Taking from message chunk) post notes = if is_whole size message chunk then may.RaiseReady from else may.ReadChunk from
 store_allowed size (Barrier comm seen released) post notes = may.Meet comm
 
--- the rank that has taken the post on its way, if one has
+-- the rank that has taken the post in flight, if one has
 abbrev pub taker_of : Option OnItsWay → Option ℕ
 taker_of None = None
 taker_of (Some post) = if post.is_answered then Some post.to else None
@@ -62,7 +62,7 @@ lacks_flags rec core (ReleaseFlag comm owner) = false
 lacks_flags rec core HeapWord = false
 lacks_flags rec core IdleWord = false
 
--- what a record allows in place of an access that it does not permit (each load is permitted, so of a load this tells only
+-- what a record allows instead of an access that it does not permit (each load is permitted, so for a load this lists only
 -- what may be stored)
 abbrev pub allowed_by : SetupView → Record → Access → WordAt → NextEvent
 allowed_by s rec Load place = stores_allowed s rec
@@ -70,7 +70,7 @@ allowed_by s rec Store place = if lacks_flags rec place.core (role_of s place) t
 allowed_by s rec Take place = next.FreeRegister
 allowed_by s rec Free place = next.TakeRegister
 
--- what a record allows in place of an event that it does not permit
+-- what a record allows instead of an event that it does not permit
 abbrev pub allowed_for : SetupView → Record → Event → NextEvent
 allowed_for s rec e = allowed_by s rec e.access e.place
 
@@ -117,7 +117,7 @@ is_among kinds (StoreHeap place value) = kinds.heap
 is_among kinds NoMove = false
 is_among kinds Misplaced = false
 
--- what is named, and permitted as things stand
+-- the kinds that are named without a condition, so permitted now
 abbrev pub kinds_offered : NextStore → StoreKinds
 kinds_offered may.Begin = record no_store { header = true; chunk = true; heap = true }
 kinds_offered (may.BesidePost to) = record no_store { heap = true }
@@ -134,7 +134,7 @@ kinds_offered (may.ReadChunk i) = no_store
 kinds_offered (may.RaiseReady i) = record no_store { raise = at_ranks Ready (λ to. i == to) }
 kinds_offered (may.Meet comm) = no_store
 
--- what is named under a condition: a flag that is seen, a header that is read, a chunk that is whole, the value of a barrier
+-- what is named under a condition: a flag that is seen, a header that is read, a chunk that is complete, the value of a barrier
 abbrev pub kinds_awaited : NextStore → StoreKinds
 kinds_awaited may.Begin = record no_store { lower = at_ranks Sent (λ from. true); gather = true }
 kinds_awaited (may.BesidePost to) = record no_store { lower = at_ranks Sent (λ from. true); gather = true }
@@ -156,7 +156,7 @@ abbrev pub kinds_beside : Option ℕ → StoreKinds
 kinds_beside None = no_store
 kinds_beside (Some j) = record no_store { lower = at_ranks Ready (λ by. j == by) }
 
--- the move is named, and permitted as things stand
+-- the move is named without a condition, so permitted now
 abbrev pub offers : NextStore → Move → Bool
 offers store move = is_among (kinds_offered store) move
 

@@ -15,12 +15,12 @@ AreSlotsOf n slots notes = (k : ℕ) → k < n → slice_index_or slots k None �
 abbrev pub IsLineOf : NotedLine → Notes → Type 0
 IsLineOf line notes = AreSlotsOf 4 line.words notes
 
--- a machine's chunk has exactly the words that are noted, and tells whether there are any
+-- a machine's chunk has exactly the words that are noted, and states whether there are any
 pub record IsChunkOf (chunk : NotedChunk) (notes : Notes) : Type 0 where
   pub words : AreSlotsOf most_chunk_words chunk.words notes
   pub some : chunk.some ≡ not (is_empty notes)
 
--- the head that noted words say, where they say one that a message may have
+-- the head that noted words encode, if a message may have it
 abbrev pub TellsHead : Notes → Option MessageHead → Type 0
 TellsHead notes None = says_head notes ≡ false
 TellsHead notes (Some head) = (says_head notes ≡ true) × (head_of notes ≡ head)

@@ -23,26 +23,26 @@ is_sending (standing.Raised to head) = true
 is_sending (standing.Answered to head) = true
 is_sending mid = false
 
--- nothing is drafted or taken, and no barrier is open
+-- nothing is half written or being taken, and no barrier is unfinished
 abbrev pub leaves_words : Standing → Bool
 leaves_words standing.Idle = true
 leaves_words (standing.Between from head) = true
 leaves_words mid = false
 
--- words of a header line may be drafted
+-- the rank may write words of a header line
 abbrev pub opens_header : Standing → Bool
 opens_header standing.Idle = true
 opens_header standing.Drafting = true
 opens_header mid = false
 
--- words of a chunk may be drafted
+-- the rank may write words of a chunk
 abbrev pub opens_chunk : Standing → Bool
 opens_chunk standing.Idle = true
 opens_chunk standing.Drafting = true
 opens_chunk (standing.Filling to head) = true
 opens_chunk mid = false
 
--- an open message of this head: these bytes of it are through, in whole chunks
+-- an unfinished message with this head, of which these bytes are through, in full chunks
 pub record IsInHand (size : ℕ) (head : MessageHead) (bytes : List ℕ) (message : Progress) : Type 0 where
   pub head_is : message.head ≡ head
   pub bytes_are : message.bytes ≡ bytes
@@ -50,8 +50,8 @@ pub record IsInHand (size : ℕ) (head : MessageHead) (bytes : List ℕ) (messag
   pub within : size * message.chunks ≤ head.len
   pub valid : IsHead head
 
--- what is kept of a stage: where the rank stands, the words of its header line and of the chunk in hand, and the bytes of the
--- open message that are through
+-- what is kept of a stage: what the rank is in the midst of, the words of its header line and of the chunk in hand, and the bytes of the
+-- unfinished message that are through
 pub data KeepsStage (size : ℕ) (header : NotedLine) (chunk : NotedChunk) (bytes : List ℕ) : Standing → Stage → Type 0 where
   AtIdle : KeepsStage size header chunk bytes standing.Idle Idle
   AtDraft : (line words : Notes) → IsLineOf header line → IsChunkOf chunk words
@@ -73,7 +73,7 @@ pub data KeepsStage (size : ℕ) (header : NotedLine) (chunk : NotedChunk) (byte
       → KeepsStage size header chunk bytes (standing.Taking from head) (Taking from message words)
   AtMeet : (comm seen released : ℕ) → KeepsStage size header chunk bytes (standing.Meeting comm seen released) (Barrier comm seen released)
 
--- what is kept of a post on its way
+-- what is kept of a post in flight
 abbrev pub KeepsPost : Option Posted → Option OnItsWay → Type 0
 KeepsPost None None = Unit {0}
 KeepsPost (Some posted) (Some post) = (posted.to ≡ post.to) × (posted.is_answered ≡ post.is_answered)
@@ -89,11 +89,11 @@ KeepsNotes line notes = ⊥
 abbrev pub KeepsSaid : List (Option NotedLine) → (ℕ → Option Notes) → Type 0
 KeepsSaid said notes = (j : ℕ) → j < 48 → KeepsNotes (slice_index_or said j None) (notes j)
 
--- the value of each own gather flag
+-- the value of each of the rank's gather flags
 abbrev pub KeepsFlags : List ℕ → (ℕ → ℕ) → Type 0
 KeepsFlags flags flips = (comm : ℕ) → comm < 16 → slice_index flags comm ≡ flips comm % 2
 
--- a machine's work has come to this record, but for the registers that are held
+-- a machine's work follows this record, except the registers that the rank holds
 pub record StandsFor (w : Work) (rec : Record) : Type 0 where
   pub keeps : KeepsStage w.size w.header w.chunk w.bytes.items w.standing rec.stage
   pub post : KeepsPost w.post rec.post

@@ -24,7 +24,7 @@ impl Work {
     ghost use Rattle.scc_proto.specs.Moves.{FlipGather, LookGather, LookRelease, WriteRelease};
     ghost use Rattle.record_machine.specs.Following.{Decides, MovesOn};
 
-    /// Whether the own gather flag may be written.
+    /// Whether the rank may write its gather flag.
     pub(crate) fn may_flip(&self, comm: u8, value: u64) -> bool
         requires below { comm < 16 }
         ensures decides { (last : ℕ) → Decides self.now (FlipGather comm value last) result }
@@ -34,7 +34,7 @@ impl Work {
         free && next
     }
 
-    /// Whether the release flag of a member may be written.
+    /// Whether the rank may write the release flag of a member.
     pub(crate) fn may_release(&self, comm: u8, place: u8, value: u64, last: u8) -> bool
         requires below { comm < 16 }
         ensures decides { (to : ℕ) → Decides self.now (WriteRelease comm to place value last) result }

@@ -12,11 +12,11 @@ use scc_base::{Rank, Setup};
 /// What a store to a word of bit flags changes.
 #[derive(Clone, Copy)]
 pub(crate) enum Change {
-    /// The bit of this rank is cleared, at the own core.
+    /// The bit of this rank is cleared, at the writing rank's own core.
     Lowered { of: Rank },
-    /// The own bit is set, at the core of this rank.
+    /// The writing rank's bit is set, at the core of this rank.
     Raised { at: Rank },
-    /// What no rank may change.
+    /// A change that no rank may make.
     Misplaced,
 }
 

@@ -43,7 +43,7 @@ impl NotedChunk {
         self.some = false;
     }
 
-    /// One word more is noted, and counts before what was noted of it.
+    /// Notes one word more; its new value replaces the one noted before.
     pub(crate) fn note(&mut self, word: u16, value: u64)
         requires below { word < most_chunk_words }
         ensures notes { (notes : Notes) → IsChunkOf self.old notes → IsChunkOf self.new (note_word word value notes) }

@@ -10,14 +10,14 @@ ghost use Rattle.record_machine.specs.Uses.{forget_by, is_flags_use, note_by};
 use crate::uses::Use;
 use scc_base::{CoreId, Signal};
 
-/// The words of bit flags of one core, each where it was loaded under the own hold of the core's register and not stored since.
+/// The words of bit flags of one core, each if the rank loaded it while it held the core's register and did not store it since.
 #[derive(Clone, Copy)]
 pub struct NotedFlags {
     pub sent: Option<u64>,
     pub ready: Option<u64>,
 }
 
-/// The word of a signal's flags, where the register is held and the word is noted under it.
+/// The word of a signal's flags, if the rank holds the register and noted the word under it.
 #[inline]
 pub(crate) fn noted_of(slot: Option<NotedFlags>, signal: Signal) -> Option<u64>
     ensures gives { result ≡ option_and_then (λ (flags : FlagWords). flags_in signal flags) (option_map flag_words slot) }
@@ -48,7 +48,7 @@ fn with_word(flags: NotedFlags, signal: Signal, word: Option<u64>) -> NotedFlags
     }
 }
 
-/// Notes a word of bit flags that is loaded under the own hold of its core's register: whether it is such a load.
+/// Notes a word of bit flags that the rank loads while it holds the core's register. Returns whether this is such a load.
 pub(crate) fn note_flags(
     held: &mut [Option<NotedFlags>; 48],
     of: &Use,
@@ -81,7 +81,7 @@ pub(crate) fn note_flags(
     }
 }
 
-/// A word of bit flags is noted no more once it is stored.
+/// Forgets a noted word of bit flags when the rank stores it.
 pub(crate) fn forget_flags(held: &mut [Option<NotedFlags>; 48], of: &Use, core: CoreId)
     ensures forgets { (records : ℕ → Option FlagWords) → KeepsHeld held.old records
         → KeepsHeld held.new (table_with records core (option_map (forget_by of.now) (records core))) }

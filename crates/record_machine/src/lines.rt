@@ -5,13 +5,13 @@ ghost use Rattle.scc_base.specs.Heads.{IsHead};
 
 use scc_base::{Head, Kind, PostHead};
 
-/// The words of a header line, each where it is noted.
+/// The noted words of a header line.
 #[derive(Clone, Copy)]
 pub struct NotedLine {
     pub words: [Option<u64>; 4],
 }
 
-/// The head that three words say, where it is one that a message may have.
+/// The head that three words encode, if a message may have it.
 fn head_said(kind: u64, comm: u64, len: u64) -> Option<Head>
     ensures says { SomeIff result
         (IsHead (record { kind = kind; comm = comm; len = len }))
@@ -35,7 +35,7 @@ impl NotedLine {
         NotedLine { words: [None; 4] }
     }
 
-    /// The line with one word noted anew: the new value counts.
+    /// The line after one word is noted: the new value replaces the old one.
     pub(crate) fn with(self, word: u8, value: u64) -> NotedLine
         requires below { word < 4 }
         ensures notes { (notes : Notes) → IsLineOf self notes → IsLineOf result (note_word word value notes) }
@@ -45,7 +45,7 @@ impl NotedLine {
         NotedLine { words }
     }
 
-    /// The head that the first three words say, where they say one that a message may have.
+    /// The head that the first three words encode, if a message may have it.
     pub(crate) fn head(&self) -> Option<Head>
         ensures says { (notes : Notes) → IsLineOf self.now notes → TellsHead notes result }
     {
@@ -64,7 +64,7 @@ impl NotedLine {
         head_said(kind, comm, len)
     }
 
-    /// Whether the message is to be posted.
+    /// Whether the sender posts the message.
     pub(crate) fn is_posted(&self) -> bool
         ensures tells { (notes : Notes) → IsLineOf self.now notes → result ≡ is_posted notes }
     {

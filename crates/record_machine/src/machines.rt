@@ -10,11 +10,11 @@ use crate::works::Work;
 use scc_base::{Access, Call, Event, Place, Rank, Setup};
 use std::alloc::{AllocError, Global};
 
-/// The record does not permit the event next.
+/// The record does not permit this event next.
 #[derive(Drop)]
 pub struct Refused;
 
-/// The record of a rank, as far as it says which events are permitted next and which calls they finish. All its memory is taken
+/// What decides which events a rank's record permits next and which calls they finish. The machine takes all its memory
 /// in `new`.
 #[derive(Drop)]
 pub struct Machine {
@@ -114,7 +114,7 @@ impl Machine {
         Ok(None)
     }
 
-    /// One event more of the rank, where its record permits it: the call that is finished by it, whose bytes are `bytes()` until
+    /// Takes one event more of the rank if its record permits it, and returns the call that it finishes; `bytes()` has its bytes until
     /// the next event. A refused event changes nothing.
     pub fn take(&mut self, event: &Event) -> Result<Option<Call>, Refused>
         ensures same { (self.new.setup ≡ self.old.setup) × (self.new.rank ≡ self.old.rank) }

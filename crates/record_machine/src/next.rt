@@ -1,4 +1,4 @@
-//! What the record of a rank allows next, in kinds that a person is told.
+//! What the record of a rank allows next, in kinds for error messages.
 
 ghost use Rattle.std.specs.Prelude.{◌≡◌};
 ghost use Rattle.scc_proto.specs.Stages.{Record};
@@ -15,19 +15,19 @@ use scc_base::{Access, CoreId, Event, Head, Rank};
 /// What the messages and barriers of a rank allow it to store next. A rank is told where the flag is between it and this one.
 #[derive(Clone, Copy)]
 pub enum NextStore {
-    /// Nothing is open: words of a message, a lowered `sent` whose header is read, a barrier, the heap.
+    /// No call is unfinished: words of a message, a lowered `sent` whose header is read, a barrier, the heap.
     Begin,
-    /// A post is on its way to a rank, and no other message may be drafted.
+    /// A post is in flight to a rank, so no other message may be written.
     BesidePost { to: Rank },
-    /// Words of a header line and of a first chunk, until both are whole.
+    /// Words of a header line and of a first chunk, until both are complete.
     Draft,
-    /// Both are whole: a raised `sent`.
+    /// Both are complete: a raised `sent`.
     Raise,
     /// Words of a later chunk of a message to a rank, of which none is stored yet, or the heap.
     FillFirst { to: Rank },
-    /// Words of a later chunk, until it is whole.
+    /// Words of a later chunk, until it is complete.
     Fill { to: Rank },
-    /// It is whole: a raised `sent`.
+    /// It is complete: a raised `sent`.
     RaiseMore { to: Rank },
     /// Nothing, until `ready` is seen.
     SeeReady { by: Rank },
@@ -45,7 +45,7 @@ pub enum NextStore {
     Meet { comm: u8 },
 }
 
-/// What a record allows in place of an event that it does not permit.
+/// What a record allows instead of an event that it does not permit.
 #[derive(Clone, Copy)]
 pub enum NextEvent {
     /// A free, of a register that is held already.
@@ -69,7 +69,7 @@ impl Work {
     ghost use Rattle.record_machine.specs.Noted.{IsChunkOf};
     ghost use Rattle.record_machine.specs.Standing.{IsInHand, KeepsPost, KeepsSaid, StandsFor};
 
-    /// Where nothing is open.
+    /// If no call is unfinished.
     fn idle_allowed(&self) -> NextStore
         ensures gives { (size : ℕ) (post : Option OnItsWay) (notes : ℕ → Option Notes) → KeepsPost self.now.post post
             → result ≡ store_allowed size Idle post notes }
@@ -80,7 +80,7 @@ impl Work {
         }
     }
 
-    /// Where a later chunk is drafted.
+    /// While a later chunk is half written.
     fn filling_allowed(&self, to: Rank, head: Head) -> NextStore
         ensures gives { (message : Progress) (chunk : Notes) (post : Option OnItsWay) (notes : ℕ → Option Notes)
             → IsInHand self.now.size head self.now.bytes.items message → IsChunkOf self.now.chunk chunk
@@ -109,7 +109,7 @@ impl Work {
         }
     }
 
-    /// Where a chunk is being taken.
+    /// While a chunk is being taken.
     fn taking_allowed(&self, from: Rank, head: Head) -> NextStore
         ensures gives { (message : Progress) (chunk : Notes) (post : Option OnItsWay) (notes : ℕ → Option Notes)
             → IsInHand self.now.size head self.now.bytes.items message → IsChunkOf self.now.chunk chunk
@@ -162,7 +162,7 @@ impl Work {
     }
 }
 
-/// Whether a word is one of bit flags that is not noted under the own hold of its core's register.
+/// Whether a word has bit flags, and the rank has not noted it while holding the core's register.
 fn lacks_flags(held: &[Option<NotedFlags>; 48], of: &Use, core: CoreId) -> bool
     ensures tells { (rec : Record) → KeepsHeld held.now rec.held → result ≡ lacks_flags rec core (role_meant of.now) }
 {
@@ -194,7 +194,7 @@ impl Machine {
         }
     }
 
-    /// What the record allows next, in place of an event that it does not permit.
+    /// What the record allows next, instead of an event that it does not permit.
     pub fn allowed_for(&self, event: &Event) -> NextEvent
         ensures gives { (rec : Record) → FollowsRecord self.now rec → result ≡ allowed_for self.now.setup rec event.now }
     {

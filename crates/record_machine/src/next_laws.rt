@@ -13,8 +13,8 @@ ghost use Rattle.scc_proto.specs.Stages.{Record};
 ghost use Rattle.record_machine.specs.Next.{allowed_for, is_load_move, names_move, offers, ready_allowed, store_allowed};
 ghost use Rattle.record_machine.specs.declared.next.NextEvent.TheVariants.{LoadFlags};
 
-/// A store that a record permits is of a kind that is named; and what is named without a condition is permitted, at a record
-/// that has no message drafted beside a post on its way.
+/// A store that a record permits is of a named kind, and a kind named without a condition is permitted, at a record
+/// that has no half-written message beside a post in flight.
 pub fn next_store_law()
     ensures others { (size : ℕ) (rec : Record) (move : Move) → permits size move rec ≡ true → is_load_move move ≡ false
         → names_move (store_allowed size rec.stage rec.post rec.notes) (ready_allowed rec.stage rec.post) move ≡ true }
@@ -24,7 +24,7 @@ pub fn next_store_law()
         → permits size (LowerSignal Ready by) rec ≡ true }
 {}
 
-/// A register that may not be taken may be freed, and the other way round; and where a word of bit flags is to be loaded first,
+/// A register that may not be taken may be freed, and the other way round. If a word of bit flags must be loaded first,
 /// no store to it is permitted.
 pub fn next_event_law()
     ensures free { (s : SetupView) (me core : ℕ) (rec : Record) (taken : Bool) → (IsPermitted s me rec (take_of core taken) → ⊥)

@@ -109,7 +109,7 @@ impl Work {
         self.said[at] = None;
     }
 
-    /// A first chunk is taken behind the header that was loaded, a later one behind the chunk before it.
+    /// The receiver takes a first chunk after it loaded the header, and a later one after the chunk before it.
     fn begin_chunk(&mut self, from: Rank, line: NotedLine)
         ensures size { self.new.size ≡ self.old.size }
         ensures stands { (rec : Record) (words : Notes) → StandsFor self.old rec → IsLineOf line words

@@ -18,7 +18,7 @@ impl Work {
     ghost use Rattle.record_machine.specs.Steps.{look_of};
     ghost use Rattle.scc_base.specs.Layouts.{most_chunk_words};
 
-    /// Whether a header word may be drafted: before the first chunk is raised, with no post on its way.
+    /// Whether the sender may write a header word: before it raises the first chunk, with no post in flight.
     pub(crate) fn may_draft_header(&self) -> bool
         ensures decides { (k v : ℕ) → Decides self.now (DraftHeader k v) result }
     {
@@ -27,7 +27,7 @@ impl Work {
         free && open
     }
 
-    /// Whether a chunk word may be drafted: while no chunk is raised, with no post on its way.
+    /// Whether the sender may write a chunk word: while no chunk is raised, with no post in flight.
     pub(crate) fn may_draft_chunk(&self) -> bool
         ensures decides { (k v : ℕ) → Decides self.now (DraftChunk k v) result }
     {
@@ -45,7 +45,7 @@ impl Work {
         free && ready
     }
 
-    /// Whether a whole chunk is drafted for it.
+    /// Whether a complete chunk for it is written.
     pub(crate) fn is_ready_for(&self, to: Rank) -> bool
         ensures tells { (rec : Record) → StandsFor self.now rec → result ≡ may_raise self.now.size to rec.stage }
     {
@@ -97,7 +97,7 @@ impl Work {
         self.standing.leaves_words()
     }
 
-    /// Nothing of a draft is left from before.
+    /// Forgets the words of an earlier half-written message.
     fn begin_draft(&mut self)
         ensures size { self.new.size ≡ self.old.size }
         ensures opens { OpensDraft self.old self.new }

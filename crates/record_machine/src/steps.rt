@@ -74,7 +74,7 @@ pub enum Step {
         place: Place,
         value: u64,
     },
-    /// A load that tells nothing of all this.
+    /// A load that says nothing about the protocol.
     Nothing,
     /// A store that no record permits.
     Misplaced,

@@ -79,7 +79,7 @@ fn are_peers(setup: &Setup, one: u8, other: Rank) -> bool
     one < setup.nue() && other.number() < setup.nue() && one != other.number()
 }
 
-/// What a word of a line of flags of messages is for, where each flag has a line.
+/// What a word of a line of flags of messages is for, if each flag has a line.
 fn line_use(setup: &Setup, owner: Rank, line: u8, word: u8) -> Use
     requires some { 1 ≤ line }
     requires low { line < 97 }
@@ -107,7 +107,7 @@ fn line_use(setup: &Setup, owner: Rank, line: u8, word: u8) -> Use
     Use::Idle
 }
 
-/// What a word of the line of flags of messages is for, where each flag has a bit.
+/// What a word of the line of flags of messages is for, if each flag has a bit.
 fn bit_use(setup: &Setup, owner: Rank, line: u8, word: u8) -> Use
     ensures role { role_meant result ≡ flag_role BitFlags setup.now owner line word }
     ensures is_use { IsWordUse setup.now result }

@@ -10,14 +10,14 @@ use crate::steps::Step;
 use scc_base::{Call, Head, Rank};
 use std::alloc::{AllocError, Global};
 
-/// What a rank is in the midst of, one thing at a time.
+/// What a rank is in the midst of; one thing at a time.
 #[derive(Clone, Copy)]
 pub enum Standing {
-    /// Nothing is open.
+    /// No call is unfinished.
     Idle,
-    /// Words of a header line and of a first chunk are drafted.
+    /// A header line and a first chunk are half written.
     Drafting,
-    /// A chunk of a message is drafted, of which earlier chunks are through.
+    /// A later chunk of a message is half written; the earlier chunks are through.
     Filling { to: Rank, head: Head },
     /// A chunk is raised.
     Raised { to: Rank, head: Head },
@@ -35,7 +35,7 @@ impl Standing {
     ghost use Rattle.std.specs.Prelude.{◌≡◌};
     ghost use Rattle.record_machine.specs.Standing.{is_at_rest, is_sending, leaves_words, opens_chunk, opens_header};
 
-    /// Whether nothing is open.
+    /// Whether no call is unfinished.
     pub(crate) fn is_at_rest(self) -> bool
         ensures tells { result ≡ is_at_rest self }
     {
@@ -65,7 +65,7 @@ impl Standing {
         }
     }
 
-    /// Whether nothing is drafted or taken, and no barrier is open.
+    /// Whether nothing is half written or being taken, and no barrier is unfinished.
     pub(crate) fn leaves_words(self) -> bool
         ensures tells { result ≡ leaves_words self }
     {
@@ -80,7 +80,7 @@ impl Standing {
         }
     }
 
-    /// Whether words of a header line may be drafted.
+    /// Whether the rank may write words of a header line.
     pub(crate) fn opens_header(self) -> bool
         ensures tells { result ≡ opens_header self }
     {
@@ -95,7 +95,7 @@ impl Standing {
         }
     }
 
-    /// Whether words of a chunk may be drafted.
+    /// Whether the rank may write words of a chunk.
     pub(crate) fn opens_chunk(self) -> bool
         ensures tells { result ≡ opens_chunk self }
     {
@@ -110,16 +110,16 @@ impl Standing {
     }
 }
 
-/// A posted message on its way.
+/// A posted message in flight.
 #[derive(Clone, Copy)]
 pub struct Posted {
     pub to: Rank,
     pub is_answered: bool,
 }
 
-/// What the messages and barriers of a rank have come to: the bytes of a whole chunk; the words noted of the own header line and
-/// of the chunk in hand, and of each rank whose `sent` was seen those of its header line; where the rank stands; its posted
-/// message; the values of its gather flags by communicator; and the bytes that are through of its open message.
+/// The state of a rank's messages and barriers. It has the bytes of a full chunk, and the noted words of its header line and
+/// of the chunk in hand. It has the header line noted of each rank whose `sent` was seen, what the rank is in the midst of, its posted
+/// message, the values of its gather flags by communicator, and the bytes that are through of its unfinished message.
 #[derive(Drop)]
 pub struct Work {
     pub size: u32,
@@ -145,7 +145,7 @@ impl Work {
     ghost use Rattle.record_machine.specs.Steps.{IsStepWithin, move_of};
     ghost use Rattle.scc_base.specs.Layouts.{most_chunk};
 
-    /// The work of a rank that has done nothing, where a whole chunk has `size` bytes.
+    /// The work of a rank that has done nothing, if a full chunk has `size` bytes.
     pub fn new(alloc: Global, size: u32) -> Result<Work, AllocError>
         requires within { size ≤ most_chunk }
         ensures size { IfOk result (λ w. w.size ≡ size) }
@@ -230,7 +230,7 @@ impl Work {
         }
     }
 
-    /// One move more, which the record permits: the call that it finishes.
+    /// Makes one move more, which the record permits, and returns the call that it finishes.
     pub(crate) fn make(&mut self, step: &Step) -> Option<Call>
         requires within { IsStepWithin step.now }
         ensures size { self.new.size ≡ self.old.size }

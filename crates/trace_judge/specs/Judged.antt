@@ -1,4 +1,4 @@
--- A chip that a judge follows, event by event: what its words and its ranks' records have come to (this project's profile).
+-- A chip that a judge follows, event by event: its words and its ranks' records after them (this project's profile).
 use Rattle.std.specs.Prelude.{ℕ, List, [], slice_index_or}
 use Rattle.scc_base.specs.Setups.{SetupView}
 use Rattle.scc_proto.specs.Histories.{memory_from, records_from}

@@ -1,4 +1,4 @@
--- What a judge says of an event, and of a list of events (this project's profile).
+-- A judge's ruling on an event, and on a list of events (this project's profile).
 use Rattle.std.specs.Prelude.{ℕ, ◌+◌, ◌<◌, if◌then◌else◌, List, [], ◌∷◌, Option, Some, None, Result, Ok, Err, All}
 use Rattle.scc_base.specs.Events.{IsEvent}
 use Rattle.scc_base.specs.Setups.{SetupView}
@@ -18,7 +18,7 @@ use Rattle.trace_judge.specs.Judged.{Judged, JudgeView, bytes_at, chip_of, judge
 abbrev pub permit_refusal : SetupView → ℕ → Record → Event → Option Refusal
 permit_refusal s me rec e = if is_permitted s me rec e then None else Some (NotPermitted (allowed_for s rec e))
 
--- why an event is refused: another value stands there, or else the record of its rank does not permit it
+-- why an event is refused: its place has another value, or else the record of its rank does not permit it
 abbrev pub refusal_of : Judged → RankEvent → Option Refusal
 refusal_of j e = if is_step j.memory e.event then permit_refusal j.setup e.rank (j.records e.rank) e.event
     else Some (OtherValue (stands_at j.memory e.event))
@@ -34,7 +34,7 @@ abbrev pub unless_refused : {A : Type 0} → (number rank : ℕ) → Option Refu
 unless_refused number rank None rest = rest
 unless_refused number rank (Some why) rest = Err (record { number = number; rank = rank; why = why })
 
--- what a list of events comes to, the first of which has this number: the chip after all of them, or the first that is refused
+-- the ruling on a list of events, the first of which has this number: the chip after all of them, or the first that is refused
 abbrev pub ruling_from : ℕ → Judged → List RankEvent → Result Judged RefusedAt
 ruling_from number j [] = Ok j
 ruling_from number j (e ∷ es) = unless_refused number e.rank (refusal_of j e) (ruling_from (number + 1) (judged_after j e) es)

@@ -15,7 +15,7 @@ use std::marker::Model;
 /// Why an event is refused.
 #[derive(Drop)]
 pub enum Refusal {
-    /// It is no step: this value stands at its word, or in its core's register.
+    /// It is no step: its word, or its core's register, has this value.
     OtherValue { found: u64 },
     /// It is a step, but the record of its rank does not permit it next, and allows this.
     NotPermitted { next: NextEvent },
@@ -100,7 +100,7 @@ impl Judge {
         self.machines[rank.number() as usize].bytes()
     }
 
-    /// Takes the next event, where it is a step of the words and the record of its rank permits it: the call that is finished by
+    /// Takes the next event if it is a step of the words and its rank's record permits it. Returns the call that is finished by
     /// it, whose bytes are `bytes(rank)` until the rank's next event. A refused event changes nothing.
     pub fn take(&mut self, rank: Rank, event: &Event) -> Result<Option<Call>, Refusal>
         requires below { rank < self.old.setup.nue }
