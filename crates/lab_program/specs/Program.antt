@@ -1,7 +1,7 @@
 -- What `rccelab` does on its words (this project's profile).
-use Rattle.std.specs.Prelude.{ℕ, if◌then◌else◌, List, [], ◌∷◌, codes, map, Option, Some, None, is_none, Result, Ok, Err}
+use Rattle.std.specs.Prelude.{ℕ, List, [], codes, map, Option, Some, None, is_none, Result, Ok, Err}
 use Rattle.rcce_io.specs.Sending.{joined_texts}
-use Rattle.outcomes.specs.Numbers.{is_option}
+use Rattle.outcomes.specs.Numbers.{file_named}
 use Rattle.outcomes.specs.Outcomes.{Ran}
 use Rattle.outcomes.specs.Plans.{Plan, Program}
 use Rattle.outcomes.specs.Plans.Plan.{Runs, Refuses, Reads}
@@ -46,11 +46,6 @@ lab_bytes_plan file bytes = steps_plan file (lab_of bytes)
 abbrev pub lab_file_plan : List ℕ → Plan
 lab_file_plan file = Reads file most_lab_bytes (lab_bytes_plan file)
 
--- the file that the words name, if they are the name of one file
-abbrev pub lab_file_named : List (List ℕ) → Option (List ℕ)
-lab_file_named (file ∷ []) = if is_option file then None else Some file
-lab_file_named _ = None
-
 -- the program `rccelab`: its name, and what it does on its words, which must be `LAB` alone
 abbrev pub rccelab : Program
-rccelab = record { name = codes "rccelab"; plan = λ words. plan_of lab_file_plan (lab_file_named words) }
+rccelab = record { name = codes "rccelab"; plan = λ words. plan_of lab_file_plan (file_named words) }

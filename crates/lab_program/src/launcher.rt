@@ -3,22 +3,22 @@
 //! `chip_memory`.
 
 ghost use Rattle.std.specs.Prelude.{◌≡◌, ◌≤◌, codes, length, map, string_bytes, Some, None, Ok};
-ghost use Rattle.std.specs.Option.{option_copied};
 ghost use Rattle.rcce_io.specs.Files.{FilesView};
 ghost use Rattle.rcce_io.specs.Reading.{ReadsAll};
 ghost use Rattle.outcomes.specs.Coming.{Comes, IsMeant};
 ghost use Rattle.outcomes.specs.Complaints.{outcome_of};
 ghost use Rattle.outcomes.specs.Delivery.{sinks};
+ghost use Rattle.outcomes.specs.Numbers.{file_named};
 ghost use Rattle.outcomes.specs.Promises.{EndsWith, Promises};
 ghost use Rattle.rcce_words.specs.ScriptWords.{plan_of};
 ghost use Rattle.lab_reader.specs.Reading.{most_lab_bytes};
 ghost use Rattle.lab_program.specs.History.{LabTells};
-ghost use Rattle.lab_program.specs.Program.{lab_bytes_plan, lab_file_named, lab_file_plan, lab_ran, rccelab};
+ghost use Rattle.lab_program.specs.Program.{lab_bytes_plan, lab_file_plan, lab_ran, rccelab};
 
 use crate::report::Lab;
 use lab_reader::{LabStop, MOST_LAB_BYTES, read_lab};
 use lab_run::{LabLeft, run_lab};
-use outcomes::{Complaint, Status, deliver, is_option, read_file};
+use outcomes::{Complaint, Status, deliver, file_named, read_file};
 use rcce_io::{Files, Sink};
 use std::alloc::Global;
 
@@ -44,22 +44,12 @@ pub fn rccelab<F: Files, O: Sink, E: Sink>(
     // words, and its rank's record permitted it. The cores hold what the lab's cores hold at its end. The lab is parsed from the bytes that
     // were read, with no fault. If the files report their contents, these are the file's bytes. With 1, 2, 4 and 5 nothing is left. If a
     // write failed, what is left is that of the outcome that was being written.
-    ensures history { EndsWith (LabTells (F.seen files.old) (F.seen files.new) (lab_file_named (map string_bytes words.now)) left.new)
+    ensures history { EndsWith (LabTells (F.seen files.old) (F.seen files.new) (file_named (map string_bytes words.now)) left.new)
         rccelab (map string_bytes words.now) (F.seen files.old) (F.seen files.new)
         (sinks (O.seen out.old) (E.seen err.old)) (sinks (O.seen out.new) (E.seen err.new)) result }
 {
     let ending = run_words(alloc, words, files, left);
     deliver("rccelab", ending, out, err)
-}
-
-/// The file that the words name, if they are one word that is not an option.
-fn file_named(words: &[String]) -> Option<&str>
-    ensures { option_copied result ≡ lab_file_named (map string_bytes words.now) }
-{
-    match words {
-        [file] if !is_option(file.as_str()) => Some(file.as_str()),
-        _ => None,
-    }
 }
 
 fn run_words<'a, F: Files>(
@@ -69,9 +59,9 @@ fn run_words<'a, F: Files>(
     left: &mut Option<LabLeft>,
 ) -> Result<Lab, Complaint<'a>>
     requires blank { left.old ≡ None }
-    ensures meant { IsMeant (codes "rccelab") (plan_of lab_file_plan (lab_file_named (map string_bytes words.now)))
+    ensures meant { IsMeant (codes "rccelab") (plan_of lab_file_plan (file_named (map string_bytes words.now)))
         (F.seen files.old) (F.seen files.new) (outcome_of (codes "rccelab") lab_ran result) }
-    ensures tells { LabTells (F.seen files.old) (F.seen files.new) (lab_file_named (map string_bytes words.now)) left.new
+    ensures tells { LabTells (F.seen files.old) (F.seen files.new) (file_named (map string_bytes words.now)) left.new
         (outcome_of (codes "rccelab") lab_ran result) }
 {
     match file_named(words) {

@@ -1,23 +1,16 @@
 //! Words: values, and words that a mark cuts in two.
 
-ghost use Rattle.std.specs.Prelude.{◌≡◌, ◌<◌, ◌≤◌, ◌==◌, IfSome, length, option_map};
-ghost use Rattle.std.specs.List.{position};
+ghost use Rattle.std.specs.Prelude.{◌≡◌, ◌<◌, IfSome, option_map};
 ghost use Rattle.lab_reader.specs.Words.{cut_at, hex_digit, value_said};
 ghost use Rattle.lab_reader.specs.Cuts.{cut_of};
+
+use texts::place_of;
 
 /// A word that was cut at a mark: the parts before and after it.
 #[derive(Clone, Copy)]
 pub(crate) struct Parts<'a> {
     pub(crate) front: &'a [u8],
     pub(crate) back: &'a [u8],
-}
-
-/// The place of the first byte that equals the mark.
-fn place_of(word: &[u8], mark: u8) -> Option<usize>
-    ensures found { result ≡ position (λ b. b == mark) word.now }
-    ensures within { IfSome result (λ at. at < length word.now) }
-{
-    word.iter().position(|b| *b == mark)
 }
 
 /// A word, cut at the first byte that equals the mark.

@@ -1,5 +1,5 @@
--- Words that are numbers of units of execution, and words that are options (this project's profile of its programs' words).
-use Rattle.std.specs.Prelude.{ℕ, ◌==◌, Bool, false, List, [], ◌∷◌, Option}
+-- Words that are numbers of units of execution, options, or the name of a file (this project's profile of its programs' words).
+use Rattle.std.specs.Prelude.{ℕ, ◌==◌, Bool, false, if◌then◌else◌, List, [], ◌∷◌, Option, Some, None}
 use Rattle.texts.specs.Numbers.{number_in}
 
 -- a number of units of execution, from 1 to 48: the chip has 48 cores
@@ -10,3 +10,8 @@ ue_count_of word = number_in 1 48 word
 abbrev pub is_option : List ℕ → Bool
 is_option [] = false
 is_option (c ∷ cs) = c == 45
+
+-- the words are one file's name
+abbrev pub file_named : List (List ℕ) → Option (List ℕ)
+file_named (file ∷ []) = if is_option file then None else Some file
+file_named _ = None

@@ -13,4 +13,4 @@ pub use delivery::deliver;
 pub use reading::read_file;
 pub use report::Report;
 pub use status::Status;
-pub use words::{is_option, ue_count};
+pub use words::{file_named, is_option, ue_count};

@@ -1,7 +1,8 @@
-//! Words that are numbers of units of execution, and words that are options. No memory is taken.
+//! Words that are numbers of units of execution, options, or the name of a file. No memory is taken.
 
-ghost use Rattle.std.specs.Prelude.{◌≡◌, ◌≤◌, IfSome};
-ghost use Rattle.outcomes.specs.Numbers.{is_option, ue_count_of};
+ghost use Rattle.std.specs.Prelude.{◌≡◌, ◌≤◌, IfSome, map, string_bytes};
+ghost use Rattle.std.specs.Option.{option_copied};
+ghost use Rattle.outcomes.specs.Numbers.{file_named, is_option, ue_count_of};
 
 use texts::number_in;
 
@@ -15,6 +16,16 @@ pub fn is_option(word: &str) -> bool
     match word.as_bytes() {
         [first, ..] => *first == b'-',
         [] => false,
+    }
+}
+
+/// The file that the words name, if they are one word that is no option.
+pub fn file_named(words: &[String]) -> Option<&str>
+    ensures { option_copied result ≡ file_named (map string_bytes words.now) }
+{
+    match words {
+        [file] if !is_option(file.as_str()) => Some(file.as_str()),
+        _ => None,
     }
 }
 

@@ -12,6 +12,7 @@ use Rattle.hex.proofs.HexLemmas.{decode_of-encode_lower, length-encode_with}
 use Rattle.rcce_audit.proofs.HexTextLemmas.{lower_text, text_lower}
 use Rattle.scc_base.specs.declared.kinds.Kind.{Kind}
 use Rattle.scc_base.specs.declared.kinds.Kind.TheVariants.{Plain, Bcast, Reduce, AllUp, AllDown}
+use Rattle.texts.specs.Hex.{bytes_of}
 use Rattle.texts.specs.Numbers.{number_of}
 use Rattle.texts.proofs.DecimalLemmas.{number_of-decimal}
 use Rattle.scc_base.specs.Heads.{kind_text}
@@ -115,20 +116,23 @@ text_nonempty [] word is some = absurd (some (sym (ap length is)))
 text_nonempty (b ∷ bytes) word is some = is
 
 pub hex_word : (word bytes : List ℕ) → exact_hex_said word ≡ Some bytes → IsHexWord bytes word
-hex_word word bytes said =
-    ⊎_elim
-    (λ (none : (bytes_eq word (codes "-") ≡ true) × ([] ≡ bytes)). record { text = ap hex_text (sym none.1) ∙ sym (same_text word (codes "-") none.0); are_bytes = subst IsBytes none.1 no_bytes })
-    (λ (r : cond (not (length word == 0) && is_lower word) (result_ok (decode_of word)) None ≡ Some bytes). digits (not (length word == 0) && is_lower word) refl r)
-    (chosen (bytes_eq word (codes "-")) [] bytes _ said)
+hex_word word bytes said = lower (not (length word == 0) && is_lower word) refl said
   where
-    digits : (t : Bool) → (not (length word == 0) && is_lower word) ≡ t → cond t (result_ok (decode_of word)) None ≡ Some bytes → IsHexWord bytes word
-    digits true is r =
+    digits : (not (length word == 0) && is_lower word) ≡ true → result_ok (decode_of word) ≡ Some bytes → IsHexWord bytes word
+    digits is r =
         let parts = and_parts (not (length word == 0)) (is_lower word) is in
         let ok = some_ok (decode_of word) bytes r in
         let back = lower_text word bytes ok parts.1 in
         let some : length word ≡ 0 → ⊥ = eqb-false (length word) 0 (not-true (length word == 0) parts.0) in
         record { text = text_nonempty bytes word back.0 some; are_bytes = back.1 }
-    digits false is r = absurd cc
+
+    lower : (t : Bool) → (not (length word == 0) && is_lower word) ≡ t → cond t (bytes_of word) None ≡ Some bytes → IsHexWord bytes word
+    lower true is r =
+        ⊎_elim
+        (λ (none : (bytes_eq word (codes "-") ≡ true) × ([] ≡ bytes)). record { text = ap hex_text (sym none.1) ∙ sym (same_text word (codes "-") none.0); are_bytes = subst IsBytes none.1 no_bytes })
+        (digits is)
+        (chosen (bytes_eq word (codes "-")) [] bytes _ r)
+    lower false is r = absurd cc
 
 pub hex_said-hex_text : (bytes : List ℕ) → IsBytes bytes → exact_hex_said (hex_text bytes) ≡ Some bytes
 unfolding encode_with
@@ -136,4 +140,4 @@ hex_said-hex_text [] are = refl
 hex_said-hex_text (b ∷ bytes) are =
     let len = length-encode_with lower_digits (b ∷ bytes) in
     let other : bytes_eq (encode_lower (b ∷ bytes)) (codes "-") ≡ false = text_other (encode_lower (b ∷ bytes)) (codes "-") (λ is. let two = ap length is in absurd (omega (arith, len, two))) in
-    cond-false _ _ _ other ∙ cond-true _ _ _ (text_lower b bytes are) ∙ ap result_ok (decode_of-encode_lower (b ∷ bytes) are)
+    cond-true _ _ _ (text_lower b bytes are) ∙ cond-false _ _ _ other ∙ ap result_ok (decode_of-encode_lower (b ∷ bytes) are)

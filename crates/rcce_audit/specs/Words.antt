@@ -1,12 +1,11 @@
 -- The words of a log's lines (this project's profile).
-use Rattle.std.specs.Prelude.{ℕ, ◌==◌, ◌&&◌, ◌||◌, nat_le, not, Bool, if◌then◌else◌, List, [], length, codes, decimal, Option, Some, None, option_and_then}
+use Rattle.std.specs.Prelude.{ℕ, ◌==◌, ◌&&◌, ◌||◌, nat_le, not, Bool, if◌then◌else◌, List, length, codes, decimal, Option, Some, None, option_and_then}
 use Rattle.std.specs.List.{list_all}
-use Rattle.std.specs.Result.{result_ok}
 use Rattle.std.specs.Str.{bytes_eq}
-use Rattle.hex.specs.Hex.{decode_of}
 use Rattle.scc_base.specs.declared.kinds.Kind.{Kind}
 use Rattle.scc_base.specs.declared.kinds.Kind.TheVariants.{Plain, Bcast, Reduce, AllUp, AllDown}
 use Rattle.texts.specs.Cuts.{cut_by}
+use Rattle.texts.specs.Hex.{bytes_of}
 use Rattle.texts.specs.Numbers.{number_of}
 
 -- the second step, if the first gave a value
@@ -50,7 +49,4 @@ is_lower word = list_all (λ b. nat_le b 57 || nat_le 97 b) word
 
 -- bytes: none for `-`, else two hex digits each, in lower case
 abbrev pub exact_hex_said : List ℕ → Option (List ℕ)
-exact_hex_said word =
-    if bytes_eq word (codes "-") then Some []
-    else if not (length word == 0) && is_lower word then result_ok (decode_of word)
-    else None
+exact_hex_said word = if not (length word == 0) && is_lower word then bytes_of word else None

@@ -3,7 +3,6 @@
 ghost use Rattle.std.specs.Prelude.{◌≡◌, ◌≤◌, IfOk, IfSome, map};
 ghost use Rattle.rcce_audit.specs.Words.{exact_hex_said, is_lower, kind_said, exact_number_said, exact_range_said, log_words_of};
 
-use hex::FromHexError;
 use scc_base::Kind;
 use std::alloc::{AllocError, Global};
 use texts::{Bytes, number, parts};
@@ -74,15 +73,8 @@ pub fn is_lower(word: &[u8]) -> bool
 pub(crate) fn hex_said(alloc: Global, word: &[u8]) -> Result<Option<Bytes>, AllocError>
     ensures { IfOk result (λ said. said ≡ exact_hex_said word.now) }
 {
-    if word == b"-".as_slice() {
-        return Ok(Some(Bytes::from_vec(Vec::new(alloc))));
-    }
     if word.is_empty() || !is_lower(word) {
         return Ok(None);
     }
-    match hex::decode(alloc, word) {
-        Ok(bytes) => Ok(Some(Bytes::from_vec(bytes))),
-        Err(FromHexError::OutOfMemory) => Err(AllocError),
-        Err(_) => Ok(None),
-    }
+    Bytes::from_hex(alloc, word)
 }

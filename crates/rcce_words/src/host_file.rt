@@ -1,14 +1,12 @@
 //! The host file: on which core each unit of execution runs.
 
 ghost use Rattle.std.specs.Prelude.{◌≡◌, ◌≤◌, ◌<◌, ℕ, IfOk, IfSome, MatchOption, MatchResult, length, ◌∷◌, []};
-ghost use Rattle.std.specs.Prelude.{◌==◌};
-ghost use Rattle.std.specs.List.{position_or_len};
 ghost use Rattle.scc_base.specs.Setups.{AreApart};
 ghost use Rattle.rcce_words.specs.HostFile.{core_of_word, default_hosts, digits_of, entry_of, file_lines, host_kind_name, host_list, parse_hosts, read_host_line, read_host_lines, most_host_bytes};
 
 use crate::cores::Cores;
 use scc_base::{CoreId, own_cores};
-use texts::{is_text, number, uncommented};
+use texts::{is_text, number, place_or_end, uncommented};
 
 /// The longest host file, in bytes.
 pub const MOST_HOST_BYTES: usize = 65_536;
@@ -50,17 +48,6 @@ pub struct HostFault {
     pub kind: HostKind,
 }
 
-/// Where the first line of these bytes ends.
-fn line_end(bytes: &[u8]) -> usize
-    ensures same { result ≡ position_or_len (λ b. b == 10) bytes.now }
-    ensures within { result ≤ length bytes.now }
-{
-    bytes
-        .iter()
-        .position(|b| *b == b'\n')
-        .unwrap_or(bytes.len())
-}
-
 /// The first line of these bytes, and what stands behind its line feed. There is no line where there are no bytes.
 fn first_line(bytes: &[u8]) -> Option<(&[u8], &[u8])>
     ensures gives { MatchOption result (file_lines bytes.now ≡ []) (λ cut. file_lines bytes.now ≡ cut.0.now ∷ file_lines cut.1.now) }
@@ -69,7 +56,7 @@ fn first_line(bytes: &[u8]) -> Option<(&[u8], &[u8])>
     if bytes.is_empty() {
         return None;
     }
-    let end = line_end(bytes);
+    let end = place_or_end(bytes, b'\n');
     if end < bytes.len() {
         Some((&bytes[..end], &bytes[end + 1..]))
     } else {

@@ -124,7 +124,7 @@ module _ (size : ℕ) (header : NotedLine) (chunk : NotedChunk) (bytes : List �
   whole_first : (h c : Notes) (to : ℕ) → may_raise size to (Drafting h c) ≡ true → (head : MessageHead) → head_of h ≡ head → is_whole size (fresh_message (head_of h)) c ≡ true
   whole_first h c to may head is = both_first (is_whole size (fresh_message (head_of h)) c) (is_padded size (fresh_message (head_of h)) c) (both_second (is_whole_header h) (is_drafted size (fresh_message (head_of h)) c) may)
 
-  -- a first chunk is raised if its message is half written
+  -- a first chunk is raised only while its message is half written
   raises_draft : (mid : Standing) (st : Stage) → KeepsStage size header chunk bytes mid st → ((j : ℕ) (head : MessageHead) → mid ≢ standing.Filling j head) → (to : ℕ) → may_raise size to st ≡ true
       → (h : Notes) × (c : Notes) × (st ≡ Drafting h c) × IsLineOf header h × IsChunkOf chunk c
   raises_draft mid st AtIdle other to may = absurd (cc)

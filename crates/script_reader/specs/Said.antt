@@ -28,7 +28,8 @@ use Rattle.script_rules.specs.declared.version.Version.{Version}
 use Rattle.script_rules.specs.declared.version.Version.TheVariants as version
 use Rattle.script_reader.specs.Counts.{of_five_words, of_four_words, of_six_words, of_three_words, of_two_words}
 use Rattle.script_reader.specs.Faults.{◌>>=◌}
-use Rattle.script_reader.specs.Words.{bytes_of, is_name, value_of_word}
+use Rattle.script_reader.specs.Words.{is_name, value_of_word}
+use Rattle.texts.specs.Hex.{bytes_of}
 use Rattle.script_rules.specs.Checks.{version_number}
 use Rattle.script_rules.specs.Limits.{most_operations}
 use Rattle.texts.specs.Numbers.{number_of}

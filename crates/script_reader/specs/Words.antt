@@ -1,14 +1,11 @@
--- The first layer of the grammar: values, names and bytes (this project's profile). Lines, words and numbers are those of texts.
-use Rattle.std.specs.Prelude.{ℕ, ◌+◌, ◌-◌, ◌^◌, ◌%◌, ◌==◌, ◌&&◌, ◌||◌, nat_le, Bool, if◌then◌else◌, List, [], length, drop, slice_index, codes, Option, Some}
+-- The first layer of the grammar: values and names (this project's profile). Lines, words, numbers and bytes in hex are those of texts.
+use Rattle.std.specs.Prelude.{ℕ, ◌+◌, ◌-◌, ◌^◌, ◌%◌, ◌==◌, ◌&&◌, ◌||◌, nat_le, Bool, if◌then◌else◌, List, length, drop, slice_index, Option}
 use Rattle.std.specs.Char.{is_ascii_alphabetic, is_ascii_digit}
 use Rattle.std.specs.Int.{w32, w64, to_le_bytes}
 use Rattle.std.specs.List.{list_all}
 use Rattle.std.specs.Option.{option_map}
-use Rattle.std.specs.Result.{result_ok}
-use Rattle.std.specs.Str.{bytes_eq}
 use Rattle.groups.specs.declared.operations.Ty.{Ty}
 use Rattle.groups.specs.declared.operations.Ty.TheVariants as ty
-use Rattle.hex.specs.Hex.{decode_of}
 use Rattle.texts.specs.Numbers.{decimal_of}
 
 -- the greatest value of a type; the least value is minus this, minus 1
@@ -40,7 +37,3 @@ is_name_byte b = is_ascii_alphabetic b || is_ascii_digit b || b == 95
 -- a word is a name: 1 to 16 letters, digits and underscores, of which the first is a letter
 abbrev pub is_name : List ℕ → Bool
 is_name word = nat_le 1 (length word) && nat_le (length word) 16 && is_ascii_alphabetic (slice_index word 0) && list_all is_name_byte word
-
--- the bytes that a word states: none for `-`, otherwise one for each two hex digits
-abbrev pub bytes_of : List ℕ → Option (List ℕ)
-bytes_of word = if bytes_eq word (codes "-") then Some [] else result_ok (decode_of word)

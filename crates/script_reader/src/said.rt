@@ -2,7 +2,7 @@
 
 ghost use Rattle.std.specs.Prelude.{◌≡◌, map};
 ghost use Rattle.script_reader.specs.Faults.{LineGives};
-ghost use Rattle.script_reader.specs.Said.{dash_of, ranks_said, one_word_said, group_said, local_said, local_word, rcce_said, register_said, repeat_said, said_of, section_said, span_said, ue_said};
+ghost use Rattle.script_reader.specs.Said.{ranks_said, one_word_said, group_said, local_said, local_word, rcce_said, register_said, repeat_said, said_of, section_said, span_said, ue_said};
 
 use crate::fault::LineStop;
 use crate::said_groups::{allreduce_said, barrier_said, bcast_said, reduce_said, split_said};
@@ -14,7 +14,7 @@ use crate::words::{Parts, is_word, number_said, range_said};
 use groups::{Op, Ty};
 use script_rules::{FaultKind, Form, MOST_OPERATIONS, Name, Version};
 use std::alloc::Global;
-use texts::Bytes;
+use texts::{Bytes, place_or_end};
 
 /// What a line means, before it is checked against the lines before it.
 #[derive(Drop)]
@@ -164,17 +164,10 @@ fn span_said(first: &[u8], last: &[u8]) -> Result<Said, FaultKind>
     Ok(Said::Section(Section::Span { first, last }))
 }
 
-/// The place of the first `-` of a word, or its length.
-fn dash_of(word: &[u8]) -> usize
-    ensures { result ≡ dash_of word.now }
-{
-    word.iter().position(|b| *b == b'-').unwrap_or(word.len())
-}
-
 fn ranks_said(word: &[u8]) -> Result<Said, FaultKind>
     ensures { result ≡ ranks_said word.now }
 {
-    let dash = dash_of(word);
+    let dash = place_or_end(word, b'-');
     if dash >= word.len() {
         return span_said(word, word);
     }

@@ -10,7 +10,6 @@ ghost use Rattle.script_reader.specs.Words.{bytes_above, bytes_below, greatest, 
 use crate::fault::LineStop;
 use crate::said::{Colour, PeerSaid};
 use groups::{Op, Ty};
-use hex::FromHexError;
 use script_rules::{FaultKind, Name};
 use std::alloc::{AllocError, Global};
 use std::marker::Model;
@@ -252,12 +251,5 @@ pub(crate) fn name_said(word: &[u8]) -> Result<Name, FaultKind>
 pub(crate) fn hex_said(alloc: Global, word: &[u8]) -> Result<Bytes, LineStop>
     ensures { LineGives (λ bytes. bytes) result (hex_said word.now) }
 {
-    if is_word(word, b"-") {
-        return Ok(Bytes::from_vec(Vec::new(alloc)));
-    }
-    match hex::decode(alloc, word) {
-        Ok(bytes) => Ok(Bytes::from_vec(bytes)),
-        Err(FromHexError::OutOfMemory) => Err(LineStop::Memory),
-        Err(_) => Err(LineStop::Kind(FaultKind::BadHex)),
-    }
+    Bytes::from_hex(alloc, word)?.ok_or(LineStop::Kind(FaultKind::BadHex))
 }

@@ -1,6 +1,7 @@
 //! A text cut into its parts: lines, and the words of a line.
 
-ghost use Rattle.std.specs.Prelude.{◌≡◌, ◌≤◌, IfOk, length, map};
+ghost use Rattle.std.specs.Prelude.{◌≡◌, ◌<◌, ◌≤◌, ◌==◌, IfOk, IfSome, length, map};
+ghost use Rattle.std.specs.List.{position, position_or_len};
 ghost use Rattle.texts.specs.Cuts.{cut_by, is_blank, is_text, is_text_byte, line_count, lines_of, without_comment, words_of};
 
 use std::alloc::{AllocError, Global};
@@ -15,6 +16,22 @@ fn is_text_byte(b: u8) -> bool
     ensures { result ≡ is_text_byte b }
 {
     b == b'\t' || b == b'\n' || b == b'\r' || b' ' <= b && b <= b'~'
+}
+
+/// The place of the first byte of a kind.
+pub fn place_of(text: &[u8], mark: u8) -> Option<usize>
+    ensures found { result ≡ position (λ b. b == mark) text.now }
+    ensures within { IfSome result (λ at. at < length text.now) }
+{
+    text.iter().position(|b| *b == mark)
+}
+
+/// The place of the first byte of a kind, or the end of a text that has none.
+pub fn place_or_end(text: &[u8], mark: u8) -> usize
+    ensures same { result ≡ position_or_len (λ b. b == mark) text.now }
+    ensures within { result ≤ length text.now }
+{
+    place_of(text, mark).unwrap_or(text.len())
 }
 
 /// What stands between the marks of a text.
@@ -47,8 +64,7 @@ pub fn line_count(lines: &[&[u8]]) -> usize
 pub fn uncommented(line: &[u8]) -> &[u8]
     ensures { result.now ≡ without_comment line.now }
 {
-    let end = line.iter().position(|b| *b == b'#').unwrap_or(line.len());
-    &line[..end]
+    &line[..place_or_end(line, b'#')]
 }
 
 /// Whether each byte outside the comment may stand there.

@@ -7,6 +7,6 @@ mod laws;
 mod numbers;
 
 pub use bytes::Bytes;
-pub use cuts::{is_text, line_count, lines, parts, uncommented, words};
+pub use cuts::{is_text, line_count, lines, parts, place_of, place_or_end, uncommented, words};
 pub use laws::decimal_law;
 pub use numbers::{decimal, is_number, number, number_in};
