@@ -2,7 +2,7 @@
 use Rattle.std.specs.Prelude.{ℕ, true, false, if◌then◌else◌, List, [], ◌∷◌, codes, decimal, map, Option, Some, None, Result, Ok, Err}
 use Rattle.std.specs.List.{range_with_len}
 use Rattle.std.specs.Str.{bytes_eq}
-use Rattle.outcomes.specs.Numbers.{is_option}
+use Rattle.outcomes.specs.Numbers.{file_named}
 use Rattle.outcomes.specs.Outcomes.{Ran}
 use Rattle.outcomes.specs.Plans.{Plan, Program}
 use Rattle.outcomes.specs.Plans.Plan.{Runs, Refuses, Reads}
@@ -49,11 +49,6 @@ log_bytes_plan judge file bytes = log_plan judge file (log_of bytes)
 -- the log's file has at most 64 MiB
 abbrev pub log_file_plan : (LogView → Verdict) → List ℕ → Plan
 log_file_plan judge file = Reads file most_log_bytes (log_bytes_plan judge file)
-
--- the words are one file's name
-abbrev pub file_named : List (List ℕ) → Option (List ℕ)
-file_named (file ∷ []) = if is_option file then None else Some file
-file_named _ = None
 
 -- the words `-log -nue N SCRIPT`, and no others
 abbrev pub command_of : List (List ℕ) → Option Command

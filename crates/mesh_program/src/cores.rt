@@ -1,10 +1,11 @@
 //! The cores of ranks, from a list of core numbers. No memory is taken.
 
-ghost use Rattle.std.specs.Prelude.{◌≡◌, ◌∷◌, ◌==◌, ◌<◌, ◌≤◌, length, option_map, take, IfSome};
-ghost use Rattle.std.specs.List.{list_any, position};
-ghost use Rattle.mesh_program.specs.Cores.{core_number, is_comma, listed_cores, parts_behind, between_commas};
+ghost use Rattle.std.specs.Prelude.{◌≡◌, ◌∷◌, ◌==◌, ◌≤◌, option_map, take};
+ghost use Rattle.std.specs.List.{list_any};
+ghost use Rattle.mesh_program.specs.Cores.{core_number, listed_cores, parts_behind, between_commas};
 
 use scc_base::CoreId;
+use texts::place_of;
 
 /// A word up to its first comma, and what is behind that comma.
 #[derive(Clone, Copy)]
@@ -13,19 +14,11 @@ struct Cut<'a> {
     rest: Option<&'a [u8]>,
 }
 
-/// The place of the first comma.
-fn comma(word: &[u8]) -> Option<usize>
-    ensures found { result ≡ position is_comma word.now }
-    ensures within { IfSome result (λ i. i < length word.now) }
-{
-    word.iter().position(|byte| *byte == b',')
-}
-
 /// Cuts a word at its first comma.
 fn cut_word(word: &[u8]) -> Cut<'_>
     ensures { between_commas word.now ≡ result.first.now ∷ parts_behind (option_map (λ rest. rest.now) result.rest) }
 {
-    match comma(word) {
+    match place_of(word, b',') {
         Some(i) => Cut {
             first: &word[..i],
             rest: Some(&word[i + 1..]),

@@ -1,8 +1,9 @@
 use Rattle.std.proofs.Common.{Some, None, ap, codes, map, string_bytes, sym, ◌∙◌}
 use Rattle.std.proofs.lemmas.Bool.{false≢true}
 use Rattle.scc_mesh.specs.Scenes.{is_chip_open}
+use Rattle.outcomes.specs.Numbers.{file_named}
 use Rattle.outcomes.proofs.PromiseLemmas.{keeps_promises}
-use Rattle.audit_program.specs.Program.{command_of, file_named, rcceaudit, rcceaudit_log}
+use Rattle.audit_program.specs.Program.{command_of, rcceaudit, rcceaudit_log}
 use Rattle.audit_program.proofs.PlanLemmas.{named_meant, named_tells}
 use Rattle.audit_program.proofs.launcher.rcceaudit.Goals as goal
 
