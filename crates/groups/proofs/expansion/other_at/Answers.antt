@@ -4,7 +4,7 @@ use Rattle.groups.proofs.StepLemmas.{get_below, get_above}
 use Rattle.groups.proofs.expansion.other_at.Goals.{then-before, else-before}
 use Rattle.groups.proofs.expansion.other_at.Goals as goal
 
--- Answered by name, so that a body which turns this is refused at once, with no search for what else might be written.
+-- Names the goal, so that the prover rejects a wrong body at once, without a search.
 pub returns : goal.returns
 returns c =
     let all = members_of c.args.setup.now c.args.comm c.args.r in

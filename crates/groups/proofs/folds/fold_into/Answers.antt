@@ -11,7 +11,7 @@ loop-i-preserved c =
     (c.loop-i.i * c.width-width.result) (c.loop-i.i * c.width-width.result + c.width-width.result - c.loop-i.i * c.width-width.result)
     (omega arith) at long c.loop-i.invariant c.fold_value.ensures.folds
 
--- Answered by name, so that a body which turns this is refused at once, with no search for what else might be written.
+-- Names the goal, so that the prover rejects a wrong body at once, without a search.
 pub returns-then-acc-more-clause-unchanged : goal.returns-then-acc-more-clause-unchanged
 returns-then-acc-more-clause-unchanged c = refl
 

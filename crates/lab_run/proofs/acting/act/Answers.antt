@@ -16,6 +16,6 @@ returns-in_ok-print-in-Print-clause-turned c =
     (printed_turn s.rank core s said end c.requires.ready
     (c.in_ok-print-in-Print.ensures ∙ (λ i. said ++ say_lines (c.own.ensures i) core.lines ++ say_buffer (c.own.ensures i) core.out)))
 
--- Answered by name, so that a body which turns this is refused at once, with no search for what else might be written.
+-- Names the goal, so that the prover rejects a wrong body at once, without a search.
 pub returns-in-Invalidate-clause-turned : goal.returns-in-Invalidate-clause-turned
 returns-in-Invalidate-clause-turned c = search rules

@@ -4,7 +4,7 @@ use Rattle.script_machine.specs.CallLists.{calls_of}
 use Rattle.log_run.proofs.RoomLaws.{all_room, one_full, room_step}
 use Rattle.log_run.proofs.rooms.has_room.Goals as goal
 
--- Answered by name, so that a body which turns this is refused at once, with no search for what else might be written.
+-- Names the goal, so that the prover rejects a wrong body at once, without a search.
 pub loop-number-init : goal.loop-number-init
 loop-number-init c = λ rank below. absurd (omega (arith, below))
 

@@ -1,6 +1,6 @@
 use Rattle.log_run.proofs.script_runs.run_opened.Goals as goal
 
--- Answered by name, so that a body which turns this is refused at once, with no search for what else might be written.
+-- Names the goal, so that the prover rejects a wrong body at once, without a search.
 pub new-requires-clause-answer : goal.new-requires-clause-answer
 new-requires-clause-answer c = c.run_crew-end.ensures.answer
 

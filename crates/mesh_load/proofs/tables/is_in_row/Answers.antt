@@ -1,7 +1,7 @@
 use Rattle.std.proofs.Common.{rules}
 use Rattle.mesh_load.proofs.tables.is_in_row.Goals as goal
 
--- Answered by name, so that a body which turns this is refused at once, with no search for what else might be written.
+-- Names the goal, so that the prover rejects a wrong body at once, without a search.
 pub returns-then-cell-x : goal.returns-then-cell-x
 returns-then-cell-x c = search rules
 

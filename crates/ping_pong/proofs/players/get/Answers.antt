@@ -68,6 +68,6 @@ rounds-preserved g c =
       same = c.recv_on.ensures.same.polls ∙ before.same;
     }
 
--- Answered by name, so that a body which turns this is refused at once, with no search for what else might be written.
+-- Names the goal, so that the prover rejects a wrong body at once, without a search.
 pub returns-clause-why : goal.returns-clause-why
 returns-clause-why g c = search rules

@@ -4,7 +4,7 @@ use Rattle.std.specs.Str.{bytes_eq}
 use Rattle.rcce_audit.specs.Words.{◌>>=◌, exact_spelling}
 use Rattle.rcce_audit.proofs.words.number_said.Goals as goal
 
--- Answered by name, so that a body which turns this is refused at once, with no search for what else might be written.
+-- Names the goal, so that the prover rejects a wrong body at once, without a search.
 pub returns-else-eq : goal.returns-else-eq
 returns-else-eq c =
     sym (ap (λ (o : Option ℕ). o >>= exact_spelling c.args.word.now) (sym c.number.ensures ∙ c.in-Some.is)

@@ -2,7 +2,7 @@ use Rattle.std.proofs.Common.{rules}
 use Rattle.rcce_io.proofs.ReadingLemmas.{below_most, block_read, fits_front, front_size, some_front, some_room}
 use Rattle.rcce_io.proofs.reading.read_block.Goals as goal
 
--- Answered by name, so that a body which turns this is refused at once, with no search for what else might be written.
+-- Names the goal, so that the prover rejects a wrong body at once, without a search.
 pub returns-in-Failed : goal.returns-in-Failed
 returns-in-Failed c = search rules
 

@@ -10,6 +10,6 @@ returns-clause-apart c =
     filled_apart c.args.nue c.args.cores.now c.loop-rank.hosts c.loop-rank.invariant.all (λ k h. c.loop-rank.invariant.each k (omega arith))
     c.requires.most c.requires.enough c.at-hosts.ensures.valid
 
--- Answered by name, so that a body which turns this is refused at once, with no search for what else might be written.
+-- Names the goal, so that the prover rejects a wrong body at once, without a search.
 pub loop-rank-preserved : goal.loop-rank-preserved
 loop-rank-preserved c = search rules

@@ -2,7 +2,7 @@ use Rattle.std.proofs.Common.{◌≤◌, ℕ, rules, subst}
 use Rattle.rcce_words.proofs.HostLemmas.{hosts_said}
 use Rattle.rcce_words.proofs.host_file.read_hosts.Goals as goal
 
--- Answered by name, so that a body which turns this is refused at once, with no search for what else might be written.
+-- Names the goal, so that the prover rejects a wrong body at once, without a search.
 pub returns-then-len-nue-clause-gives : goal.returns-then-len-nue-clause-gives
 returns-then-len-nue-clause-gives c = search rules
 

@@ -1,6 +1,6 @@
 use Rattle.run_program.proofs.launcher.launch.Goals as goal
 
--- Answered by name, so that a body which turns this is refused at once, with no search for what else might be written.
+-- Names the goal, so that the prover rejects a wrong body at once, without a search.
 pub run_opened-run-requires-clause-evictors : goal.run_opened-run-requires-clause-evictors
 run_opened-run-requires-clause-evictors g c = λ lifetimes outlive. c.in-Ok.ensures.evictors
 

@@ -4,7 +4,7 @@ use Rattle.rcce_io.specs.Sending.{Sends}
 use Rattle.run_program.specs.Texts.{call_pieces, waiting_line}
 use Rattle.run_program.proofs.lines.write_waiting.Goals as goal
 
--- Answered by name, so that a body which turns this is refused at once, with no search for what else might be written.
+-- Names the goal, so that the prover rejects a wrong body at once, without a search.
 pub returns-in-Send : goal.returns-in-Send
 returns-in-Send g c =
     subst (λ (call : Call). Sends (waiting_line c.args.rank c.args.line (call_pieces call)) (g.S.Sink.seen c.args.sink.now) (g.S.Sink.seen c.write_message.new.sink) c.write_message.result)

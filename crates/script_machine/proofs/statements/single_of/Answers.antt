@@ -8,6 +8,6 @@ returns-in-Fill-clause-short c =
     let sized : c.in-Fill.len ≤ 65536 = rw c.in-Fill.is at c.requires.sized in
     omega (arith, all, sized)
 
--- Answered by name, so that a body which turns this is refused at once, with no search for what else might be written.
+-- Names the goal, so that the prover rejects a wrong body at once, without a search.
 pub returns-in-Split-clause-same : goal.returns-in-Split-clause-same
 returns-in-Split-clause-same c = search rules

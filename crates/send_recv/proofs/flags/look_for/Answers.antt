@@ -1,7 +1,7 @@
 use Rattle.std.proofs.Common.{rules}
 use Rattle.send_recv.proofs.flags.look_for.Goals as goal
 
--- Answered by name, so that a body which turns this is refused at once, with no search for what else might be written.
+-- Names the goal, so that the prover rejects a wrong body at once, without a search.
 pub returns-then-look_flag-clause-looks : goal.returns-then-look_flag-clause-looks
 returns-then-look_flag-clause-looks g c = search rules fits 100
 

@@ -13,7 +13,7 @@ none_behind of lines n last at inside is empty =
     let read = slice_get_read all (length lines) n (of last) (sym many) inside (ap of is ∙ sym (get_or-map of lines n last (of last) inside)) in
     here ∙ sym (ap (λ (o : Option (List ℕ)). lines_before all (length all - 1) o) (ap (λ (k : ℕ). slice_get all k) (sym here) ∙ read) ∙ ap (λ (b : Bool). if b then length all - 1 else length all) empty)
 
--- Answered by name, so that a body which turns this is refused at once, with no search for what else might be written.
+-- Names the goal, so that the prover rejects a wrong body at once, without a search.
 pub returns-then-is_empty-clause-same : goal.returns-then-is_empty-clause-same
 returns-then-is_empty-clause-same c =
     let last = c.in-Some.ensures.lookup in

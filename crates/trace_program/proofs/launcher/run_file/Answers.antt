@@ -7,6 +7,6 @@ use Rattle.trace_program.proofs.launcher.run_file.Goals as goal
 pub returns-in-Err : goal.returns-in-Err
 returns-in-Err g c = lacks_memory (codes "rccetrace") (trace_file_plan (job_view c.args.job)) _
 
--- Answered by name, so that a body which turns this is refused at once, with no search for what else might be written.
+-- Names the goal, so that the prover rejects a wrong body at once, without a search.
 pub hear_file-requires-clause-hears : goal.hear_file-requires-clause-hears
 hear_file-requires-clause-hears g c = search rules

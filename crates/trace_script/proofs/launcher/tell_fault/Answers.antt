@@ -10,6 +10,6 @@ returns-in-Refused g c = record {
       (c.write_refused.result, c.write_refused.ensures);
 }
 
--- Answered by name, so that a body which turns this is refused at once, with no search for what else might be written.
+-- Names the goal, so that the prover rejects a wrong body at once, without a search.
 pub returns-in-Write : goal.returns-in-Write
 returns-in-Write g c = search rules

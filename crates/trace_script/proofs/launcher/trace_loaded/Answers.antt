@@ -10,6 +10,6 @@ returns-then-is_err-clause-traces g c = let blank : c.open.new.self ≡ None = s
 pub returns-clause-traces : goal.returns-clause-traces
 returns-clause-traces g c = ∥∥₁_map c.trace_crew.ensures.traces (traced_loaded (asked_by c.args.loaded.now) _ _ _ c.trace_crew.result)
 
--- Answered by name, so that a body which turns this is refused at once, with no search for what else might be written.
+-- Names the goal, so that the prover rejects a wrong body at once, without a search.
 pub trace_crew-requires-clause-evictors : goal.trace_crew-requires-clause-evictors
 trace_crew-requires-clause-evictors g c = search rules

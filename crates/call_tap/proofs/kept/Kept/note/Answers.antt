@@ -2,7 +2,7 @@ use Rattle.std.proofs.Common.{arith}
 use Rattle.std.proofs.lemmas.Grind.{common_steps}
 use Rattle.call_tap.proofs.kept.Kept.note.Goals as goal
 
--- Answered by name, so that a body which turns this is refused at once, with no search for what else might be written.
+-- Names the goal, so that the prover rejects a wrong body at once, without a search.
 pub returns-else-len-lt-MOST_CALLS : goal.returns-else-len-lt-MOST_CALLS
 returns-else-len-lt-MOST_CALLS c = grind (arith, common_steps)
 

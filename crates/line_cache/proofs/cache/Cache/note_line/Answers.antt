@@ -5,6 +5,6 @@ use Rattle.line_cache.proofs.cache.Cache.note_line.Goals as goal
 pub returns-in_default-clause-lines : goal.returns-in_default-clause-lines
 returns-in_default-clause-lines c = sym (line_none c.args.self.now c.args.line c.args.words.now c.in_default.ensures.place)
 
--- Answered by name, so that a body which turns this is refused at once, with no search for what else might be written.
+-- Names the goal, so that the prover rejects a wrong body at once, without a search.
 pub returns-in-Some-clause-lines : goal.returns-in-Some-clause-lines
 returns-in-Some-clause-lines c = search rules

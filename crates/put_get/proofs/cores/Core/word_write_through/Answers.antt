@@ -25,7 +25,7 @@ returns-clause-steps g c =
     steps_both g.P.Port.stepped start stored end _ (store_of c.args.place c.args.word ∷ []) c.store_out.ensures.did c.store.ensures.did c.store_out.ensures.steps
     (steps_one g.P.Port.stepped stored end (store_of c.args.place c.args.word) c.store.ensures.did c.store.ensures.step)
 
--- Answered by name, so that a body which turns this is refused at once, with no search for what else might be written.
+-- Names the goal, so that the prover rejects a wrong body at once, without a search.
 pub returns-clause-writes : goal.returns-clause-writes
 returns-clause-writes g c =
     let start = g.P.Port.sight c.args.port.now in

@@ -3,7 +3,7 @@ use Rattle.send_recv.specs.declared.answers.RecvTurn.{RecvTurn}
 use Rattle.rcce_ue.specs.Passing.{ue_after_receive, told_by_receive}
 use Rattle.rcce_ue.proofs.ues.Ue.settle_receive.Goals as goal
 
--- Answered by name, so that a body which turns this is refused at once, with no search for what else might be written.
+-- Names the goal, so that the prover rejects a wrong body at once, without a search.
 pub returns-in-Moved-clause-leaves : goal.returns-in-Moved-clause-leaves
 returns-in-Moved-clause-leaves g c = sym (ap (λ (a : RecvTurn). ue_after_receive a c.args.self.now) c.in-Moved.is)
 

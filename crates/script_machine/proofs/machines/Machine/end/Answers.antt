@@ -21,7 +21,7 @@ waits_at slot u p call front is = by_standing u.standing is
         sym (ap (end_waiting_at p.line) (sym (ap (λ (o : Option Prim). call_next (next_by_prim u o)) front) ∙ stands)) ∙ sym (ap (end_by_prim slot u) front)
     by_standing (Mismatched line from sent asked) stands = absurd cc
 
--- Answered by name, so that a body which turns this is refused at once, with no search for what else might be written.
+-- Names the goal, so that the prover rejects a wrong body at once, without a search.
 pub returns-in-Some-call : goal.returns-in-Some-call
 returns-in-Some-call c =
     λ slot posted. waits_at slot c.args.self.now.local (prim_meant c.in-Some.next.now) c.in-Some-call.call

@@ -16,6 +16,6 @@ returns c =
     (λ i. record { script = script i; setup = setup i; rank = rank i; left = left i })
     ∙ ap (λ (w : WalkView). record w { left = drop 1 w.left }) c.self.view_is
 
--- Answered by name, so that a body which turns this is refused at once, with no search for what else might be written.
+-- Names the goal, so that the prover rejects a wrong body at once, without a search.
 pub invariant_of-self : goal.invariant_of-self
 invariant_of-self c = search rules

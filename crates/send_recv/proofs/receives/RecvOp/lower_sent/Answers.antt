@@ -1,7 +1,7 @@
 use Rattle.std.proofs.Common.{rules}
 use Rattle.send_recv.proofs.receives.RecvOp.lower_sent.Goals as goal
 
--- Answered by name, so that a body which turns this is refused at once, with no search for what else might be written.
+-- Names the goal, so that the prover rejects a wrong body at once, without a search.
 pub returns-then-lines_in-eq0-clause-changes : goal.returns-then-lines_in-eq0-clause-changes
 returns-then-lines_in-eq0-clause-changes c = search rules
 

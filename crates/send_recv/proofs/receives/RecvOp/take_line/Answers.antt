@@ -5,7 +5,7 @@ use Rattle.send_recv.specs.Chunks.{chunk_start}
 use Rattle.send_recv.specs.Ops.{RecvAt}
 use Rattle.send_recv.proofs.receives.RecvOp.take_line.Goals as goal
 
--- Answered by name, so that a body which turns this is refused at once, with no search for what else might be written.
+-- Names the goal, so that the prover rejects a wrong body at once, without a search.
 
 -- where the line stands in the message
 start_is : (size line start : ℕ) (now op : RecvAt) → start ≡ chunk_start size now.chunk → now ≡ op → start + 32 * line ≡ chunk_start size op.chunk + 32 * line

@@ -39,7 +39,7 @@ returns-clause-calls g c =
     (set_call s.seat c.known.ensures.valid c.args.at c.requires.below s _ c.self.inside.core _ refl
     (ap leaves_heap free.messages.between.stage) free.registers c.args.flag c.requires.heap c.flag_write.ensures.empty c.args.value c.self.inside.polls c.args.flag.bit c.flag_write.result c.flag_write.ensures.writes).alone.calls
 
--- Answered by name, so that a body which turns this is refused at once, with no search for what else might be written.
+-- Names the goal, so that the prover rejects a wrong body at once, without a search.
 pub returns-clause-writes : goal.returns-clause-writes
 returns-clause-writes g c = search rules
 

@@ -68,6 +68,6 @@ returns-in-Err-clause-refused c =
     subst (λ (v : JudgeView). Some why ≡ refusal_of (chip_of v) made) c.self.view_is
     (refused_permit j.setup j.words made c.is_step.result c.is_step.ensures.gives c.if-not-is_step.false (λ is. false≢true (may.1 is)) why same)
 
--- Answered by name, so that a body which turns this is refused at once, with no search for what else might be written.
+-- Names the goal, so that the prover rejects a wrong body at once, without a search.
 pub returns-then-not-is_step-clause-refused : goal.returns-then-not-is_step-clause-refused
 returns-then-not-is_step-clause-refused c = search rules

@@ -23,6 +23,6 @@ returns-in-Judging c = record {
       (r.trace, said, legal_shown asked c.args.self.finished _ t.number r.trace (chip_of t.judge) held.1.held (c.nue-nue.ensures.gives ∙ ap (λ (s : SetupView). s.nue) (c.setup.ensures.gives r come)) held.1.tried.ruled);
 }
 
--- Answered by name, so that a body which turns this is refused at once, with no search for what else might be written.
+-- Names the goal, so that the prover rejects a wrong body at once, without a search.
 pub returns : goal.returns
 returns c = search rules

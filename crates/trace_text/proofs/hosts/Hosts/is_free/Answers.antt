@@ -9,6 +9,6 @@ returns-then-eq c =
     let at : host_of c.args.self.now.cores c.loop-rank.rank ≡ c.args.core = grind (arith, common_steps, c.if-eq.true, c.eq.ensures, c.index-self-rank.is) in
     sym (some_below c.args.self.now.count c.args.self.now.cores c.args.core c.loop-rank.rank c.loop-rank-test.true at)
 
--- Answered by name, so that a body which turns this is refused at once, with no search for what else might be written.
+-- Names the goal, so that the prover rejects a wrong body at once, without a search.
 pub loop-rank-init : goal.loop-rank-init
 loop-rank-init c = search rules

@@ -8,6 +8,6 @@ invariant_of-self c = list_any-written c.in-Some.out.mask c.from-word.result (le
 pub returns-then-is-clause-some_word : goal.returns-then-is-clause-some_word
 returns-then-is-clause-some_word c = invariant_of-self c
 
--- Answered by name, so that a body which turns this is refused at once, with no search for what else might be written.
+-- Names the goal, so that the prover rejects a wrong body at once, without a search.
 pub returns-clause-out : goal.returns-clause-out
 returns-clause-out c = search rules

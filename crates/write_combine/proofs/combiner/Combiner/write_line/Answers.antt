@@ -5,7 +5,7 @@ use Rattle.write_combine.proofs.combiner.Combiner.write_line.Goals as goal
 pub returns-then-is-clause-held : goal.returns-then-is-clause-held
 returns-then-is-clause-held c = whole_written c.args.line c.args.words.now c.told-words
 
--- Answered by name, so that a body which turns this is refused at once, with no search for what else might be written.
+-- Names the goal, so that the prover rejects a wrong body at once, without a search.
 pub returns-clause-out : goal.returns-clause-out
 returns-clause-out c = search rules
 
