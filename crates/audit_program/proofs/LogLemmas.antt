@@ -39,9 +39,9 @@ bytes_back (call ∷ calls) long =
     let n : bytes_in (call_of call) ≡ length (moved_by call) = one_long call (All-head HasItsBytes call calls long) in
     let front : take (bytes_in (call_of call)) (moved_by call ++ flat_map moved_by calls) ≡ moved_by call =
     ap (λ (k : ℕ). take k (moved_by call ++ flat_map moved_by calls)) n ∙ take-append_seam (moved_by call) (flat_map moved_by calls) in
-    let behind : drop (bytes_in (call_of call)) (moved_by call ++ flat_map moved_by calls) ≡ flat_map moved_by calls =
+    let afterwards : drop (bytes_in (call_of call)) (moved_by call ++ flat_map moved_by calls) ≡ flat_map moved_by calls =
     ap (λ (k : ℕ). drop k (moved_by call ++ flat_map moved_by calls)) n ∙ drop-append_seam (moved_by call) (flat_map moved_by calls) in
-    λ i. (ap (call_with_bytes (call_of call)) front ∙ one_back call) i ∷ (ap (calls_with_bytes (map call_of calls)) behind ∙ bytes_back calls (All-tail HasItsBytes call calls long)) i
+    λ i. (ap (call_with_bytes (call_of call)) front ∙ one_back call) i ∷ (ap (calls_with_bytes (map call_of calls)) afterwards ∙ bytes_back calls (All-tail HasItsBytes call calls long)) i
 
 -- ---- the lists of the ranks
 

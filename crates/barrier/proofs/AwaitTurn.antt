@@ -19,8 +19,8 @@ use Rattle.sync_flags.specs.Flags.{flag_value}
 use Rattle.sync_flags.specs.Tries.{AtWord}
 use Rattle.sync_flags.specs.Looks.{LooksAt}
 use Rattle.barrier.specs.Turns.{Does, BarTurned, flips_by}
-use Rattle.barrier.proofs.FlagLoads.{present_is, member_follows, InBarrier, InNone, release_line, release_found, release_vain, line_loaded}
-use Rattle.barrier.proofs.LookLemmas.{loads_no_draft, vain_look, fruitful_look}
+use Rattle.barrier.proofs.FlagLoads.{present_is, member_follows, InBarrier, InNone, release_line, release_found, release_failed, line_loaded}
+use Rattle.barrier.proofs.LookLemmas.{loads_no_draft, failed_look, fruitful_look}
 use Rattle.barrier.proofs.StageLemmas.{stands_next, rest_kept, parity_kept, call_of_stage}
 use Rattle.barrier.proofs.GatherTurn.{look_here}
 
@@ -64,12 +64,12 @@ module _ (s : Sight) (c : Private) (op : BarAt) (values : List Bool) (value : �
       (release_line s.seat (record_in s) l.valid op.comm s.seat.rank small l.below (InBarrier 0 0 here.1))
       (release_line s.seat late l.valid op.comm s.seat.rank small l.below (InNone refl))
 
-  vain_record : slice_index saw.words (op.comm / 8) ≢ value → record_in t ≡ record_in s
-  vain_record other =
+  failed_record : slice_index saw.words (op.comm / 8) ≢ value → record_in t ≡ record_in s
+  failed_record other =
       let small = l.stands.below in
       let low : op.comm / 8 < 2 = omega (arith, small) in
       let present = present_is s.seat.setup op.comm small l.stands.present in
-      let own = release_vain s.seat (record_in s) l.valid op.comm (slice_index saw.words (op.comm / 8)) present l.below
+      let own = release_failed s.seat (record_in s) l.valid op.comm (slice_index saw.words (op.comm / 8)) present l.below
       (member_follows s.seat.setup op.comm s.seat.rank here.0) here.1 (λ q. other (q ∙ sym wanted)) in
       let line = release_line s.seat (record_in s) l.valid op.comm s.seat.rank small l.below (InBarrier 0 0 here.1) in
       record_did s (loads_of (line_of_word (release_word s.seat op.comm s.seat.rank)) saw.words) t saw.looks.did
@@ -87,7 +87,7 @@ module _ (s : Sight) (c : Private) (op : BarAt) (values : List Bool) (value : �
   await_waited : slice_index saw.words (op.comm / 8) ≢ value → BarStands t d op values × BarTurned (meeting s c op values) (meeting t d op values) (turn.Waiting (Flag (release_word s.seat op.comm s.seat.rank) 0))
   await_waited other =
       let small = l.stands.below in
-      let rec = vain_record other in
+      let rec = failed_record other in
       let flips = ap (λ (r : Record). r.flips) rec in
       let low : op.comm / 8 < 4 = omega (arith, small) in (
         stands_next l.stands t d op values seat_same (fills_out saw.looks.fills) refl (parity_kept (record_in s) (record_in t) values l.stands.parity flips)
@@ -96,7 +96,7 @@ module _ (s : Sight) (c : Private) (op : BarAt) (values : List Bool) (value : �
           events = loads_of (line_of_word (release_word s.seat op.comm s.seat.rank)) saw.words;
           did = saw.looks.did;
           does = does_look;
-          tried = vain_look (release_word s.seat op.comm s.seat.rank) (flag_value (value_at values op.comm)) saw.words low (λ q. other (q ∙ sym l.waits_for)) aims;
+          tried = failed_look (release_word s.seat op.comm s.seat.rank) (flag_value (value_at values op.comm)) saw.words low (λ q. other (q ∙ sym l.waits_for)) aims;
           same = refl;
           means = (refl, rec);
           flips = flips ∙ ap (λ (x : BarStage). flips_by op.comm x (record_in s).flips) (sym l.stage);

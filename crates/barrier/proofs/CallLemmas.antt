@@ -14,9 +14,9 @@ use Rattle.put_get.specs.Accesses.{loads_of}
 use Rattle.put_get.specs.Cores.{Private}
 use Rattle.put_get.proofs.StepLemmas.{events_once}
 use Rattle.sync_flags.specs.Flags.{flag_value}
-use Rattle.sync_flags.specs.Tries.{Aim, AtWord, has_write, changing_after, vain_from, vain_tries, Tried}
+use Rattle.sync_flags.specs.Tries.{Aim, AtWord, has_write, changing_after, failed_from, failed_tries, Tried}
 use Rattle.sync_flags.specs.Writes.{StoresWord}
-use Rattle.sync_flags.proofs.VainLemmas.{vain-append}
+use Rattle.sync_flags.proofs.FailedLemmas.{failed-append}
 use Rattle.sync_flags.proofs.RowLemmas.{fruitful, waited, went_on}
 use Rattle.sync_flags.proofs.LoopLemmas.{Row, row_none, row_moved, row_waited}
 use Rattle.barrier.specs.declared.barriers.BarStop.TheVariants.{Stalled}
@@ -51,14 +51,14 @@ turn_settled seat comm Finished value m t b d es does did =
     ap (λ (x : List Event). changing_after false x) (events_once m t es [] did still)
 
 store_ends : (m t : Sight) (b d : Private) (p place : WordAt) (v value : ℕ) (es : List Event) → StoresWord m b p v t d → Did m es t → (n : ℕ)
-    → vain_from (AtWord place value) false n es ≡ 0
+    → failed_from (AtWord place value) false n es ≡ 0
 store_ends m t b d p place v value es stores did n =
-    ap (λ (x : List Event). vain_from (AtWord place value) false n x) (events_once m t es (store_of p v ∷ []) did stores.did)
+    ap (λ (x : List Event). failed_from (AtWord place value) false n x) (events_once m t es (store_of p v ∷ []) did stores.did)
 
 -- a turn that ends the barrier leaves no vain look behind
 ended : (seat : Seat) (comm : ℕ) (stage : BarStage) (value : ℕ) (m t : Sight) (b d : Private) (es : List Event)
     → Does seat comm stage value m b t d → Did m es t → Tried (barrier_aim_at seat comm stage value) es None → is_gather stage ≡ false → (stage ≡ Await → own_place seat comm ≢ 0)
-    → (place : WordAt) → MayEndAt seat comm place → (n : ℕ) → (is_bar_finished stage ≡ true → n ≡ 0) → vain_from (AtWord place value) false n es ≡ 0
+    → (place : WordAt) → MayEndAt seat comm place → (n : ℕ) → (is_bar_finished stage ≡ true → n ≡ 0) → failed_from (AtWord place value) false n es ≡ 0
 ended seat comm Flip value m t b d es does did tried gather member place may n rest = store_ends m t b d _ place value value es does did n
 ended seat comm (Gather seen) value m t b d es does did tried gather member place may n rest = absurd (cc)
 ended seat comm (Release released) value m t b d es does did tried gather member place may n rest = store_ends m t b d _ place value value es does did n
@@ -66,14 +66,14 @@ ended seat comm Await value m t b d es does did tried gather member place (inl r
 ended seat comm Await value m t b d es does did tried gather member place (inr is) n rest =
     let own = AtWord (release_word seat comm seat.rank) value in
     let one = went_on tried own refl in
-    ap (λ (x : WordAt). vain_from (AtWord x value) false n es) is ∙ fruitful own false n es one.0 one.1
+    ap (λ (x : WordAt). failed_from (AtWord x value) false n es) is ∙ fruitful own false n es one.0 one.1
 ended seat comm Finished value m t b d es does did tried gather member place may n rest =
     let still : Did m [] t = subst (λ (x : Sight). Did m [] x) (sym does.0) (did_nothing m) in
-    ap (λ (x : List Event). vain_from (AtWord place value) false n x) (events_once m t es [] did still) ∙ rest refl
+    ap (λ (x : List Event). failed_from (AtWord place value) false n x) (events_once m t es [] did still) ∙ rest refl
 
 -- the turns so far: as many vain looks as counted stand at the end, for what the barrier looks for next
-pub record Underway (s : Sight) (op : BarAt) (vain : ℕ) (t : Sight) (d : Private) (now : BarAt) (values : List Bool) : Type 0 where
-  pub row : Row (barrier_aim_at s.seat now.comm now.stage (flag_value (value_at values now.comm))) vain s t
+pub record Underway (s : Sight) (op : BarAt) (failed : ℕ) (t : Sight) (d : Private) (now : BarAt) (values : List Bool) : Type 0 where
+  pub row : Row (barrier_aim_at s.seat now.comm now.stage (flag_value (value_at values now.comm))) failed s t
   pub stands : BarStands t d now values
   pub same : now.comm ≡ op.comm
   pub calls : (record_in t).calls ≡ (record_in s).calls
@@ -99,9 +99,9 @@ underway_none {s} st = record {
 calls_open : (op : BarAt) → is_bar_finished op.stage ≡ false → bar_call op ≡ Bar op.comm ∷ []
 calls_open op e = if_no (is_bar_finished op.stage) [] (Bar op.comm ∷ []) e
 
-pub underway_moved : {s m t : Sight} {b d : Private} {op cur now : BarAt} {vain : ℕ} {values later : List Bool} → Underway s op vain m b cur values
+pub underway_moved : {s m t : Sight} {b d : Private} {op cur now : BarAt} {failed : ℕ} {values later : List Bool} → Underway s op failed m b cur values
     → BarStands t d now later → BarTurned (meeting m b cur values) (meeting t d now later) turn.Moved → Underway s op 0 t d now later
-underway_moved {s} {m} {t} {b} {d} {op} {cur} {now} {vain} {values} {later} u st turned = record {
+underway_moved {s} {m} {t} {b} {d} {op} {cur} {now} {failed} {values} {later} u st turned = record {
   row = row_moved u.row turned.did (turn_settled m.seat cur.comm cur.stage (flag_value (value_at later cur.comm)) m t b d turned.events turned.does turned.did);
   stands = st;
   same = turned.same ∙ u.same;
@@ -119,9 +119,9 @@ same_value {t = t} {cur = cur} {later = later} x y e rec =
     subst (λ (k : BarAt). flag_value (value_at later k.comm) ≡ (record_in t).flips k.comm % 2) e (y.parity _ y.below)
     ∙ (λ i. (rec i).flips cur.comm % 2) ∙ sym (x.parity cur.comm x.below)
 
-pub underway_waited : {s m t : Sight} {b d : Private} {op cur now : BarAt} {vain : ℕ} {values later : List Bool} {spot : Spot} → Underway s op vain m b cur values
-    → BarStands t d now later → BarTurned (meeting m b cur values) (meeting t d now later) (turn.Waiting spot) → Underway s op (vain + 1) t d now later
-underway_waited {s} {m} {t} {b} {d} {op} {cur} {now} {vain} {values} {later} {spot} u st turned =
+pub underway_waited : {s m t : Sight} {b d : Private} {op cur now : BarAt} {failed : ℕ} {values later : List Bool} {spot : Spot} → Underway s op failed m b cur values
+    → BarStands t d now later → BarTurned (meeting m b cur values) (meeting t d now later) (turn.Waiting spot) → Underway s op (failed + 1) t d now later
+underway_waited {s} {m} {t} {b} {d} {op} {cur} {now} {failed} {values} {later} {spot} u st turned =
     let e = turned.means.0 in
     let seat : m.seat ≡ s.seat = seat_kept s u.row.events m u.row.did in
     let value = flag_value (value_at later cur.comm) in
@@ -148,7 +148,7 @@ underway_waited {s} {m} {t} {b} {d} {op} {cur} {now} {vain} {values} {later} {sp
     not_over seat comm Await value aim at over = absurd (cc)
     not_over seat comm Finished value aim at over = absurd (cc)
 
-pub underway_ends : {s m t : Sight} {c b d : Private} {op cur now : BarAt} {vain : ℕ} {before values later : List Bool} → Underway s op vain m b cur values
+pub underway_ends : {s m t : Sight} {c b d : Private} {op cur now : BarAt} {failed : ℕ} {before values later : List Bool} → Underway s op failed m b cur values
     → BarStands t d now later → BarTurned (meeting m b cur values) (meeting t d now later) turn.Done → Finishes (meeting s c op before) (with_parity t d later)
 underway_ends {s} {m} {t} {b = b} {d = d} {op = op} {cur = cur} {now = now} {later = later} u st turned =
     let seat : m.seat ≡ s.seat = seat_kept s u.row.events m u.row.did in
@@ -161,20 +161,20 @@ underway_ends {s} {m} {t} {b = b} {d = d} {op = op} {cur = cur} {now = now} {lat
       parity = st.parity;
       flips = turned.flips ∙ u.flips;
       rest = kept_both u.rest turned.rest;
-      no_vain = λ place may.
+      none_failed = λ place may.
           let may_here : MayEndAt m.seat cur.comm place = subst (λ (k : ℕ). MayEndAt m.seat k place) (sym u.same) (subst (λ (x : Seat). MayEndAt x op.comm place) (sym seat) may) in
           let value = flag_value (value_at later cur.comm) in
-          (λ i. vain_tries (AtWord place (flag_value (value_at later (sym u.same i)))) (u.row.events ++ turned.events))
-          ∙ vain-append (AtWord place value) false 0 u.row.events turned.events
-          ∙ ap (λ (x : Bool). vain_from (AtWord place value) x (vain_tries (AtWord place value) u.row.events) turned.events) u.row.freed
+          (λ i. failed_tries (AtWord place (flag_value (value_at later (sym u.same i)))) (u.row.events ++ turned.events))
+          ∙ failed-append (AtWord place value) false 0 u.row.events turned.events
+          ∙ ap (λ (x : Bool). failed_from (AtWord place value) x (failed_tries (AtWord place value) u.row.events) turned.events) u.row.freed
           ∙ ended m.seat cur.comm cur.stage value m t b d turned.events turned.does turned.did turned.tried turned.means.2
           (λ q. (subst (λ (x : BarStage). IsAtStage m.seat (record_in m) cur.comm x) q u.stands.at).0) place may_here
-          (vain_tries (AtWord place value) u.row.events) (λ f. ap (λ (es : List Event). vain_tries (AtWord place value) es) (u.quiet f));
+          (failed_tries (AtWord place value) u.row.events) (λ f. ap (λ (es : List Event). failed_tries (AtWord place value) es) (u.quiet f));
     }
 
-pub underway_stalls : {s m t : Sight} {c b d : Private} {op cur now : BarAt} {vain : ℕ} {before values later : List Bool} {spot : Spot} → Underway s op vain m b cur values
-    → BarStands t d now later → BarTurned (meeting m b cur values) (meeting t d now later) (turn.Waiting spot) → (polls : ℕ) → polls ≤ vain + 1 → Stalls (meeting s c op before) polls (with_parity t d later) (Stalled now spot polls)
-underway_stalls {s} {m} {t} {cur = cur} {now = now} {vain = vain} {later = later} u st turned polls enough =
+pub underway_stalls : {s m t : Sight} {c b d : Private} {op cur now : BarAt} {failed : ℕ} {before values later : List Bool} {spot : Spot} → Underway s op failed m b cur values
+    → BarStands t d now later → BarTurned (meeting m b cur values) (meeting t d now later) (turn.Waiting spot) → (polls : ℕ) → polls ≤ failed + 1 → Stalls (meeting s c op before) polls (with_parity t d later) (Stalled now spot polls)
+underway_stalls {s} {m} {t} {cur = cur} {now = now} {failed = failed} {later = later} u st turned polls enough =
     let w = underway_waited u st turned in
     let e = turned.means.0 in
     let seat : m.seat ≡ s.seat = seat_kept s u.row.events m u.row.did in
@@ -182,7 +182,7 @@ underway_stalls {s} {m} {t} {cur = cur} {now = now} {vain = vain} {later = later
     let at : barrier_aim_at s.seat now.comm now.stage (flag_value (value_at later now.comm)) ≡ Some v.at
     = ap (λ (x : BarAt). barrier_aim_at s.seat x.comm x.stage (flag_value (value_at later x.comm))) e
     ∙ ap (λ (x : Seat). barrier_aim_at x cur.comm cur.stage (flag_value (value_at later cur.comm))) (sym seat) ∙ v.is in
-    let many : vain + 1 ≤ vain_tries v.at w.row.events = w.row.tried v.at at in
+    let many : failed + 1 ≤ failed_tries v.at w.row.events = w.row.tried v.at at in
     record {
       events = w.row.events;
       did = w.row.did;
@@ -196,11 +196,11 @@ underway_stalls {s} {m} {t} {cur = cur} {now = now} {vain = vain} {later = later
       call_left = w.call_left;
       flips = sym (flips_looking s.seat now (flag_value (value_at later now.comm)) v.at (record_in t).flips at) ∙ w.flips;
       rest = w.rest;
-      vain = omega (arith, enough, many);
+      failed = omega (arith, enough, many);
     }
 
 -- what is left of the barrier falls by each move
-pub left_falls : {s m t : Sight} {b d : Private} {op cur now : BarAt} {vain : ℕ} {values later : List Bool} → Underway s op vain m b cur values
+pub left_falls : {s m t : Sight} {b d : Private} {op cur now : BarAt} {failed : ℕ} {values later : List Bool} → Underway s op failed m b cur values
     → BarTurned (meeting m b cur values) (meeting t d now later) turn.Moved → bar_left s.seat cur ≡ bar_left s.seat now + 1
 left_falls {s} {m} {cur = cur} {now = now} u turned =
     subst (λ (x : Seat). bar_left x cur ≡ bar_left x now + 1) (seat_kept s u.row.events m u.row.did) turned.means.0

@@ -152,8 +152,8 @@ module _ (seat : Seat) (rec : Record) (valid : IsSetup seat.setup) (comm r seen 
       let stage = gather_stage true (same_by value (rec.flips comm % 2) is) ∙ (λ i. Barrier comm (next i) 0) in
       makes_kept (gather_loaded seat rec valid comm r value present lt root) (λ i. record rec { stage = stage i })
 
-  pub gather_vain : value ≢ rec.flips comm % 2 → Makes seat rec (load_of (gather_word seat comm r) value) rec
-  gather_vain other =
+  pub gather_failed : value ≢ rec.flips comm % 2 → Makes seat rec (load_of (gather_word seat comm r) value) rec
+  gather_failed other =
       let stage = gather_stage false (eqb_other value (rec.flips comm % 2) other) ∙ sym at in
       makes_kept (gather_loaded seat rec valid comm r value present lt root) (λ i. record rec { stage = stage i })
 
@@ -175,8 +175,8 @@ module _ (seat : Seat) (rec : Record) (valid : IsSetup seat.setup) (comm value :
       let calls = release_calls true (same_by value (rec.flips comm % 2) is) in
       makes_kept (release_loaded seat rec valid comm value present lt member) (λ i. record rec { stage = stage i; calls = calls i })
 
-  pub release_vain : value ≢ rec.flips comm % 2 → Makes seat rec (load_of (release_word seat comm seat.rank) value) rec
-  release_vain other =
+  pub release_failed : value ≢ rec.flips comm % 2 → Makes seat rec (load_of (release_word seat comm seat.rank) value) rec
+  release_failed other =
       let stage = release_stage false (eqb_other value (rec.flips comm % 2) other) ∙ sym at in
       let calls = release_calls false (eqb_other value (rec.flips comm % 2) other) in
       makes_kept (release_loaded seat rec valid comm value present lt member) (λ i. record rec { stage = stage i; calls = calls i })
@@ -189,20 +189,20 @@ pub line_loaded : (seat : Seat) (rec late : Record) (line : LineAt) (words : Lis
     → ((w value : ℕ) → w < 4 → w ≢ k → Makes seat rec (load_of (word_of_line line w) value) rec)
     → ((w value : ℕ) → w < 4 → w ≢ k → Makes seat late (load_of (word_of_line line w) value) late)
     → record_on seat rec (loads_of line words) ≡ late
-line_loaded seat rec late line words zero low own before behind =
+line_loaded seat rec late line words zero low own before afterwards =
     let e1 = load_of (word_of_line line 1) (slice_index words 1) in
     let e2 = load_of (word_of_line line 2) (slice_index words 2) in
     let e3 = load_of (word_of_line line 3) (slice_index words 3) in
     ap (λ (x : Record). record_next seat (record_next seat (record_next seat x e1) e2) e3) own.becomes
-    ∙ ap (λ (x : Record). record_next seat (record_next seat x e2) e3) (behind 1 (slice_index words 1) (omega arith) (λ q. absurd (omega (arith, q)))).becomes
-    ∙ ap (λ (x : Record). record_next seat x e3) (behind 2 (slice_index words 2) (omega arith) (λ q. absurd (omega (arith, q)))).becomes
-    ∙ (behind 3 (slice_index words 3) (omega arith) (λ q. absurd (omega (arith, q)))).becomes
-line_loaded seat rec late line words (suc zero) low own before behind =
+    ∙ ap (λ (x : Record). record_next seat (record_next seat x e2) e3) (afterwards 1 (slice_index words 1) (omega arith) (λ q. absurd (omega (arith, q)))).becomes
+    ∙ ap (λ (x : Record). record_next seat x e3) (afterwards 2 (slice_index words 2) (omega arith) (λ q. absurd (omega (arith, q)))).becomes
+    ∙ (afterwards 3 (slice_index words 3) (omega arith) (λ q. absurd (omega (arith, q)))).becomes
+line_loaded seat rec late line words (suc zero) low own before afterwards =
     let e1 = load_of (word_of_line line 1) (slice_index words 1) in
     let e2 = load_of (word_of_line line 2) (slice_index words 2) in
     let e3 = load_of (word_of_line line 3) (slice_index words 3) in
     ap (λ (x : Record). record_next seat (record_next seat (record_next seat x e1) e2) e3) (before 0 (slice_index words 0) (omega arith) (λ q. absurd (omega (arith, q)))).becomes
     ∙ ap (λ (x : Record). record_next seat (record_next seat x e2) e3) own.becomes
-    ∙ ap (λ (x : Record). record_next seat x e3) (behind 2 (slice_index words 2) (omega arith) (λ q. absurd (omega (arith, q)))).becomes
-    ∙ (behind 3 (slice_index words 3) (omega arith) (λ q. absurd (omega (arith, q)))).becomes
-line_loaded seat rec late line words (suc (suc k)) low own before behind = absurd (omega (arith, low))
+    ∙ ap (λ (x : Record). record_next seat x e3) (afterwards 2 (slice_index words 2) (omega arith) (λ q. absurd (omega (arith, q)))).becomes
+    ∙ (afterwards 3 (slice_index words 3) (omega arith) (λ q. absurd (omega (arith, q)))).becomes
+line_loaded seat rec late line words (suc (suc k)) low own before afterwards = absurd (omega (arith, low))

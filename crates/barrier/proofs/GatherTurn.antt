@@ -18,8 +18,8 @@ use Rattle.sync_flags.specs.Flags.{flag_value}
 use Rattle.sync_flags.specs.Tries.{AtWord}
 use Rattle.sync_flags.specs.Looks.{LooksAt}
 use Rattle.barrier.specs.Turns.{Does, BarTurned, flips_by}
-use Rattle.barrier.proofs.FlagLoads.{present_is, root_leads, InBarrier, gather_line, gather_found, gather_vain, line_loaded}
-use Rattle.barrier.proofs.LookLemmas.{loads_no_draft, vain_look, fruitful_look}
+use Rattle.barrier.proofs.FlagLoads.{present_is, root_leads, InBarrier, gather_line, gather_found, gather_failed, line_loaded}
+use Rattle.barrier.proofs.LookLemmas.{loads_no_draft, failed_look, fruitful_look}
 use Rattle.barrier.proofs.StageLemmas.{stands_next, gather_next, rest_kept, parity_kept, left_is}
 
 -- the root of a group looks at this member
@@ -67,12 +67,12 @@ module _ (s : Sight) (c : Private) (op : BarAt) (values : List Bool) (seen m val
       (gather_line s.seat (record_in s) l.valid op.comm m small l.member.below (InBarrier seen 0 here.2))
       (gather_line s.seat late l.valid op.comm m small l.member.below (InBarrier (seen + 1) 0 refl))
 
-  vain_record : slice_index saw.words (op.comm / 8) ≢ value → record_in t ≡ record_in s
-  vain_record other =
+  failed_record : slice_index saw.words (op.comm / 8) ≢ value → record_in t ≡ record_in s
+  failed_record other =
       let small = l.stands.below in
       let low : op.comm / 8 < 2 = omega (arith, small) in
       let present = present_is s.seat.setup op.comm small l.stands.present in
-      let own = gather_vain s.seat (record_in s) l.valid op.comm m seen (slice_index saw.words (op.comm / 8)) present l.member.below
+      let own = gather_failed s.seat (record_in s) l.valid op.comm m seen (slice_index saw.words (op.comm / 8)) present l.member.below
       (root_leads s.seat.setup op.comm s.seat.rank (seen + 1) m l.member here.0) l.member.placed here.2 (λ q. other (q ∙ sym wanted)) in
       let line = gather_line s.seat (record_in s) l.valid op.comm m small l.member.below (InBarrier seen 0 here.2) in
       record_did s (loads_of (line_of_word (gather_word s.seat op.comm m)) saw.words) t saw.looks.did
@@ -92,7 +92,7 @@ module _ (s : Sight) (c : Private) (op : BarAt) (values : List Bool) (seen m val
   gather_waited : slice_index saw.words (op.comm / 8) ≢ value → BarStands t d op values × BarTurned (meeting s c op values) (meeting t d op values) (turn.Waiting (Flag (gather_word s.seat op.comm m) 0))
   gather_waited other =
       let small = l.stands.below in
-      let rec = vain_record other in
+      let rec = failed_record other in
       let flips = ap (λ (r : Record). r.flips) rec in
       let low : op.comm / 8 < 4 = omega (arith, small) in (
         stands_next l.stands t d op values seat_same (fills_out saw.looks.fills) refl (parity_kept (record_in s) (record_in t) values l.stands.parity flips)
@@ -101,7 +101,7 @@ module _ (s : Sight) (c : Private) (op : BarAt) (values : List Bool) (seen m val
           events = loads_of (line_of_word (gather_word s.seat op.comm m)) saw.words;
           did = saw.looks.did;
           does = does_look;
-          tried = vain_look (gather_word s.seat op.comm m) (flag_value (value_at values op.comm)) saw.words low (λ q. other (q ∙ sym l.waits_for)) aims;
+          tried = failed_look (gather_word s.seat op.comm m) (flag_value (value_at values op.comm)) saw.words low (λ q. other (q ∙ sym l.waits_for)) aims;
           same = refl;
           means = (refl, rec);
           flips = flips ∙ ap (λ (x : BarStage). flips_by op.comm x (record_in s).flips) (sym l.stage);

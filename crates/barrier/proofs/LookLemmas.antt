@@ -7,7 +7,7 @@ use Rattle.scc_base.specs.declared.events.Spot.TheVariants.{Flag}
 use Rattle.scc_proto.specs.Drafts.{is_draft}
 use Rattle.scc_proto.proofs.Tests.{eqb_other}
 use Rattle.put_get.specs.Accesses.{loads_of}
-use Rattle.sync_flags.specs.Tries.{Aim, AtWord, Tried, Vain, Fruitful}
+use Rattle.sync_flags.specs.Tries.{Aim, AtWord, Tried, Failed, Fruitful}
 use Rattle.sync_flags.proofs.RowLemmas.{word_tried}
 use Rattle.barrier.proofs.StageLemmas.{same_by}
 
@@ -15,11 +15,11 @@ use Rattle.barrier.proofs.StageLemmas.{same_by}
 pub loads_no_draft : (s : SetupView) (line : LineAt) (words : List ℕ) → list_any (is_draft s) (loads_of line words) ≡ false
 loads_no_draft s line words = refl
 
-pub vain_look : {aim : Option Aim} (p : WordAt) (value : ℕ) (words : List ℕ) → p.word < 4 → slice_index words p.word ≢ value → aim ≡ Some (AtWord p value)
+pub failed_look : {aim : Option Aim} (p : WordAt) (value : ℕ) (words : List ℕ) → p.word < 4 → slice_index words p.word ≢ value → aim ≡ Some (AtWord p value)
     → Tried aim (loads_of (line_of_word p) words) (Some (Flag p 0))
-vain_look p value words low other aims =
+failed_look p value words low other aims =
     let one = word_tried p value words low in
-    Vain (AtWord p value) aims one.0 (one.1 ∙ ap (λ (b : Bool). not b) (eqb_other (slice_index words p.word) value other)) refl
+    Failed (AtWord p value) aims one.0 (one.1 ∙ ap (λ (b : Bool). not b) (eqb_other (slice_index words p.word) value other)) refl
 
 pub fruitful_look : {aim : Option Aim} (p : WordAt) (value : ℕ) (words : List ℕ) → p.word < 4 → slice_index words p.word ≡ value → aim ≡ Some (AtWord p value)
     → Tried aim (loads_of (line_of_word p) words) None

@@ -6,7 +6,7 @@ use Rattle.scc_base.specs.declared.events.Event.{Event}
 use Rattle.scc_proto.specs.Stages.{Idle}
 use Rattle.scc_proto.specs.Ports.{Seat, Did, record_in}
 use Rattle.sync_flags.specs.Flags.{flag_value}
-use Rattle.sync_flags.specs.Tries.{Aim, AtWord, spot_of, vain_tries, TriedInVain}
+use Rattle.sync_flags.specs.Tries.{Aim, AtWord, spot_of, failed_tries, TryFailed}
 use Rattle.barrier.specs.declared.barriers.BarStop.{BarStop}
 use Rattle.barrier.specs.declared.barriers.BarStop.TheVariants.{Stalled}
 use Rattle.barrier.specs.Flags.{IsParityOf, value_at, release_word}
@@ -29,8 +29,8 @@ pub record Finishes (old : Member) (now : ParityHolder) : Type 0 where
   -- the own gather flag of this communicator was flipped once, unless the barrier was entered before
   pub flips : (record_in now.sight).flips ≡ flips_by old.op.comm old.op.stage (record_in old.sight).flips
   pub rest : KeepsAllButBarriers (record_in old.sight) (record_in now.sight)
-  pub no_vain : (place : WordAt) → MayEndAt old.sight.seat old.op.comm place
-      → vain_tries (AtWord place (flag_value (value_at now.parity old.op.comm))) events ≡ 0
+  pub none_failed : (place : WordAt) → MayEndAt old.sight.seat old.op.comm place
+      → failed_tries (AtWord place (flag_value (value_at now.parity old.op.comm))) events ≡ 0
 
 -- the call gave up: the barrier that is handed back stands where the record stands, and the last looks, as many as
 -- were allowed, were vain at the flag where it stands
@@ -47,7 +47,7 @@ pub record Stalls (old : Member) (polls : ℕ) (rank : ParityHolder) (stop : Bar
   pub call_left : bar_call now ≡ bar_call old.op
   pub flips : (record_in rank.sight).flips ≡ flips_by old.op.comm old.op.stage (record_in old.sight).flips
   pub rest : KeepsAllButBarriers (record_in old.sight) (record_in rank.sight)
-  pub vain : TriedInVain aim polls events
+  pub failed : TryFailed aim polls events
 
 -- what a call comes to
 abbrev pub Ends : Member → ℕ → ParityHolder → Result Unit BarStop → Type 0

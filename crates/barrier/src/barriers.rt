@@ -32,14 +32,14 @@ pub fn barrier<V: Evict, P: Port>(
         (with_parity (P.sight port.new) core.new parity.new) result }
 {
     let mut op = op;
-    let mut vain: u32 = 0;
+    let mut failed: u32 = 0;
     'turns: loop {
         match op.turn(core, port, parity) {
             Turn::Done => return Ok(()),
-            Turn::Moved => vain = 0,
+            Turn::Moved => failed = 0,
             Turn::Waiting(spot) => {
-                vain += 1;
-                if vain >= polls {
+                failed += 1;
+                if failed >= polls {
                     return Err(BarStop::Stalled { op, spot, polls });
                 }
             }

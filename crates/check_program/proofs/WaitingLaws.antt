@@ -77,7 +77,7 @@ module _ (keys : ℕ → ℕ → ℕ) (ends : List Ended) (rank : ℕ) where
   end_peer (ue_end.Mismatch line from sent asked) slot is has way = (refl, tt)
 
   pub waits_peer : IsExplained keys ends rank → (is_some (waits_for keys ends rank) ≡ is_waiting (ended_at ends rank).end) × IfSome (waits_for keys ends rank) (λ k. IsPeer (length ends) rank k)
-  waits_peer is = end_peer (ended_at ends rank).end (ended_at ends rank).on_its_way refl is.cause is.on_its_way
+  waits_peer is = end_peer (ended_at ends rank).end (ended_at ends rank).in_flight refl is.cause is.in_flight
 
 -- the same, where the ends are those of a script, and the answer is a call's
 pub answer_peer : (keys : ℕ → ℕ → ℕ) (ends meant : List Ended) (nue rank : ℕ) (result : Option ℕ) → ends ≡ meant → length ends ≡ nue → IsExplained keys meant rank → result ≡ waits_for keys ends rank

@@ -44,7 +44,7 @@ waits_by_end keys ends rank slot (ue_end.Mismatch line from sent asked) = None
 
 -- the rank that a rank waits for, if it waits
 abbrev pub waits_for : (ℕ → ℕ → ℕ) → List Ended → ℕ → Option ℕ
-waits_for keys ends rank = waits_by_end keys ends rank (ended_at ends rank).on_its_way (ended_at ends rank).end
+waits_for keys ends rank = waits_by_end keys ends rank (ended_at ends rank).in_flight (ended_at ends rank).end
 
 -- whether a rank waits
 abbrev pub is_waiting : UeEnd → Bool

@@ -43,11 +43,11 @@ fn wait_of(end: &End, scripts: &Scripts, rank: Rank) -> Option<Rank>
 fn waits_at(end: &End, scripts: &Scripts, rank: Rank, call: &Call) -> Option<Rank>
     requires ranks { length end.now ≡ scripts.now.nue }
     requires below { rank < scripts.now.nue }
-    ensures { result ≡ waits_by_call (keys_of scripts.now) end.now rank (ended_at end.now rank).on_its_way call.now }
+    ensures { result ≡ waits_by_call (keys_of scripts.now) end.now rank (ended_at end.now rank).in_flight call.now }
 {
     match call {
         Call::Send { to, .. } | Call::Post { to, .. } => {
-            Some(end.on_its_way(rank).unwrap_or(*to))
+            Some(end.in_flight(rank).unwrap_or(*to))
         }
         Call::Recv { from, .. } => Some(*from),
         Call::Bar { comm } => {

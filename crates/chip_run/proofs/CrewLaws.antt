@@ -13,7 +13,7 @@ use Rattle.scc_mesh.specs.Turns.{IsTurned}
 use Rattle.chip_run.specs.declared.rests.Rest.{Rest}
 use Rattle.chip_run.specs.declared.rests.Rest.TheVariants as rest
 use Rattle.chip_run.specs.Crews.{AllFinished, AllRest, CrewStands, CrewGoesOn, IsCrew, OneTurn, OneUnfinished, SweepStands, SweptTo, WorkerRests, all_left, end_by}
-use Rattle.chip_run.specs.Conducts.{Conduct, Later, NoTurn, Moving, Staying, WorkerView}
+use Rattle.chip_run.specs.Behaves.{Behaviour, Later, NoTurn, Moving, Staying, WorkerView}
 use Rattle.chip_run.specs.Turns.{TurnCameTo, HasStayed, RestsAt, both_rest}
 use Rattle.chip_run.proofs.LaterLaws.{later_both}
 use Rattle.chip_run.proofs.ServedLaws.{one_entry, sum_set}
@@ -34,7 +34,7 @@ rests_kept false s old now k w like (inr waits) = inr (record {
   waits = waits.waits;
 })
 
-module _ {A : Type 0} (c : Conduct A) where
+module _ {A : Type 0} (c : Behaviour A) where
   pub goes_on_self : (chip : ChipView) (crew : List A) → CrewGoesOn c chip crew chip crew
   goes_on_self chip crew = record { about = refl; table = refl; count = refl; each = λ k d low. NoTurn; left = omega arith }
 
@@ -199,7 +199,7 @@ module _ {A : Type 0} (c : Conduct A) where
         → SweptTo c (both_rest before came) (at + 1) start first now later
     swept_on start first before goes swept = swept_by start first before came goes swept turn.turned.comes
 
-module _ {A : Type 0} (c : Conduct A) where
+module _ {A : Type 0} (c : Behaviour A) where
   pub stands_first : (chip : ChipView) (crew : List A) → IsCrew c chip crew → CrewStands c chip crew chip crew
   stands_first chip crew is = record { is_crew = is; goes = goes_on_self c chip crew }
 

@@ -22,7 +22,7 @@ use Rattle.scc_mesh.specs.Turns.{IsTurned, Saw}
 use Rattle.scc_mesh.proofs.LookLaws.{saw_later}
 use Rattle.scc_mesh.proofs.PortEnds.{chip_ends}
 use Rattle.scc_mesh.proofs.TurnLaws.{turn_leaves}
-use Rattle.chip_run.specs.Conducts.{Conduct, WorkerView}
+use Rattle.chip_run.specs.Behaves.{Behaviour, WorkerView}
 use Rattle.chip_run.specs.Turns.{HasStayed, HasWaited, IsDone, WantsNothing, LookedAt, NoneElseHolds, OwnTurn, Turned, TurnedAtHome, TurnMeans, WaitsThen, rest_by}
 use Rattle.chip_run.specs.Wants.{Want}
 use Rattle.chip_run.specs.declared.rests.Rest.{Rest}
@@ -44,13 +44,13 @@ pub look_later : (P Q : List Event → Event → Type 0) → ((own : List Event)
 look_later P Q turns s r own events n look = record {
   before = look.before;
   look = look.look;
-  behind = look.behind;
+  afterwards = look.afterwards;
   is = look.is;
   step = turns (own ++ look.before) look.look look.step;
   waits = look.waits;
 }
 
-means_later : {A : Type 0} (c : Conduct A) (P Q : List Event → Event → Type 0) → ((own : List Event) (e : Event) → P own e → Q own e) → (s : SetupView) (r : ℕ) (own events : List Event) (old new : A) (answer : Turn)
+means_later : {A : Type 0} (c : Behaviour A) (P Q : List Event → Event → Type 0) → ((own : List Event) (e : Event) → P own e → Q own e) → (s : SetupView) (r : ℕ) (own events : List Event) (old new : A) (answer : Turn)
     → TurnMeans c P s r own events old new answer → TurnMeans c Q s r own events old new answer
 means_later c P Q turns s r own events old new turn.Moved means = means
 means_later c P Q turns s r own events old new (turn.Waiting spot) means = record {
@@ -65,7 +65,7 @@ means_later c P Q turns s r own events old new turn.Done means = means
 -- a look among the events of a turn that stored nothing: the words at the look agreed with records that are alike to those behind
 -- the turn
 module _ (chip now : ChipView) (r : ℕ) (is : IsTurned chip r now) (events : List Event) (longer : events_in now r ≡ events_in chip r ++ events)
-    (beyond : (q : ℕ) → (about_in now).nue ≤ q → events_in now q ≡ []) (before behind : List Event) (look : Event) (parts : events ≡ before ++ look ∷ behind)
+    (beyond : (q : ℕ) → (about_in now).nue ≤ q → events_in now q ≡ []) (before afterwards : List Event) (look : Event) (parts : events ≡ before ++ look ∷ afterwards)
     (rests : list_all is_resting events ≡ true) (stayed : Like (record_of (about_in now) r (events_in chip r)) (record_of (about_in now) r (events_in chip r ++ events)))
     (was : WasStep (about_in now) (home_in now) r (events_in chip r ++ before) look) where
   abbrev own : List Event
@@ -77,11 +77,11 @@ module _ (chip now : ChipView) (r : ℕ) (is : IsTurned chip r now) (events : Li
   -- the record before the look is alike
   like_before : Like rec (record_of (about_in now) r (own ++ before))
   like_before =
-      let (front, rest) = both_pass before (look ∷ behind) (subst (λ (es : List Event). list_all is_resting es ≡ true) parts rests) in
-      let whole : Like rec (record_from (about_in now) r rec (before ++ look ∷ behind)) =
-      subst (λ (x : Record). Like rec x) (ap (λ (es : List Event). record_of (about_in now) r (own ++ es)) parts ∙ record_split (about_in now) r own (before ++ look ∷ behind)) stayed in
+      let (front, rest) = both_pass before (look ∷ afterwards) (subst (λ (es : List Event). list_all is_resting es ≡ true) parts rests) in
+      let whole : Like rec (record_from (about_in now) r rec (before ++ look ∷ afterwards)) =
+      subst (λ (x : Record). Like rec x) (ap (λ (es : List Event). record_of (about_in now) r (own ++ es)) parts ∙ record_split (about_in now) r own (before ++ look ∷ afterwards)) stayed in
       subst (λ (x : Record). Like rec x) (sym (record_split (about_in now) r own before))
-      (resting_part (about_in now) r rec before (look ∷ behind) front rest whole)
+      (resting_part (about_in now) r rec before (look ∷ afterwards) front rest whole)
 
   mine : Like (record_of (about_in now) r (was.lists r)) (records_in now r)
   mine =
@@ -111,22 +111,22 @@ module _ (chip now : ChipView) (r : ℕ) (is : IsTurned chip r now) (events : Li
       (λ t ne. subst (λ (es : List Event). Like (record_of (about_in now) j (was.lists j)) (record_of (about_in now) j es)) (same_list j ne) (like_self (record_of (about_in now) j (was.lists j))))
 
 -- so a rank that a look showed to wait waits behind its turn
-pub waits_behind : (chip now : ChipView) (r : ℕ) → IsTurned chip r now → (events : List Event) → events_in now r ≡ events_in chip r ++ events
+pub waits_after : (chip now : ChipView) (r : ℕ) → IsTurned chip r now → (events : List Event) → events_in now r ≡ events_in chip r ++ events
     → ((q : ℕ) → (about_in now).nue ≤ q → events_in now q ≡ []) → NoneElseHolds (about_in chip) (records_in chip) r → list_all is_resting events ≡ true
     → Like (record_of (about_in now) r (events_in chip r)) (record_of (about_in now) r (events_in chip r ++ events)) → (n : Want)
     → LookedAt (Saw now r) (about_in now) r (events_in chip r) events n → WaitsThen (about_in now) (records_in now) r n
-waits_behind chip now r is events longer beyond free rests stayed n look =
+waits_after chip now r is events longer beyond free rests stayed n look =
     let was : WasStep (about_in now) (home_in now) r (events_in chip r ++ look.before) look.look = look.step.step in
     record {
       memory = was.memory;
       records = records_by (about_in now) was.lists;
       agrees = was.before.agree;
-      alike = alike_then chip now r is events longer beyond look.before look.behind look.look look.is rests stayed was;
+      alike = alike_then chip now r is events longer beyond look.before look.afterwards look.look look.is rests stayed was;
       waits = look.waits was.memory (records_by (about_in now) was.lists) was.before.agree (ap (record_of (about_in now) r) was.own)
-          (none_else chip now r is events longer beyond look.before look.behind look.look look.is rests stayed was free) was.step;
+          (none_else chip now r is events longer beyond look.before look.afterwards look.look look.is rests stayed was free) was.step;
     }
 
-module _ {A : Type 0} (c : Conduct A) where
+module _ {A : Type 0} (c : Behaviour A) where
   own_turn_of : (chip now : ChipView) (r later hold name : ℕ) (w x : A) (answer : Turn) → IsWhole chip → r < (about_in chip).nue → is_port_of now later ≡ true
       → Turned c (WasSeatStep (sight_in chip r hold).seat) w (sight_in chip r hold) x (sight_in now later name) answer
       → c.tied x (about_in now) later (events_in now later) → OwnTurn c chip r w now x answer
@@ -204,7 +204,7 @@ module _ {A : Type 0} (c : Conduct A) where
     stayed_waits free waited =
         subst (λ (v : WorkerView). WaitsThen s (records_in now) r v.want) (sym waited.seen)
         (subst (λ (y : SetupView). WaitsThen y (records_in now) r (c.seen s r w).want) is.about
-        (waits_behind chip now r is events longer beyond free waited.rests
+        (waits_after chip now r is events longer beyond free waited.rests
         (subst (λ (y : SetupView). Like (record_of y r (events_in chip r)) (record_of y r (events_in chip r ++ events))) (sym is.about) waited.alike) (c.seen s r w).want
         (subst (λ (y : SetupView). LookedAt (Saw now r) y r (events_in chip r) events (c.seen s r w).want) (sym is.about) waited.look)))
 

@@ -1,8 +1,8 @@
 -- A worker after some turns, and what all turns keep.
 use Rattle.std.proofs.Common.{◌≡◌, refl, ◌∙◌}
-use Rattle.chip_run.specs.Conducts.{Conduct, Later, NoTurn, Moving, Staying}
+use Rattle.chip_run.specs.Behaves.{Behaviour, Later, NoTurn, Moving, Staying}
 
-module _ {A : Type 0} (c : Conduct A) where
+module _ {A : Type 0} (c : Behaviour A) where
   -- and after some more
   pub later_both : (old mid new : A) → Later c old mid → Later c mid new → Later c old new
   later_both old mid _ one NoTurn = one

@@ -4,10 +4,10 @@ pub mod LaterLaws
 pub mod HomeTurns
 pub mod CrewLaws
 pub mod CrewHands
-pub mod RowLaws
+pub mod SliceLaws
 pub mod ServedLaws
 pub mod MemberLaws
-pub mod MemberStretches
+pub mod MemberBatches
 pub mod ThreadLaws
 pub mod TogetherLaws
 pub mod OrderLaws
@@ -15,4 +15,4 @@ pub mod RunLaws
 pub mod RestLaws
 pub mod Offers
 pub mod CrewGrowth
-pub mod VainLaws
+pub mod FailedLaws

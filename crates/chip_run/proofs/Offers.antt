@@ -10,8 +10,8 @@ use Rattle.scc_proto.specs.Messages.{Notes, Message, Progress, fresh_message, is
 use Rattle.scc_proto.specs.Pairs.{Offering, Receiving, sending_side, taking_side, message_so_far, pending, settling, HasArrived, Pair, pair_of, Phase, InRest, InRaised, InTaken, InReady}
 use Rattle.scc_proto.specs.Passed.{slot_by, slot_of}
 use Rattle.scc_proto.specs.Records.{chunk_of}
-use Rattle.scc_proto.specs.Singles.{is_free, IsPosted, IsOnItsWay}
-use Rattle.scc_proto.specs.Stages.{Raised, Stage, Idle, Drafting, Sending, Between, Taking, Barrier, OnItsWay, Record}
+use Rattle.scc_proto.specs.Singles.{is_free, IsPosted, IsInFlight}
+use Rattle.scc_proto.specs.Stages.{Raised, Stage, Idle, Drafting, Sending, Between, Taking, Barrier, InFlight, Record}
 use Rattle.scc_proto.specs.Views.{view_of}
 use Rattle.scc_proto.specs.Words.{Memory}
 use Rattle.scc_proto.proofs.Pairs.OfferFacts.{posted_last}
@@ -40,10 +40,10 @@ module _ (size : ℕ) (x : Pair) (a p : Bool) (m : Progress) (c : Notes) (is : x
 
   -- a chunk whose `ready` is not set
   pub out_by : x.ready_flag ≢ 1 → Phase size x → IsOut size x p m c
-  out_by vain (InRest through q) = absurd (cc (q.sending, is))
-  out_by vain (InRaised through head b w q) = raised_out through head b w q.sent_flag (sym q.sending ∙ is) q.level
-  out_by vain (InTaken message b w words q) = taken_out message b w words q.taking (sym q.sending ∙ is) q.level
-  out_by vain (InReady through answered b message w q) = absurd (vain q.ready_flag)
+  out_by failed (InRest through q) = absurd (cc (q.sending, is))
+  out_by failed (InRaised through head b w q) = raised_out through head b w q.sent_flag (sym q.sending ∙ is) q.level
+  out_by failed (InTaken message b w words q) = taken_out message b w words q.taking (sym q.sending ∙ is) q.level
+  out_by failed (InReady through answered b message w q) = absurd (failed q.ready_flag)
 
   -- a chunk that is the last of a posted message, which is not received yet
   pub posted_out : p ≡ true → is_last size m ≡ true → length x.received ≢ length x.sent → Phase size x → IsOut size x p m c
@@ -79,7 +79,7 @@ looking_awaits from (Taking i message chunk) looks m w is = looks
 looking_awaits from (Barrier comm seen released) looks m w is = looks
 
 -- the side of a posted message where nothing else is being sent
-pub free_side : (st : Stage) (post : OnItsWay) → is_free st ≡ true → sending_side post.to st (Some post) ≡ Offering post.is_answered true (fresh_message post.head) post.chunk
+pub free_side : (st : Stage) (post : InFlight) → is_free st ≡ true → sending_side post.to st (Some post) ≡ Offering post.is_answered true (fresh_message post.head) post.chunk
 free_side Idle post free = post_here post.to post (eqb_same post.to)
 free_side (Drafting header chunk) post free = absurd (cc (free))
 free_side (Sending to part message chunk) post free = absurd (cc (free))
@@ -88,20 +88,20 @@ free_side (Taking from message chunk) post free = post_here post.to post (eqb_sa
 free_side (Barrier comm seen released) post free = post_here post.to post (eqb_same post.to)
 
 -- the message that a posted one is in its slot
-abbrev pub message_on : SetupView → OnItsWay → Outgoing
+abbrev pub message_on : SetupView → InFlight → Outgoing
 message_on s post = record { to = post.to; head = post.head; bytes = (with_chunk (chunk_of s) (fresh_message post.head) post.chunk).bytes }
 
 module _ (s : SetupView) (memory : Memory) (records : ℕ → Record) (agrees : Agrees s memory records) where
   abbrev pub pair : ℕ → ℕ → Pair
   pair i j = pair_of i j (view_of s memory) (records i) (records j)
 
-  posted_is : (k : ℕ) → k < s.nue → (post : OnItsWay) → (records k).post ≡ Some post → IsOnItsWay s k (records k).stage post
+  posted_is : (k : ℕ) → k < s.nue → (post : InFlight) → (records k).post ≡ Some post → IsInFlight s k (records k).stage post
   posted_is k low post is = subst (IsPosted s k (records k).stage) is (agrees.singles.0 k low).post
 
-  pub slot_full : (k : ℕ) (post : OnItsWay) → (records k).post ≡ Some post
+  pub slot_full : (k : ℕ) (post : InFlight) → (records k).post ≡ Some post
       → length (received_messages k (records post.to).calls) ≢ length (sent_messages post.to (records k).calls) → slot_of s records k ≡ Some (message_on s post)
   slot_full k post is apart =
-      ap (λ (o : Option OnItsWay). slot_by (chunk_of s) k o records) is
+      ap (λ (o : Option InFlight). slot_by (chunk_of s) k o records) is
       ∙ ap (λ (b : Bool). if b then None else Some (message_on s post))
       (eqb_other (length (received_messages k (records post.to).calls)) (length (sent_messages post.to (records k).calls)) apart)
 
@@ -111,13 +111,13 @@ module _ (s : SetupView) (memory : Memory) (records : ℕ → Record) (agrees : 
       let post = waits.post in
       let on = posted_is k low post waits.is_posted in
       let side : sending_side post.to (records k).stage (records k).post ≡ Offering post.is_answered true (fresh_message post.head) post.chunk =
-      ap (λ (o : Option OnItsWay). sending_side post.to (records k).stage o) waits.is_posted ∙ free_side (records k).stage post on.free in
-      let out = out_by (chunk_of s) (pair k post.to) post.is_answered true (fresh_message post.head) post.chunk side waits.vain (agrees.pairs k post.to on.peers) in
+      ap (λ (o : Option InFlight). sending_side post.to (records k).stage o) waits.is_posted ∙ free_side (records k).stage post on.free in
+      let out = out_by (chunk_of s) (pair k post.to) post.is_answered true (fresh_message post.head) post.chunk side waits.failed (agrees.pairs k post.to on.peers) in
       slot_full k post waits.is_posted (one_ahead (chunk_of s) (pair k post.to) (fresh_message post.head) post.chunk out)
 
   -- what a full slot shows of its pair
   pub record FullSlot (i : ℕ) (m : Outgoing) : Type 0 where
-    pub post : OnItsWay
+    pub post : InFlight
     pub is_posted : (records i).post ≡ Some post
     pub free : is_free (records i).stage ≡ true
     pub message_is : message_on s post ≡ m
@@ -126,14 +126,14 @@ module _ (s : SetupView) (memory : Memory) (records : ℕ → Record) (agrees : 
   pub full_slot : (i : ℕ) → i < s.nue → (m : Outgoing) → slot_of s records i ≡ Some m → FullSlot i m
   full_slot i low m full = by (records i).post refl full
     where
-      by_test : (post : OnItsWay) (b : Bool) → (records i).post ≡ Some post
+      by_test : (post : InFlight) (b : Bool) → (records i).post ≡ Some post
           → (length (received_messages i (records post.to).calls) == length (sent_messages post.to (records i).calls)) ≡ b
           → (if b then None else Some (message_on s post)) ≡ Some m → FullSlot i m
       by_test post true is test e = absurd (cc (e))
       by_test post false is test e =
           let on = posted_is i low post is in
           let side : sending_side post.to (records i).stage (records i).post ≡ Offering post.is_answered true (fresh_message post.head) post.chunk =
-          ap (λ (o : Option OnItsWay). sending_side post.to (records i).stage o) is ∙ free_side (records i).stage post on.free in
+          ap (λ (o : Option InFlight). sending_side post.to (records i).stage o) is ∙ free_side (records i).stage post on.free in
           record {
             post = post;
             is_posted = is;
@@ -146,7 +146,7 @@ module _ (s : SetupView) (memory : Memory) (records : ℕ → Record) (agrees : 
           apart : (n k : ℕ) → (n == k) ≡ false → n ≢ k
           apart n k t = λ is. absurd (grind (arith, nat_tests))
 
-      by : (o : Option OnItsWay) → (records i).post ≡ o → slot_by (chunk_of s) i o records ≡ Some m → FullSlot i m
+      by : (o : Option InFlight) → (records i).post ≡ o → slot_by (chunk_of s) i o records ≡ Some m → FullSlot i m
       by None is e = absurd (cc (e))
       by (Some post) is e = by_test post (length (received_messages i (records post.to).calls) == length (sent_messages post.to (records i).calls)) is refl e
 
@@ -155,7 +155,7 @@ module _ (s : SetupView) (memory : Memory) (records : ℕ → Record) (agrees : 
       → TakeWaits s (view_of s memory) j i (records j) → ⊥
   no_take i j p m c out takes =
       ⊎_elim
-      (λ (flag : (view_of s memory).signal Sent i j ≡ 1). takes.vain flag)
+      (λ (flag : (view_of s memory).signal Sent i j ≡ 1). takes.failed flag)
       (λ (taken : (words : Notes) × (taking_side i (records j).stage ≡ Receiving m words)). looking_awaits i (records j).stage takes.stage m taken.0 taken.1)
       out.seen
 
@@ -173,4 +173,4 @@ module _ (s : SetupView) (memory : Memory) (records : ℕ → Record) (agrees : 
   raise_out i to head waits =
       let side : sending_side to (records i).stage (records i).post ≡ Offering false false waits.message waits.chunk =
       ap (λ (st : Stage). sending_side to st (records i).post) waits.stage ∙ sending_here to to Raised waits.message waits.chunk (records i).post (itself to) in
-      out_by (chunk_of s) (pair i to) false false waits.message waits.chunk side waits.vain (agrees.pairs i to waits.peers)
+      out_by (chunk_of s) (pair i to) false false waits.message waits.chunk side waits.failed (agrees.pairs i to waits.peers)

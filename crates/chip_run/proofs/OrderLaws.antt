@@ -5,7 +5,7 @@ use Rattle.scc_mesh.specs.Scenes.{ChipView}
 use Rattle.chip_run.specs.declared.rests.Rest.{Rest}
 use Rattle.chip_run.specs.Crews.{CrewStands, IsCrew, OneTurn}
 use Rattle.chip_run.specs.Orders.{TurnsOf, generator_after, named_ranks, sweeps_of}
-use Rattle.chip_run.specs.Conducts.{Conduct}
+use Rattle.chip_run.specs.Behaves.{Behaviour}
 use Rattle.chip_run.proofs.CrewLaws.{stands_both, stands_first, stands_on}
 
 module _ {G : Type 0} (step : G → ℕ × G) (nue : ℕ) where
@@ -33,7 +33,7 @@ module _ {G : Type 0} (step : G → ℕ × G) (nue : ℕ) where
   unfolding generator_after
   none_drawn g = refl
 
-module _ {A : Type 0} (c : Conduct A) where
+module _ {A : Type 0} (c : Behaviour A) where
   pub turns_then : (one two : List ℕ) (chip mid now : ChipView) (crew some later : List A) → TurnsOf c one chip crew mid some → TurnsOf c two mid some now later
       → TurnsOf c (one ++ two) chip crew now later
   turns_then [] two chip mid now crew some later (same, members) rest =
@@ -69,13 +69,13 @@ range_more a (suc n) j is =
     ap (λ (k : ℕ). range_with_len a k) e ∙ ap (λ (l : List ℕ). a ∷ l) (range_more (a + 1) n j (omega (arith, is)))
 
 -- one turn more, in rank order
-pub turns_next : {A : Type 0} (c : Conduct A) (at : ℕ) (chip mid now : ChipView) (crew some later : List A) (came : Rest) → TurnsOf c (range_with_len 0 at) chip crew mid some
+pub turns_next : {A : Type 0} (c : Behaviour A) (at : ℕ) (chip mid now : ChipView) (crew some later : List A) (came : Rest) → TurnsOf c (range_with_len 0 at) chip crew mid some
     → OneTurn c mid some at now later came → TurnsOf c (range_with_len 0 (at + 1)) chip crew now later
 turns_next c at chip mid now crew some later came turns turn =
     subst (λ (l : List ℕ). TurnsOf c l chip crew now later) (sym (range_more 0 at at (omega arith)))
     (turns_then c (range_with_len 0 at) (at ∷ []) chip mid now crew some later turns (one_turn c at mid now some later came turn))
 
-module _ {A G : Type 0} (c : Conduct A) (step : G → ℕ × G) (nue : ℕ) where
+module _ {A G : Type 0} (c : Behaviour A) (step : G → ℕ × G) (nue : ℕ) where
   pub none_picked : (g : G) (chip : ChipView) (crew : List A) → TurnsOf c (named_ranks step nue 0 g) chip crew chip crew
   unfolding named_ranks
   none_picked g chip crew = (refl, refl)

@@ -10,8 +10,8 @@ use Rattle.chip_run.specs.declared.runs.Rounds.{Rounds}
 use Rattle.chip_run.specs.declared.runs.Rounds.TheVariants as rounds
 use Rattle.chip_run.specs.Orders.{TurnsOf, generator_after, drawn_in, named_ranks, ranks_by}
 use Rattle.chip_run.specs.Marks.{ThreadsAfter, AsksNext, MarkFacts, threads_of}
-use Rattle.chip_run.specs.Runs.{InOrder, IsInThreads, NextRound, RoundsTo, RowsTo, TookRows, rounds_of}
-use Rattle.chip_run.specs.Conducts.{Conduct}
+use Rattle.chip_run.specs.Runs.{InOrder, IsInThreads, NextRound, RoundsTo, SlicesTo, TookSlices, rounds_of}
+use Rattle.chip_run.specs.Behaves.{Behaviour}
 use Rattle.chip_run.proofs.OrderLaws.{turns_then}
 
 module _ {G : Type 0} (step : G → ℕ × G) (nue : ℕ) where
@@ -31,7 +31,7 @@ module _ {G : Type 0} (step : G → ℕ × G) (nue : ℕ) where
   unfolding drawn_in
   more_drawn n g = let e : n + 1 ≡ suc n = omega arith in ap (λ (k : ℕ). drawn_in step nue k g) e
 
-module _ {A : Type 0} (c : Conduct A) where
+module _ {A : Type 0} (c : Behaviour A) where
   pub no_rounds : (way : Rounds) (chip : ChipView) (crew : List A) → RoundsTo c way 0 way chip crew chip crew
   no_rounds rounds.InThreads chip crew = (refl, (refl, refl))
   no_rounds (rounds.Picked picks) chip crew = (
@@ -59,28 +59,28 @@ module _ {A : Type 0} (c : Conduct A) where
       )
 
   -- a round in threads, and the sweep behind it
-  rows_on : (n : ℕ) (chip mid half last : ChipView) (crew some more later : List A) → RowsTo c n chip crew mid some → TookRows c mid some half more
-      → TurnsOf c (range_with_len 0 (length more)) half more last later → RowsTo c (suc n) chip crew last later
-  rows_on n chip mid half last crew some more later before took sweep = (mid, some, half, more, before, took, sweep)
+  slices_on : (n : ℕ) (chip mid half last : ChipView) (crew some more later : List A) → SlicesTo c n chip crew mid some → TookSlices c mid some half more
+      → TurnsOf c (range_with_len 0 (length more)) half more last later → SlicesTo c (suc n) chip crew last later
+  slices_on n chip mid half last crew some more later before took sweep = (mid, some, half, more, before, took, sweep)
 
   pub rounds_on : (way old new : Rounds) (n : ℕ) (chip mid half last : ChipView) (crew some more later : List A) → RoundsTo c way n old chip crew mid some → NextRound c old new mid some half more
       → length some ≡ length crew → length more ≡ length some → TurnsOf c (range_with_len 0 (length more)) half more last later → RoundsTo c way (n + 1) new chip crew last later
   rounds_on rounds.InThreads old new n chip mid half last crew some more later (at, before) goes many same sweep =
       let (is, took) : NextRound c rounds.InThreads new mid some half more = subst (λ (w : Rounds). NextRound c w new mid some half more) at goes in
       let next : suc n ≡ n + 1 = omega arith in
-      (is, subst (λ (k : ℕ). RowsTo c k chip crew last later) next (rows_on n chip mid half last crew some more later before took sweep))
+      (is, subst (λ (k : ℕ). SlicesTo c k chip crew last later) next (slices_on n chip mid half last crew some more later before took sweep))
   rounds_on (rounds.Picked picks) old new n chip mid half last crew some more later (at, before) goes many same sweep =
       let now = drawn_in pcg32 (length crew) n picks in
       let (is, round) : NextRound c (rounds.Picked now) new mid some half more = subst (λ (w : Rounds). NextRound c w new mid some half more) at goes in
       picked_round n picks now new chip mid half last crew some more later refl before many same is round sweep
 
   pub ran_in_order : (way : Mode) (n : ℕ) (new : Rounds) (chip last : ChipView) (crew later : List A) → RoundsTo c (rounds_of way) n new chip crew last later → InOrder c way chip crew last later
-  ran_in_order mode.Threads n new chip last crew later (at, rows) = (n, rows)
+  ran_in_order mode.Threads n new chip last crew later (at, slices) = (n, slices)
   ran_in_order (mode.Serial seed) n new chip last crew later (at, turns) = (n, turns)
 
   -- rounds that begin in threads stay in threads
   pub threads_yet : (way new : Rounds) (n : ℕ) (chip last : ChipView) (crew later : List A) → RoundsTo c way n new chip crew last later → IsInThreads way → IsInThreads new
-  threads_yet rounds.InThreads new n chip last crew later (at, rows) so = subst IsInThreads (sym at) so
+  threads_yet rounds.InThreads new n chip last crew later (at, slices) so = subst IsInThreads (sym at) so
   threads_yet (rounds.Picked picks) new n chip last crew later (at, turns) so = absurd so
 
 -- one more round, and how many threads the next one asks for

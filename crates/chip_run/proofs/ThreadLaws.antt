@@ -4,27 +4,27 @@ use Rattle.scc_base.specs.Setups.{SetupView}
 use Rattle.scc_base.specs.declared.events.Event.{Event}
 use Rattle.scc_mesh.specs.Spaces.{ChipId}
 use Rattle.scc_mesh.specs.Scenes.{ChipView, IsWhole, about_in, events_in, table_in}
-use Rattle.chip_run.specs.Away.{IsAway, Served, TookRow}
-use Rattle.chip_run.specs.Conducts.{Conduct}
+use Rattle.chip_run.specs.Away.{IsAway, Served, TookSlice}
+use Rattle.chip_run.specs.Behaves.{Behaviour}
 use Rattle.chip_run.specs.Crews.{CrewStands, IsCrew}
 use Rattle.chip_run.specs.declared.members.Member.{Member}
 use Rattle.chip_run.proofs.ServedLaws.{sum_later}
 
-module _ {A : Type 0} (c : Conduct A) where
+module _ {A : Type 0} (c : Behaviour A) where
   -- a row between two moments at which the worker was the same
-  pub row_between : (s : SetupView) (rank : ℕ) (first before after last : A) → before ≡ first → TookRow c s rank before after → last ≡ after → TookRow c s rank first last
-  row_between s rank first before after last one row two = subst (TookRow c s rank first) (sym two) (subst (λ (w : A). TookRow c s rank w after) one row)
+  pub slice_between : (s : SetupView) (rank : ℕ) (first before after last : A) → before ≡ first → TookSlice c s rank before after → last ≡ after → TookSlice c s rank first last
+  slice_between s rank first before after last one slice two = subst (TookSlice c s rank first) (sym two) (subst (λ (w : A). TookSlice c s rank w after) one slice)
 
   -- no more turns are left behind a row
-  row_left_less : (s : SetupView) (rank : ℕ) (old new : A) → TookRow c s rank old new → (c.seen s rank new).left ≤ (c.seen s rank old).left
-  row_left_less s rank old new took =
+  slice_left_less : (s : SetupView) (rank : ℕ) (old new : A) → TookSlice c s rank old new → (c.seen s rank new).left ≤ (c.seen s rank old).left
+  slice_left_less s rank old new took =
       subst (λ (x : SetupView). (c.seen x rank new).left ≤ (c.seen x rank old).left) took.setup_is
-      (subst (λ (r : ℕ). (c.seen took.first.seat.setup r new).left ≤ (c.seen took.first.seat.setup r old).left) took.rank_is took.row.turns.left)
+      (subst (λ (r : ℕ). (c.seen took.first.seat.setup r new).left ≤ (c.seen took.first.seat.setup r old).left) took.rank_is took.slice.turns.left)
 
   -- a crew whose members each went on
   pub round_stands : (chip now : ChipView) (crew later : List A) → IsCrew c chip crew → IsWhole now → about_in now ≡ about_in chip → table_in now ≡ table_in chip → length later ≡ length crew
       → ((k : ℕ) (d : A) → k < length crew → c.tied (slice_index_or later k d) (about_in now) k (events_in now k))
-      → ((k : ℕ) (d : A) → k < length crew → TookRow c (about_in chip) k (slice_index_or crew k d) (slice_index_or later k d))
+      → ((k : ℕ) (d : A) → k < length crew → TookSlice c (about_in chip) k (slice_index_or crew k d) (slice_index_or later k d))
       → CrewStands c chip crew now later
   round_stands chip now crew later is_crew whole about table count ties goes = record {
     is_crew = record {
@@ -36,12 +36,12 @@ module _ {A : Type 0} (c : Conduct A) where
       about = about;
       table = table;
       count = count;
-      each = λ k d low. (goes k d low).row.turns.later;
+      each = λ k d low. (goes k d low).slice.turns.later;
       left = sum_later (λ k x. (c.seen (about_in chip) k x).left) 0 crew later count
           (λ k d low.
           let zeroth : 0 + k ≡ k = omega arith in
           subst (λ (n : ℕ). (c.seen (about_in chip) n (slice_index_or later k d)).left ≤ (c.seen (about_in chip) n (slice_index_or crew k d)).left) (sym zeroth)
-          (row_left_less (about_in chip) k (slice_index_or crew k d) (slice_index_or later k d) (goes k d low)));
+          (slice_left_less (about_in chip) k (slice_index_or crew k d) (slice_index_or later k d) (goes k d low)));
     };
   }
 

@@ -10,84 +10,84 @@ use Rattle.scc_mesh.specs.AwayRanks.{Away, Ticket}
 use Rattle.scc_mesh.specs.Scenes.{WasSeatStep, sight_away}
 use Rattle.scc_mesh.specs.Spaces.{ChipId}
 use Rattle.scc_mesh.proofs.PortEnds.{same_setup}
-use Rattle.chip_run.specs.Away.{IsAway, NextStretch, NoStretch, OneStretch, Served, Stretches, TookRow, vain_by}
-use Rattle.chip_run.specs.Conducts.{Conduct}
-use Rattle.chip_run.specs.Turns.{Stretched}
+use Rattle.chip_run.specs.Away.{IsAway, NextBatch, NoBatch, OneBatch, Served, Batches, TookSlice, failed_by}
+use Rattle.chip_run.specs.Behaves.{Behaviour}
+use Rattle.chip_run.specs.Turns.{TookBatch}
 use Rattle.chip_run.proofs.ServedLaws.{one_entry}
-use Rattle.chip_run.proofs.RowLaws.{RowOn, row_goes, row_is, so_far_first, turns_first}
+use Rattle.chip_run.proofs.SliceLaws.{SliceOn, slice_goes, slice_is, so_far_first, turns_first}
 
 -- a row of a rank that is away, behind some stretches
-record RowAway {A : Type 0} (c : Conduct A) (s : SetupView) (old : A) (first : Ticket) (new : A) (later : Option Ticket) (vain : ℕ) : Type 0 where
+record SliceAway {A : Type 0} (c : Behaviour A) (s : SetupView) (old : A) (first : Ticket) (new : A) (later : Option Ticket) (failed : ℕ) : Type 0 where
   last : Ticket
   is : later ≡ Some last
-  on : RowOn c (WasSeatStep (sight_away s first).seat) old (sight_away s first) new (sight_away s last) vain
+  on : SliceOn c (WasSeatStep (sight_away s first).seat) old (sight_away s first) new (sight_away s last) failed
 
 same_ticket : (some : Option Ticket) (one two : Ticket) → some ≡ Some one → some ≡ Some two → one ≡ two
 same_ticket some one two a b = cc (a, b)
 
-module _ {A : Type 0} (c : Conduct A) where
-  row_away_by : (s : SetupView) (old : A) (first : Ticket) (new : A) (later : Option Ticket) (vain : ℕ)
-      → Stretches c s old (Some first) 0 new later vain → RowAway c s old first new later vain
-  row_away_by s old first _ _ _ NoStretch = record {
+module _ {A : Type 0} (c : Behaviour A) where
+  slice_away_by : (s : SetupView) (old : A) (first : Ticket) (new : A) (later : Option Ticket) (failed : ℕ)
+      → Batches c s old (Some first) 0 new later failed → SliceAway c s old first new later failed
+  slice_away_by s old first _ _ _ NoBatch = record {
     last = first;
     is = refl;
     on = record { answers = []; turns = turns_first c (WasSeatStep (sight_away s first).seat) old (sight_away s first); so_far = so_far_first };
   }
-  row_away_by s old first new later now (OneStretch mid _ some _ half _ before next) =
-      let b = row_away_by s old first mid some half before in
+  slice_away_by s old first new later now (OneBatch mid _ some _ half _ before next) =
+      let b = slice_away_by s old first mid some half before in
       let same = same_ticket some next.first b.last next.before b.is in
       record {
         last = next.last;
-        is = next.behind;
-        on = row_goes c WasSeatStep b.on.answers half now old mid new (sight_away s first) (sight_away s b.last) (sight_away s next.last) next.answer next.going next.counts b.on.turns b.on.so_far
-            (subst (λ (t : Ticket). Stretched c (WasSeatStep (sight_away s t).seat) mid (sight_away s t) new (sight_away s next.last) next.answer) same next.stretched);
+        is = next.afterwards;
+        on = slice_goes c WasSeatStep b.on.answers half now old mid new (sight_away s first) (sight_away s b.last) (sight_away s next.last) next.answer next.going next.counts b.on.turns b.on.so_far
+            (subst (λ (t : Ticket). TookBatch c (WasSeatStep (sight_away s t).seat) mid (sight_away s t) new (sight_away s next.last) next.answer) same next.took_batch);
       }
 
   -- stretches and then more
-  pub stretches_both : (s : SetupView) (old mid : A) (token some : Option Ticket) (vain half : ℕ) → Stretches c s old token vain mid some half
-      → (new : A) (later : Option Ticket) (now : ℕ) → Stretches c s mid some half new later now → Stretches c s old token vain new later now
-  stretches_both s old mid token some vain half one _ _ _ NoStretch = one
-  stretches_both s old mid token some vain half one new later now (OneStretch k _ t _ n _ before next) =
-      OneStretch k new t later n now (stretches_both s old mid token some vain half one k t n before) next
+  pub batches_both : (s : SetupView) (old mid : A) (token some : Option Ticket) (failed half : ℕ) → Batches c s old token failed mid some half
+      → (new : A) (later : Option Ticket) (now : ℕ) → Batches c s mid some half new later now → Batches c s old token failed new later now
+  batches_both s old mid token some failed half one _ _ _ NoBatch = one
+  batches_both s old mid token some failed half one new later now (OneBatch k _ t _ n _ before next) =
+      OneBatch k new t later n now (batches_both s old mid token some failed half one k t n before) next
 
   -- stretches until a thousand turns in a row were vain, or the rank was over
-  pub took_row : (tied : SetupView → ℕ → List Event → Type 0) (s : SetupView) (table : ChipId) (rank : ℕ) (old new : A) (token later : Option Ticket) (now : ℕ)
-      → IsAway tied s table rank token → Stretches c s old token 0 new later now → 1000 ≤ now → TookRow c s rank old new
-  took_row tied s table rank old new None later now away went past = absurd away
-  took_row tied s table rank old new (Some first) later now away went past =
-      let row = row_away_by s old first new later now went in
+  pub took_slice : (tied : SetupView → ℕ → List Event → Type 0) (s : SetupView) (table : ChipId) (rank : ℕ) (old new : A) (token later : Option Ticket) (now : ℕ)
+      → IsAway tied s table rank token → Batches c s old token 0 new later now → 1000 ≤ now → TookSlice c s rank old new
+  took_slice tied s table rank old new None later now away went past = absurd away
+  took_slice tied s table rank old new (Some first) later now away went past =
+      let slice = slice_away_by s old first new later now went in
       record {
         first = sight_away s first;
-        last = sight_away s row.last;
+        last = sight_away s slice.last;
         setup_is = refl;
         rank_is = away.1;
-        row = record { answers = row.on.answers; is_row = row_is row.on.answers now past row.on.so_far; turns = row.on.turns };
+        slice = record { answers = slice.on.answers; is_slice = slice_is slice.on.answers now past slice.on.so_far; turns = slice.on.turns };
       }
 
   -- what a stretch did
-  pub stretch_did : (old new : A) (s t : Sight) (answer : Turn) → Stretched c (WasSeatStep s.seat) old s new t answer → (events : List Event) × Did s events t
-  stretch_did old new s t answer went =
-      let on = row_goes c WasSeatStep [] 0 (vain_by 1000 answer 0) old old new s s t answer (omega arith) refl (turns_first c (WasSeatStep s.seat) old s) so_far_first went in
+  pub batch_did : (old new : A) (s t : Sight) (answer : Turn) → TookBatch c (WasSeatStep s.seat) old s new t answer → (events : List Event) × Did s events t
+  batch_did old new s t answer went =
+      let on = slice_goes c WasSeatStep [] 0 (failed_by 1000 answer 0) old old new s s t answer (omega arith) refl (turns_first c (WasSeatStep s.seat) old s) so_far_first went in
       (on.turns.events, on.turns.did)
 
   -- a stretch through a port that was made of a token, and gave one back
-  pub next_stretch : (s : SetupView) (old new : A) (token : Option Ticket) (vain now : ℕ) (first last : Ticket) (port end : Away) (answer : Turn)
-      → vain < 1000 → token ≡ Some first → port ≡ record { about = s; ticket = first } → last ≡ end.ticket
-      → Stretched c (WasSeatStep (sight_away port.about port.ticket).seat) old (sight_away port.about port.ticket) new (sight_away end.about end.ticket) answer
-      → now ≡ vain_by 1000 answer vain → NextStretch c s old token vain new (Some last) now
-  next_stretch s old new token vain now first last port end answer low is from back went counts =
-      let did = stretch_did old new (sight_away port.about port.ticket) (sight_away end.about end.ticket) answer went in
+  pub next_batch : (s : SetupView) (old new : A) (token : Option Ticket) (failed now : ℕ) (first last : Ticket) (port end : Away) (answer : Turn)
+      → failed < 1000 → token ≡ Some first → port ≡ record { about = s; ticket = first } → last ≡ end.ticket
+      → TookBatch c (WasSeatStep (sight_away port.about port.ticket).seat) old (sight_away port.about port.ticket) new (sight_away end.about end.ticket) answer
+      → now ≡ failed_by 1000 answer failed → NextBatch c s old token failed new (Some last) now
+  next_batch s old new token failed now first last port end answer low is from back went counts =
+      let did = batch_did old new (sight_away port.about port.ticket) (sight_away end.about end.ticket) answer went in
       let about : end.about ≡ s = same_setup port.about end.about port.ticket end.ticket did.0 did.1 ∙ ap (λ (p : Away). p.about) from in
       record {
         going = low;
         first = first;
         last = last;
         before = is;
-        behind = refl;
+        afterwards = refl;
         answer = answer;
-        stretched = subst (λ (t : Ticket). Stretched c (WasSeatStep (sight_away s first).seat) old (sight_away s first) new (sight_away s t) answer) (sym back)
-            (subst (λ (x : SetupView). Stretched c (WasSeatStep (sight_away s first).seat) old (sight_away s first) new (sight_away x end.ticket) answer) about
-            (subst (λ (p : Away). Stretched c (WasSeatStep (sight_away p.about p.ticket).seat) old (sight_away p.about p.ticket) new (sight_away end.about end.ticket) answer) from went));
+        took_batch = subst (λ (t : Ticket). TookBatch c (WasSeatStep (sight_away s first).seat) old (sight_away s first) new (sight_away s t) answer) (sym back)
+            (subst (λ (x : SetupView). TookBatch c (WasSeatStep (sight_away s first).seat) old (sight_away s first) new (sight_away x end.ticket) answer) about
+            (subst (λ (p : Away). TookBatch c (WasSeatStep (sight_away p.about p.ticket).seat) old (sight_away p.about p.ticket) new (sight_away end.about end.ticket) answer) from went));
         counts = counts;
       }
 
@@ -123,8 +123,8 @@ module _ {A : Type 0} where
     left = λ k e past. get_or-set_other now n k x e (λ same. omega (arith, same, past)) ∙ so.left k e (omega (arith, past));
   }
 
-  pub over_one : (vain : A → ℕ) (goes went : Bool) (now : List A) (n : ℕ) (x : A) → n < length now → (goes ≡ false → (k : ℕ) (d : A) → k < n → 1000 ≤ vain (slice_index_or now k d)) → (went ≡ false → 1000 ≤ vain x)
-      → (goes || went) ≡ false → (k : ℕ) (d : A) → k < n + 1 → 1000 ≤ vain (slice_index_or (slice_set now n x) k d)
-  over_one vain true went now n x inside so here none k d low = absurd (cc (none))
-  over_one vain false true now n x inside so here none k d low = absurd (cc (none))
-  over_one vain false false now n x inside so here none k d low = entry_at now n k x d (λ (a : A). 1000 ≤ vain a) inside (λ same. here refl) (λ other. so refl k d (omega (arith, low, other)))
+  pub over_one : (failed : A → ℕ) (goes went : Bool) (now : List A) (n : ℕ) (x : A) → n < length now → (goes ≡ false → (k : ℕ) (d : A) → k < n → 1000 ≤ failed (slice_index_or now k d)) → (went ≡ false → 1000 ≤ failed x)
+      → (goes || went) ≡ false → (k : ℕ) (d : A) → k < n + 1 → 1000 ≤ failed (slice_index_or (slice_set now n x) k d)
+  over_one failed true went now n x inside so here none k d low = absurd (cc (none))
+  over_one failed false true now n x inside so here none k d low = absurd (cc (none))
+  over_one failed false false now n x inside so here none k d low = entry_at now n k x d (λ (a : A). 1000 ≤ failed a) inside (λ same. here refl) (λ other. so refl k d (omega (arith, low, other)))

@@ -1,6 +1,6 @@
 pub mod Wants
 pub mod Waiting
-pub mod Conducts
+pub mod Behaves
 pub mod Turns
 pub mod Crews
 pub mod Away

@@ -46,19 +46,19 @@ FoundShort m = (begun : ℕ) × (0 < begun) × m.found begun
 abbrev pub MarksShort : MarkFacts → ℕ → Type 0
 MarksShort m asked = (begun : ℕ) × m.counted begun × ((asked ≤ begun) ⊎ m.marked begun)
 
--- what a thread does after `vain` failed turns in a row, in a round that asks for `asked` threads
-pub record GaveWay (m : MarkFacts) (asked patience vain : ℕ) : Type 0 where
-  -- from `patience` on it lets another thread run, unless threads are missing
-  pub yields : patience ≤ vain → 1 < asked → FoundShort m ⊎ m.yielded
+-- what a thread does after `failed` failed turns in a row, in a round that asks for `asked` threads
+pub record Yields (m : MarkFacts) (asked spin_limit failed : ℕ) : Type 0 where
+  -- from `spin_limit` on it lets another thread run, unless threads are missing
+  pub yields : spin_limit ≤ failed → 1 < asked → FoundShort m ⊎ m.yielded
   -- before the last one it counts the threads
-  pub counts : vain ≡ 999 → patience ≤ vain → 1 < asked → FoundShort m ⊎ MarksShort m asked
+  pub counts : failed ≡ 999 → spin_limit ≤ failed → 1 < asked → FoundShort m ⊎ MarksShort m asked
 
 -- from how many failed turns in a row on a thread lets another one run: later where each can have a processor of its own
-abbrev pub patience_by : ℕ → Option ℕ → ℕ
-patience_by asked None = 16
-patience_by asked (Some processors) = if leb asked processors then 64 else 16
+abbrev pub spin_limit_by : ℕ → Option ℕ → ℕ
+spin_limit_by asked None = 16
+spin_limit_by asked (Some processors) = if leb asked processors then 64 else 16
 
 -- the fewest failed turns in a row of some members, of which a thousand end a row
-abbrev pub least_vain : {A : Type 0} → List (Member A) → ℕ
-least_vain [] = 1000
-least_vain (m ∷ rest) = min m.vain (least_vain rest)
+abbrev pub least_failed : {A : Type 0} → List (Member A) → ℕ
+least_failed [] = 1000
+least_failed (m ∷ rest) = min m.failed (least_failed rest)

@@ -4,7 +4,7 @@ use Rattle.std.specs.List.{range_with_len}
 use Rattle.scc_mesh.specs.Scenes.{ChipView}
 use Rattle.chip_run.specs.declared.rests.Rest.{Rest}
 use Rattle.chip_run.specs.Crews.{OneTurn}
-use Rattle.chip_run.specs.Conducts.{Conduct}
+use Rattle.chip_run.specs.Behaves.{Behaviour}
 
 -- a generator after n words; a step gives its next word and what it is then
 unfoldable pub generator_after : {G : Type 0} → (G → ℕ × G) → ℕ → G → G
@@ -17,7 +17,7 @@ named_ranks step nue zero g = []
 named_ranks step nue (suc n) g = (step g).0 % nue ∷ named_ranks step nue n (step g).1
 
 -- turns were taken by these ranks, one after the other
-abbrev pub TurnsOf : {A : Type 0} → Conduct A → List ℕ → ChipView → List A → ChipView → List A → Type 0
+abbrev pub TurnsOf : {A : Type 0} → Behaviour A → List ℕ → ChipView → List A → ChipView → List A → Type 0
 TurnsOf c [] chip crew now later = (now ≡ chip) × (later ≡ crew)
 TurnsOf {A} c (at ∷ rest) chip crew now later =
     (mid : ChipView) × (some : List A) × (came : Rest) × OneTurn c chip crew at mid some came × TurnsOf c rest mid some now later

@@ -17,7 +17,7 @@ use Rattle.scc_mesh.specs.Scenes.{ChipView, about_in, events_in, records_in}
 use Rattle.scc_mesh.specs.Turns.{IsTurned, Saw}
 use Rattle.chip_run.specs.declared.rests.Rest.{Rest}
 use Rattle.chip_run.specs.declared.rests.Rest.TheVariants as rest
-use Rattle.chip_run.specs.Conducts.{Conduct, WorkerView}
+use Rattle.chip_run.specs.Behaves.{Behaviour, WorkerView}
 use Rattle.chip_run.specs.Waiting.{Waits}
 use Rattle.chip_run.specs.Wants.{Want}
 
@@ -36,21 +36,21 @@ pub record LookedAt (stepped : List Event → Event → Type 0) (s : SetupView) 
     (want : Want) : Type 0 where
   pub before : List Event
   pub look : Event
-  pub behind : List Event
-  pub is : events ≡ before ++ look ∷ behind
+  pub afterwards : List Event
+  pub is : events ≡ before ++ look ∷ afterwards
   pub step : stepped (own ++ before) look
   pub waits : (memory : Memory) (records : ℕ → Record) → Agrees s memory records → records rank ≡ record_of s rank (own ++ before)
       → NoneElseHolds s records rank → IsStep memory look → Waits s (view_of s memory) rank (records rank) want
 
 -- a turn that moved: the worker went on, and fewer turns are left
-pub record HasMoved {A : Type 0} (c : Conduct A) (s : SetupView) (rank : ℕ) (old new : A) : Type 0 where
+pub record HasMoved {A : Type 0} (c : Behaviour A) (s : SetupView) (rank : ℕ) (old new : A) : Type 0 where
   pub moves : c.moves old new
   pub less : (c.seen s rank new).left < (c.seen s rank old).left
 
 -- a turn that waited: it stored nothing, left the record alike and what is seen of the worker as it was, and its look shows
 -- what it waits for. Eight parameters: the workers' conduct, what a step of their port is, whose turn it was (the setup, the
 -- rank), the rank's events before the turn and in it, and the worker before and after.
-pub record HasWaited {A : Type 0} (c : Conduct A) (stepped : List Event → Event → Type 0) (s : SetupView) (rank : ℕ)
+pub record HasWaited {A : Type 0} (c : Behaviour A) (stepped : List Event → Event → Type 0) (s : SetupView) (rank : ℕ)
     (own events : List Event) (old new : A) : Type 0 where
   pub stays : c.stays old new
   pub seen : c.seen s rank new ≡ c.seen s rank old
@@ -65,14 +65,14 @@ pub record WantsNothing (rec : Record) (w : WorkerView) : Type 0 where
 
 -- a turn of a rank that is over did nothing. Seven parameters: those of `HasWaited` without the port's steps, since there
 -- were none.
-pub record IsDone {A : Type 0} (c : Conduct A) (s : SetupView) (rank : ℕ) (own events : List Event) (old new : A) : Type 0 where
+pub record IsDone {A : Type 0} (c : Behaviour A) (s : SetupView) (rank : ℕ) (own events : List Event) (old new : A) : Type 0 where
   pub stays : c.stays old new
   pub seen : c.seen s rank new ≡ c.seen s rank old
   pub nothing : events ≡ []
   pub over : WantsNothing (record_of s rank own) (c.seen s rank old)
 
 -- what each answer of a turn means. Nine parameters: those of `HasWaited`, and the answer.
-abbrev pub TurnMeans : {A : Type 0} → Conduct A → (List Event → Event → Type 0) → SetupView → ℕ → List Event → List Event → A → A
+abbrev pub TurnMeans : {A : Type 0} → Behaviour A → (List Event → Event → Type 0) → SetupView → ℕ → List Event → List Event → A → A
     → Turn → Type 0
 TurnMeans c stepped s rank own events old new turn.Moved = HasMoved c s rank old new
 TurnMeans c stepped s rank own events old new (turn.Waiting spot) = HasWaited c stepped s rank own events old new
@@ -80,24 +80,24 @@ TurnMeans c stepped s rank own events old new turn.Done = IsDone c s rank own ev
 
 -- a turn through a port. Seven parameters: the workers' conduct, what a step of their port is, the worker and its sight
 -- before and after, and the answer.
-pub record Turned {A : Type 0} (c : Conduct A) (stepped : List Event → Event → Type 0) (old : A) (s : Sight) (new : A) (t : Sight)
+pub record Turned {A : Type 0} (c : Behaviour A) (stepped : List Event → Event → Type 0) (old : A) (s : Sight) (new : A) (t : Sight)
     (answer : Turn) : Type 0 where
   pub events : List Event
   pub did : Did s events t
   pub means : TurnMeans c stepped s.seat.setup s.seat.rank s.events events old new answer
 
 -- turns in a row, each of which moved
-pub data TurnsMoved {A : Type 0} (c : Conduct A) (stepped : List Event → Event → Type 0) (old : A) (s : Sight) : A → Sight → Type 0 where
+pub data TurnsMoved {A : Type 0} (c : Behaviour A) (stepped : List Event → Event → Type 0) (old : A) (s : Sight) : A → Sight → Type 0 where
   OneMoved : (new : A) (t : Sight) → Turned c stepped old s new t turn.Moved → TurnsMoved c stepped old s new t
   MoreMoved : (mid new : A) (m t : Sight) → TurnsMoved c stepped old s mid m → Turned c stepped mid m new t turn.Moved
       → TurnsMoved c stepped old s new t
 
 -- a stretch: one turn, whatever it came to, or turns in a row, each of which moved. Seven parameters, those of `Turned`: the
 -- answer is that of the last turn.
-pub data Stretched {A : Type 0} (c : Conduct A) (stepped : List Event → Event → Type 0) (old : A) (s : Sight) (new : A) (t : Sight)
+pub data TookBatch {A : Type 0} (c : Behaviour A) (stepped : List Event → Event → Type 0) (old : A) (s : Sight) (new : A) (t : Sight)
     (answer : Turn) : Type 0 where
-  OneTurn : Turned c stepped old s new t answer → Stretched c stepped old s new t answer
-  InARow : TurnsMoved c stepped old s new t → answer ≡ turn.Moved → Stretched c stepped old s new t answer
+  OneTurn : Turned c stepped old s new t answer → TookBatch c stepped old s new t answer
+  InARow : TurnsMoved c stepped old s new t → answer ≡ turn.Moved → TookBatch c stepped old s new t answer
 
 -- what a turn comes to: it moved; or the rank rests, and has finished or not. A rank that was stopped has not.
 abbrev pub rest_by : Turn → Bool → Rest
@@ -138,7 +138,7 @@ RestsAt false s now me w = HasStopped (now me) w ⊎ WaitsThen s now me w.want
 
 -- a turn of a rank at home that did not move. Seven parameters: the workers' conduct, whether it is finished, the rank, and
 -- the chip and the worker before and after.
-pub record HasStayed {A : Type 0} (c : Conduct A) (finished : Bool) (chip : ChipView) (r : ℕ) (now : ChipView) (old new : A) : Type 0 where
+pub record HasStayed {A : Type 0} (c : Behaviour A) (finished : Bool) (chip : ChipView) (r : ℕ) (now : ChipView) (old new : A) : Type 0 where
   pub stays : c.stays old new
   pub seen : c.seen (about_in chip) r new ≡ c.seen (about_in chip) r old
   pub alike : Like (records_in chip r) (records_in now r)
@@ -146,14 +146,14 @@ pub record HasStayed {A : Type 0} (c : Conduct A) (finished : Bool) (chip : Chip
 
 -- what a turn of a rank at home came to: it went on, or it has stayed, finished or not. Seven parameters: those of
 -- `HasStayed`, with what the turn came to in place of whether it is finished.
-abbrev pub TurnCameTo : {A : Type 0} → Conduct A → Rest → ChipView → ℕ → ChipView → A → A → Type 0
+abbrev pub TurnCameTo : {A : Type 0} → Behaviour A → Rest → ChipView → ℕ → ChipView → A → A → Type 0
 TurnCameTo c rest.Moved chip r now old new = HasMoved c (about_in chip) r old new
 TurnCameTo c rest.Finished chip r now old new = HasStayed c true chip r now old new
 TurnCameTo c rest.Unfinished chip r now old new = HasStayed c false chip r now old new
 
 -- a turn of a rank at home, through a port of its own. Seven parameters: the workers' conduct, the rank, the chip and the
 -- worker before and after, and the answer.
-pub record OwnTurn {A : Type 0} (c : Conduct A) (chip : ChipView) (r : ℕ) (old : A) (now : ChipView) (new : A)
+pub record OwnTurn {A : Type 0} (c : Behaviour A) (chip : ChipView) (r : ℕ) (old : A) (now : ChipView) (new : A)
     (answer : Turn) : Type 0 where
   pub turned : IsTurned chip r now
   pub events : List Event
@@ -163,7 +163,7 @@ pub record OwnTurn {A : Type 0} (c : Conduct A) (chip : ChipView) (r : ℕ) (old
 
 -- a turn of a rank at home, and what it came to. Seven parameters, those of `OwnTurn`, with what the turn came to in place
 -- of the answer of its port.
-pub record TurnedAtHome {A : Type 0} (c : Conduct A) (chip : ChipView) (r : ℕ) (old : A) (now : ChipView) (new : A)
+pub record TurnedAtHome {A : Type 0} (c : Behaviour A) (chip : ChipView) (r : ℕ) (old : A) (now : ChipView) (new : A)
     (came : Rest) : Type 0 where
   pub turned : IsTurned chip r now
   pub ties : c.tied new (about_in now) r (events_in now r)

@@ -6,7 +6,7 @@ use Rattle.scc_base.specs.declared.signals.Signal.TheVariants.{Sent, Ready}
 use Rattle.scc_proto.specs.Messages.{Notes, Progress}
 use Rattle.scc_proto.specs.Passed.{open_call}
 use Rattle.scc_proto.specs.Records.{last_of}
-use Rattle.scc_proto.specs.Stages.{Raised, Stage, Idle, Sending, Between, Barrier, OnItsWay, Record}
+use Rattle.scc_proto.specs.Stages.{Raised, Stage, Idle, Sending, Between, Barrier, InFlight, Record}
 use Rattle.scc_proto.specs.Views.{View}
 use Rattle.scc_proto.specs.Words.{are_peers, is_present}
 use Rattle.chip_run.specs.Wants.{Want}
@@ -14,9 +14,9 @@ use Rattle.chip_run.specs.Wants.{Want}
 -- a rank waits until the message that it posted is taken: its `ready` is not set
 pub record SlotWaits (view : View) (me : ℕ) (rec : Record) : Type 0 where
   pub stage : rec.stage ≡ Idle
-  pub post : OnItsWay
+  pub post : InFlight
   pub is_posted : rec.post ≡ Some post
-  pub vain : view.signal Ready post.to me ≢ 1
+  pub failed : view.signal Ready post.to me ≢ 1
 
 -- a rank waits in a send, with a chunk raised: its `ready` is not set
 pub record RaiseWaits (s : SetupView) (view : View) (me to : ℕ) (head : MessageHead) (rec : Record) : Type 0 where
@@ -25,7 +25,7 @@ pub record RaiseWaits (s : SetupView) (view : View) (me to : ℕ) (head : Messag
   pub chunk : Notes
   pub stage : rec.stage ≡ Sending to Raised message chunk
   pub head_is : message.head ≡ head
-  pub vain : view.signal Ready to me ≢ 1
+  pub failed : view.signal Ready to me ≢ 1
 
 -- no chunk is taken: before the message, or between its chunks
 abbrev pub IsLooking : ℕ → Stage → Type 0
@@ -37,7 +37,7 @@ IsLooking from stage = ⊥
 pub record TakeWaits (s : SetupView) (view : View) (me from : ℕ) (rec : Record) : Type 0 where
   pub peers : are_peers s from me ≡ true
   pub stage : IsLooking from rec.stage
-  pub vain : view.signal Sent from me ≢ 1
+  pub failed : view.signal Sent from me ≢ 1
 
 -- a rank waits in a barrier: member 0 for the flip of the first member that it has not seen, any other member for its
 -- release

@@ -5,7 +5,7 @@
 ghost use Rattle.std.specs.Prelude.{◌≡◌, ◌<◌, ◌*◌, length};
 ghost use Rattle.std.specs.List.{range_with_len};
 ghost use Rattle.rand_pcg.specs.Pcg.{pcg32};
-ghost use Rattle.chip_run.specs.Away.{conduct_of_members};
+ghost use Rattle.chip_run.specs.Away.{behaviour_of_members};
 ghost use Rattle.chip_run.specs.Crews.{CrewStands, IsCrew, SweepStands};
 ghost use Rattle.chip_run.specs.Orders.{TurnsOf, generator_after, named_ranks};
 
@@ -22,9 +22,9 @@ const TURNS: usize = 1000;
 
 /// A turn of each worker, in rank order.
 pub(crate) fn sweep<W: Worker>(chip: &mut Chip, crew: &mut [Member<W>]) -> Rest
-    requires crew { IsCrew (conduct_of_members W.conduct) chip.old crew.old }
-    ensures swept { SweepStands (conduct_of_members W.conduct) result (length crew.old) chip.old crew.old chip.new crew.new }
-    ensures order { TurnsOf (conduct_of_members W.conduct) (range_with_len 0 (length crew.old)) chip.old crew.old chip.new crew.new }
+    requires crew { IsCrew (behaviour_of_members W.behaviour) chip.old crew.old }
+    ensures swept { SweepStands (behaviour_of_members W.behaviour) result (length crew.old) chip.old crew.old chip.new crew.new }
+    ensures order { TurnsOf (behaviour_of_members W.behaviour) (range_with_len 0 (length crew.old)) chip.old crew.old chip.new crew.new }
 {
     let ranks = chip.setup().nue() as usize;
     let mut so_far = Rest::Finished;
@@ -37,13 +37,13 @@ pub(crate) fn sweep<W: Worker>(chip: &mut Chip, crew: &mut [Member<W>]) -> Rest
 
 /// A thousand turns for each rank, each of the rank that the generator's next word names.
 pub(crate) fn round<W: Worker>(chip: &mut Chip, crew: &mut [Member<W>], picks: &mut Pcg32)
-    requires crew { IsCrew (conduct_of_members W.conduct) chip.old crew.old }
+    requires crew { IsCrew (behaviour_of_members W.behaviour) chip.old crew.old }
     requires some { 0 < length crew.old }
     ensures picks { picks.new ≡ generator_after pcg32 (1000 * length crew.old) picks.old }
-    ensures order { TurnsOf (conduct_of_members W.conduct)
+    ensures order { TurnsOf (behaviour_of_members W.behaviour)
         (named_ranks pcg32 (length crew.old) (1000 * length crew.old) picks.old) chip.old crew.old
         chip.new crew.new }
-    ensures stands { CrewStands (conduct_of_members W.conduct) chip.old crew.old chip.new crew.new }
+    ensures stands { CrewStands (behaviour_of_members W.behaviour) chip.old crew.old chip.new crew.new }
 {
     let ranks = chip.setup().nue() as usize;
     for turn in 0..TURNS * ranks {

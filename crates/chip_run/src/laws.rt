@@ -18,7 +18,7 @@ ghost use Rattle.chip_run.specs.Waiting.{RaiseWaits, Waits};
 ghost use Rattle.chip_run.specs.Wants.{Want};
 
 /// A look that was vain stays vain while ranks only look.
-pub fn looks_stay_vain()
+pub fn looks_stay_failed()
     // Where words and records agree, and so do other words with records that are alike, the same looks are vain in both.
     ensures alike { (s : SetupView) (one other : Memory) (records recs : ℕ → Record)
         → Agrees s one records → Agrees s other recs → ((k : ℕ) → Like (records k) (recs k))

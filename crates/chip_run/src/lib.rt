@@ -9,7 +9,7 @@ mod marks;
 mod members;
 mod rests;
 mod rolls;
-mod rows;
+mod slices;
 mod runs;
 mod sweeps;
 mod threads;
@@ -18,7 +18,7 @@ mod workers;
 
 pub use ends::RunEnd;
 pub use gates::{Gate, Open};
-pub use laws::looks_stay_vain;
+pub use laws::looks_stay_failed;
 pub use members::Member;
 pub use rests::Rest;
 pub use runs::{Mode, run};

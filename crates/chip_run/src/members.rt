@@ -11,7 +11,7 @@ pub struct Member<W: Worker> {
     pub worker: W,
     pub token: Option<Token>,
     /// How many turns in a row it has waited, of a row that is taken a stretch at a time.
-    pub vain: usize,
+    pub failed: usize,
 }
 
 impl<W: Worker> Member<W> {
@@ -25,7 +25,7 @@ impl<W: Worker> Member<W> {
         Member {
             worker,
             token: None,
-            vain: 0,
+            failed: 0,
         }
     }
 
@@ -38,16 +38,16 @@ impl<W: Worker> Member<W> {
 }
 
 impl<W: Worker> Worker for Member<W> {
-    ghost use Rattle.chip_run.specs.Away.{conduct_of_members};
+    ghost use Rattle.chip_run.specs.Away.{behaviour_of_members};
 
-    ghost conduct = { conduct_of_members W.conduct };
+    ghost behaviour = { behaviour_of_members W.behaviour };
 
     fn turn<P: Port>(&mut self, port: P) -> (Turn, P) {
         self.worker.turn(port)
     }
 
-    fn stretch<P: Port>(&mut self, port: P) -> (Turn, P) {
-        self.worker.stretch(port)
+    fn batch<P: Port>(&mut self, port: P) -> (Turn, P) {
+        self.worker.batch(port)
     }
 
     fn is_stopped(&self) -> bool {

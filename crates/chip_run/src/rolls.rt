@@ -1,17 +1,17 @@
 //! The roll of a round in threads: how many of its threads have begun.
 
 ghost use Rattle.std.specs.Prelude.{◌≡◌, ◌<◌, ◌≤◌, ◌⊎◌, ℕ, Bool, true, false, Option};
-ghost use Rattle.chip_run.specs.Marks.{AsksNext, FoundShort, GaveWay, MarksShort, patience_by};
+ghost use Rattle.chip_run.specs.Marks.{AsksNext, FoundShort, Yields, MarksShort, spin_limit_by};
 
 use crate::marks::Marks;
 use std::thread;
 use std::thread::Threads;
 
 /// From this many vain turns in a row on, another thread runs behind each, where threads share processors.
-const PATIENCE: usize = 16;
+const SPIN_LIMIT: usize = 16;
 
 /// The same where each thread can have a processor of its own: what a rank waits for is mostly under way then.
-const LONG_PATIENCE: usize = 64;
+const LONG_SPIN_LIMIT: usize = 64;
 
 /// After this many vain turns in a row, a rank is about to give up.
 const LAST: usize = 999;
@@ -21,7 +21,7 @@ const LAST: usize = 999;
 #[derive(Drop)]
 pub(crate) struct Roll<M> {
     asked: usize,
-    patience: usize,
+    spin_limit: usize,
     marks: M,
 }
 
@@ -29,11 +29,11 @@ impl<M: Marks> Roll<M> {
     /// The roll of a round that asks for this number of threads.
     pub(crate) fn new<R: Threads>(rt: &R, asked: usize) -> Roll<M>
         ensures asked { result.asked ≡ asked }
-        ensures patience { (processors : Option ℕ) × (result.patience ≡ patience_by asked processors) }
+        ensures spin_limit { (processors : Option ℕ) × (result.spin_limit ≡ spin_limit_by asked processors) }
     {
         Roll {
             asked,
-            patience: patience(rt, asked),
+            spin_limit: spin_limit(rt, asked),
             marks: M::new(),
         }
     }
@@ -47,17 +47,17 @@ impl<M: Marks> Roll<M> {
 
     /// Lets another thread run behind a vain turn, once several were vain: the rank that is waited for may have no processor.
     /// Where threads are missing it need not: that rank may have to wait until this row is over.
-    pub(crate) fn give_way(&self, vain: usize)
-        ensures gives_way { GaveWay M.shown self.now.asked self.now.patience vain }
+    pub(crate) fn yield_after(&self, failed: usize)
+        ensures yields { Yields M.shown self.now.asked self.now.spin_limit failed }
     {
-        if vain < self.patience || self.asked < 2 {
+        if failed < self.spin_limit || self.asked < 2 {
             return;
         }
         if self.is_short() {
             return;
         }
         self.marks.let_others_run();
-        if vain == LAST {
+        if failed == LAST {
             self.give_up();
         }
     }
@@ -92,22 +92,22 @@ impl<M: Marks> Roll<M> {
 }
 
 /// How many vain turns in a row a thread takes before another runs, where a round asks for this number of threads.
-fn patience<R: Threads>(rt: &R, asked: usize) -> usize
-    ensures gives { (processors : Option ℕ) × (result ≡ patience_by asked processors) }
+fn spin_limit<R: Threads>(rt: &R, asked: usize) -> usize
+    ensures gives { (processors : Option ℕ) × (result ≡ spin_limit_by asked processors) }
 {
     let processors = match thread::available_parallelism(rt) {
         Ok(processors) => Some(processors.get()),
         Err(_) => None,
     };
-    patience_for(asked, processors)
+    spin_limit_for(asked, processors)
 }
 
 /// The same on a machine with this number of processors; None where it is not known.
-fn patience_for(asked: usize, processors: Option<usize>) -> usize
-    ensures gives { result ≡ patience_by asked processors }
+fn spin_limit_for(asked: usize, processors: Option<usize>) -> usize
+    ensures gives { result ≡ spin_limit_by asked processors }
 {
     match processors {
-        Some(processors) if asked <= processors => LONG_PATIENCE,
-        Some(_) | None => PATIENCE,
+        Some(processors) if asked <= processors => LONG_SPIN_LIMIT,
+        Some(_) | None => SPIN_LIMIT,
     }
 }

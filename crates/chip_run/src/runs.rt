@@ -1,7 +1,7 @@
 //! A run: rounds and sweeps, until a sweep in which no worker moves.
 
 ghost use Rattle.std.specs.Prelude.{◌≡◌, ℕ, ◌<◌, length};
-ghost use Rattle.chip_run.specs.Away.{conduct_of_members};
+ghost use Rattle.chip_run.specs.Away.{behaviour_of_members};
 ghost use Rattle.chip_run.specs.Crews.{AllRest, CrewStands, RunEndedAs, IsCrew};
 ghost use Rattle.chip_run.specs.Marks.{ThreadsAfter, AsksNext, threads_of};
 ghost use Rattle.chip_run.specs.Runs.{InOrder, IsInThreads, NextRound, RoundsTo, rounds_of};
@@ -57,15 +57,15 @@ fn next_round<W: Worker + Send, G: Gate + Sync, R: Threads + Sync, M: Marks + Dr
     gate: &G,
     threads: &mut usize,
 )
-    requires crew { IsCrew (conduct_of_members W.conduct) chip.old crew.old }
+    requires crew { IsCrew (behaviour_of_members W.behaviour) chip.old crew.old }
     requires some { 0 < length crew.old }
     requires threads { 0 < threads.old }
     ensures threads { 0 < threads.new }
     // In threads each member passed the gate, and the round asked for as many threads as it was told.
     ensures passed { IsInThreads rounds.old → (k : ℕ) → k < length crew.old → G.passed gate.now k }
     ensures asks { IsInThreads rounds.old → AsksNext M.shown (threads_of (length crew.old) threads.old) threads.new }
-    ensures stands { CrewStands (conduct_of_members W.conduct) chip.old crew.old chip.new crew.new }
-    ensures next { NextRound (conduct_of_members W.conduct) rounds.old rounds.new chip.old crew.old chip.new crew.new }
+    ensures stands { CrewStands (behaviour_of_members W.behaviour) chip.old crew.old chip.new crew.new }
+    ensures next { NextRound (behaviour_of_members W.behaviour) rounds.old rounds.new chip.old crew.old chip.new crew.new }
 {
     match rounds {
         Rounds::InThreads => *threads = round_in_threads::<W, G, R, M>(
@@ -83,19 +83,19 @@ fn run_on<W: Worker + Send, G: Gate + Sync, R: Threads + Sync, M: Marks + Drop +
     mode: Mode,
     gate: &G,
 ) -> RunEnd
-    requires crew { IsCrew (conduct_of_members W.conduct) chip.old crew.old }
+    requires crew { IsCrew (behaviour_of_members W.behaviour) chip.old crew.old }
     requires some { 0 < length crew.old }
-    ensures stands { CrewStands (conduct_of_members W.conduct) chip.old crew.old chip.new crew.new }
-    ensures rests { AllRest (conduct_of_members W.conduct) chip.new crew.new (length crew.new) }
-    ensures answer { RunEndedAs (conduct_of_members W.conduct) result chip.new crew.new }
+    ensures stands { CrewStands (behaviour_of_members W.behaviour) chip.old crew.old chip.new crew.new }
+    ensures rests { AllRest (behaviour_of_members W.behaviour) chip.new crew.new (length crew.new) }
+    ensures answer { RunEndedAs (behaviour_of_members W.behaviour) result chip.new crew.new }
     ensures no_draft { NoneDrafts (about_in chip.new) (records_in chip.new) }
-    ensures order { InOrder (conduct_of_members W.conduct) mode chip.old crew.old chip.new crew.new }
+    ensures order { InOrder (behaviour_of_members W.behaviour) mode chip.old crew.old chip.new crew.new }
     // In threads each member passed the gate.
     ensures passed { IsInThreads (rounds_of mode) → (k : ℕ) → k < length crew.old → G.passed gate.now k }
     // The first round asks for a thread for each member, and each later one for as many as the one before it, or as had begun
     // there where some were missing.
     ensures rounds { (n : ℕ) × (last : _)
-        × RoundsTo (conduct_of_members W.conduct) (rounds_of mode) n last chip.old crew.old chip.new crew.new
+        × RoundsTo (behaviour_of_members W.behaviour) (rounds_of mode) n last chip.old crew.old chip.new crew.new
         × (IsInThreads (rounds_of mode) → (threads : ℕ) × ThreadsAfter M.shown (length crew.old) n threads) }
 {
     let mut rounds = Rounds::of(mode);
@@ -117,20 +117,20 @@ pub fn run<W: Worker + Send, G: Gate + Sync, R: Threads + Sync>(
     mode: Mode,
     gate: &G,
 ) -> RunEnd
-    requires crew { IsCrew (conduct_of_members W.conduct) chip.old crew.old }
+    requires crew { IsCrew (behaviour_of_members W.behaviour) chip.old crew.old }
     requires some { 0 < length crew.old }
     // It is the same chip, whole, with the same members, each as it is after some turns and tied to its rank's events; no member
     // holds a token.
-    ensures stands { CrewStands (conduct_of_members W.conduct) chip.old crew.old chip.new crew.new }
+    ensures stands { CrewStands (behaviour_of_members W.behaviour) chip.old crew.old chip.new crew.new }
     // Each worker rests: it has finished, a mismatch stopped it, or it waits.
-    ensures rests { AllRest (conduct_of_members W.conduct) chip.new crew.new (length crew.new) }
+    ensures rests { AllRest (behaviour_of_members W.behaviour) chip.new crew.new (length crew.new) }
     // It answers Finished where all have finished, and Stuck where one has not.
-    ensures answer { RunEndedAs (conduct_of_members W.conduct) result chip.new crew.new }
+    ensures answer { RunEndedAs (behaviour_of_members W.behaviour) result chip.new crew.new }
     // A rank that has no call open is in the midst of nothing: it has no message in draft.
     ensures no_draft { NoneDrafts (about_in chip.new) (records_in chip.new) }
     // Under Serial the turns were those of the ranks that the seed's generator names, and in threads each worker took a row of
     // turns in each round; with a sweep behind each round.
-    ensures order { InOrder (conduct_of_members W.conduct) mode chip.old crew.old chip.new crew.new }
+    ensures order { InOrder (behaviour_of_members W.behaviour) mode chip.old crew.old chip.new crew.new }
     // In threads each member passed the gate.
     ensures passed { IsInThreads (rounds_of mode) → (k : ℕ) → k < length crew.old → G.passed gate.now k }
 {

@@ -15,9 +15,9 @@ use scc_mesh::Chip;
 
 /// A turn of each worker, in rank order.
 fn sweep<W: Worker>(chip: &mut Chip, crew: &mut [W]) -> Rest
-    requires crew { IsCrew W.conduct chip.old crew.old }
-    ensures swept { SweepStands W.conduct result (length crew.old) chip.old crew.old chip.new crew.new }
-    ensures order { TurnsOf W.conduct (range_with_len 0 (length crew.old)) chip.old crew.old chip.new crew.new }
+    requires crew { IsCrew W.behaviour chip.old crew.old }
+    ensures swept { SweepStands W.behaviour result (length crew.old) chip.old crew.old chip.new crew.new }
+    ensures order { TurnsOf W.behaviour (range_with_len 0 (length crew.old)) chip.old crew.old chip.new crew.new }
 {
     let ranks = chip.setup().nue() as usize;
     let mut so_far = Rest::Finished;
@@ -30,17 +30,17 @@ fn sweep<W: Worker>(chip: &mut Chip, crew: &mut [W]) -> Rest
 
 /// Runs the workers of a chip by sweeps in rank order alone, until one in which none moves. No memory is taken.
 pub fn run_by_sweeps<W: Worker>(chip: &mut Chip, crew: &mut [W]) -> RunEnd
-    requires crew { IsCrew W.conduct chip.old crew.old }
+    requires crew { IsCrew W.behaviour chip.old crew.old }
     // It is the same chip, whole, with the same workers, each as it is after some turns and tied to its rank's events.
-    ensures stands { CrewStands W.conduct chip.old crew.old chip.new crew.new }
+    ensures stands { CrewStands W.behaviour chip.old crew.old chip.new crew.new }
     // Each worker rests: it has finished, a mismatch stopped it, or it waits.
-    ensures rests { AllRest W.conduct chip.new crew.new (length crew.new) }
+    ensures rests { AllRest W.behaviour chip.new crew.new (length crew.new) }
     // It answers Finished where all have finished, and Stuck where one has not.
-    ensures answer { RunEndedAs W.conduct result chip.new crew.new }
+    ensures answer { RunEndedAs W.behaviour result chip.new crew.new }
     // A rank that has no call open is in the midst of nothing: it has no message in draft.
     ensures no_draft { NoneDrafts (about_in chip.new) (records_in chip.new) }
     // The turns were those of all ranks in their order, again and again.
-    ensures order { (n : ℕ) × TurnsOf W.conduct (sweeps_of n (length crew.old)) chip.old crew.old chip.new crew.new }
+    ensures order { (n : ℕ) × TurnsOf W.behaviour (sweeps_of n (length crew.old)) chip.old crew.old chip.new crew.new }
 {
     loop {
         let came = sweep(chip, crew);

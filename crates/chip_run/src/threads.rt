@@ -2,18 +2,18 @@
 
 ghost use Rattle.std.specs.Prelude.{◌≡◌, ◌≢◌, ℕ, ◌+◌, ◌^◌, ◌<◌, length, slice_index_or};
 ghost use Rattle.std.specs.Int.{div_ceil};
-ghost use Rattle.chip_run.specs.Away.{IsAtHome, IsAway, Served, TookRow, conduct_of_members};
+ghost use Rattle.chip_run.specs.Away.{IsAtHome, IsAway, Served, TookSlice, behaviour_of_members};
 ghost use Rattle.chip_run.specs.Crews.{IsCrew};
 ghost use Rattle.chip_run.specs.Marks.{AsksNext, BeganFor, threads_of};
-ghost use Rattle.chip_run.specs.Runs.{TookRows};
+ghost use Rattle.chip_run.specs.Runs.{TookSlices};
 ghost use Rattle.scc_mesh.specs.Scenes.{IsHomeBelow, IsHomeFrom, IsWhole, about_in, events_in, table_in};
 
 use crate::gates::Gate;
 use crate::marks::Marks;
 use crate::members::Member;
 use crate::rolls::Roll;
-use crate::rows::row_away;
-use crate::together::rows_together;
+use crate::slices::slice_in_thread;
+use crate::together::slices_together;
 use crate::workers::Worker;
 use scc_base::Rank;
 use scc_mesh::{Chip, Words};
@@ -24,11 +24,11 @@ use std::thread::Threads;
 fn give<W: Worker>(chip: &mut Chip, at: usize, member: &mut Member<W>)
     requires from { IsHomeFrom chip.old at }
     requires below { at < (about_in chip.old).nue }
-    requires ties { W.conduct.tied member.old.worker (about_in chip.old) at (events_in chip.old at) }
+    requires ties { W.behaviour.tied member.old.worker (about_in chip.old) at (events_in chip.old at) }
     ensures from { IsHomeFrom chip.new (at + 1) }
     ensures same { (about_in chip.new ≡ about_in chip.old) × (table_in chip.new ≡ table_in chip.old) }
     ensures others { (q : ℕ) → q ≢ at → events_in chip.new q ≡ events_in chip.old q }
-    ensures away { IsAway (W.conduct.tied member.new.worker) (about_in chip.new) (table_in chip.new) at member.new.token }
+    ensures away { IsAway (W.behaviour.tied member.new.worker) (about_in chip.new) (table_in chip.new) at member.new.token }
     ensures worker { member.new.worker ≡ member.old.worker }
 {
     chip.known();
@@ -39,11 +39,11 @@ fn give<W: Worker>(chip: &mut Chip, at: usize, member: &mut Member<W>)
 fn bring<W: Worker>(chip: &mut Chip, at: usize, member: &mut Member<W>)
     requires home { IsHomeBelow chip.old at }
     requires below { at < (about_in chip.old).nue }
-    requires away { IsAway (W.conduct.tied member.old.worker) (about_in chip.old) (table_in chip.old) at member.old.token }
+    requires away { IsAway (W.behaviour.tied member.old.worker) (about_in chip.old) (table_in chip.old) at member.old.token }
     ensures home { IsHomeBelow chip.new (at + 1) }
     ensures same { (about_in chip.new ≡ about_in chip.old) × (table_in chip.new ≡ table_in chip.old) }
     ensures others { (q : ℕ) → q ≢ at → events_in chip.new q ≡ events_in chip.old q }
-    ensures ties { IsAtHome (W.conduct.tied member.new.worker) member.new.token (about_in chip.new) at (events_in chip.new at) }
+    ensures ties { IsAtHome (W.behaviour.tied member.new.worker) member.new.token (about_in chip.new) at (events_in chip.new at) }
     ensures worker { member.new.worker ≡ member.old.worker }
 {
     let Some(token) = member.token.take() else {
@@ -60,9 +60,9 @@ fn go<W: Worker, G: Gate, M: Marks>(
     at: usize,
     member: &mut Member<W>,
 )
-    requires away { IsAway (W.conduct.tied member.old.worker) words.space.now.about words.space.now.table at member.old.token }
-    ensures away { IsAway (W.conduct.tied member.new.worker) words.entry.space.now.about words.entry.space.now.table at member.new.token }
-    ensures row { TookRow W.conduct words.entry.space.now.about at member.old.worker member.new.worker }
+    requires away { IsAway (W.behaviour.tied member.old.worker) words.space.now.about words.space.now.table at member.old.token }
+    ensures away { IsAway (W.behaviour.tied member.new.worker) words.entry.space.now.about words.entry.space.now.table at member.new.token }
+    ensures slice { TookSlice W.behaviour words.entry.space.now.about at member.old.worker member.new.worker }
     // Its thread marked that it began, and it passed the gate.
     ensures began { M.shown.began at }
     ensures passed { G.passed gate.now at }
@@ -72,16 +72,16 @@ fn go<W: Worker, G: Gate, M: Marks>(
     };
     roll.begin(at);
     gate.pass(token.rank());
-    member.token = Some(row_away(words, token, &mut member.worker, roll));
+    member.token = Some(slice_in_thread(words, token, &mut member.worker, roll));
 }
 
 /// Hands out all ranks, in rank order.
 fn hand_out<W: Worker>(chip: &mut Chip, crew: &mut [Member<W>])
-    requires crew { IsCrew (conduct_of_members W.conduct) chip.old crew.old }
+    requires crew { IsCrew (behaviour_of_members W.behaviour) chip.old crew.old }
     ensures none { IsHomeBelow chip.new 0 }
     ensures same { (about_in chip.new ≡ about_in chip.old) × (table_in chip.new ≡ table_in chip.old) }
     ensures served { Served (λ k m n. (n.worker ≡ m.worker)
-        × IsAway (W.conduct.tied n.worker) (about_in chip.old) (table_in chip.old) k n.token)
+        × IsAway (W.behaviour.tied n.worker) (about_in chip.old) (table_in chip.old) k n.token)
         (length crew.old) crew.old crew.new }
 {
     for at in 0..crew.len() {
@@ -99,12 +99,12 @@ fn in_threads<W: Worker + Send, G: Gate + Sync, R: Threads + Sync, M: Marks + Sy
 )
     requires some { 0 < length crew.old }
     requires away { (i : ℕ) (d : _) → i < length crew.old
-        → let m = slice_index_or crew.old i d in IsAway (W.conduct.tied m.worker) words.space.now.about words.space.now.table i m.token }
+        → let m = slice_index_or crew.old i d in IsAway (W.behaviour.tied m.worker) words.space.now.about words.space.now.table i m.token }
     ensures away { (i : ℕ) (d : _) → i < length crew.old
-        → let m = slice_index_or crew.new i d in IsAway (W.conduct.tied m.worker) words.entry.space.now.about
+        → let m = slice_index_or crew.new i d in IsAway (W.behaviour.tied m.worker) words.entry.space.now.about
         words.entry.space.now.table i m.token }
-    ensures rows { (i : ℕ) (d : _) → i < length crew.old
-        → TookRow W.conduct words.entry.space.now.about i (slice_index_or crew.old i d).worker (slice_index_or crew.new i d).worker }
+    ensures slices { (i : ℕ) (d : _) → i < length crew.old
+        → TookSlice W.behaviour words.entry.space.now.about i (slice_index_or crew.old i d).worker (slice_index_or crew.new i d).worker }
     ensures began { (i : ℕ) → i < length crew.old → M.shown.began i }
     ensures passed { (i : ℕ) → i < length crew.old → G.passed gate.now i }
 {
@@ -114,9 +114,9 @@ fn in_threads<W: Worker + Send, G: Gate + Sync, R: Threads + Sync, M: Marks + Sy
         crew,
         threads,
         &|at: usize, member: &mut Member<W>|
-            requires { IsAway (W.conduct.tied member.old.worker) words.space.now.about words.space.now.table at member.old.token }
-            ensures { IsAway (W.conduct.tied member.new.worker) words.entry.space.now.about words.entry.space.now.table at member.new.token
-                × TookRow W.conduct words.entry.space.now.about at member.old.worker member.new.worker
+            requires { IsAway (W.behaviour.tied member.old.worker) words.space.now.about words.space.now.table at member.old.token }
+            ensures { IsAway (W.behaviour.tied member.new.worker) words.entry.space.now.about words.entry.space.now.table at member.new.token
+                × TookSlice W.behaviour words.entry.space.now.about at member.old.worker member.new.worker
                 × M.shown.began at × G.passed gate.entry.now at }
         { go(words, gate, roll, at, member) },
     );
@@ -133,12 +133,12 @@ fn in_few_threads<W: Worker + Send, G: Gate + Sync, R: Threads + Sync, M: Marks 
 )
     requires each { 0 < each }
     requires away { (i : ℕ) (d : _) → i < length crew.old
-        → let m = slice_index_or crew.old i d in IsAway (W.conduct.tied m.worker) words.space.now.about words.space.now.table i m.token }
+        → let m = slice_index_or crew.old i d in IsAway (W.behaviour.tied m.worker) words.space.now.about words.space.now.table i m.token }
     ensures away { (i : ℕ) (d : _) → i < length crew.old
-        → let m = slice_index_or crew.new i d in IsAway (W.conduct.tied m.worker) words.entry.space.now.about
+        → let m = slice_index_or crew.new i d in IsAway (W.behaviour.tied m.worker) words.entry.space.now.about
         words.entry.space.now.table i m.token }
-    ensures rows { (i : ℕ) (d : _) → i < length crew.old
-        → TookRow W.conduct words.entry.space.now.about i (slice_index_or crew.old i d).worker (slice_index_or crew.new i d).worker }
+    ensures slices { (i : ℕ) (d : _) → i < length crew.old
+        → TookSlice W.behaviour words.entry.space.now.about i (slice_index_or crew.old i d).worker (slice_index_or crew.new i d).worker }
     ensures began { (i : ℕ) → i < length crew.old → BeganFor M.shown each i }
     ensures passed { (i : ℕ) → i < length crew.old → G.passed gate.now i }
 {
@@ -148,19 +148,19 @@ fn in_few_threads<W: Worker + Send, G: Gate + Sync, R: Threads + Sync, M: Marks 
         each,
         &|start: usize, members: &mut [Member<W>]|
             requires { (start + length members.old < 2 ^ 64) × ((k : ℕ) (d : _) → k < length members.old
-                → let m = slice_index_or members.old k d in IsAway (W.conduct.tied m.worker) words.space.now.about words.space.now.table
+                → let m = slice_index_or members.old k d in IsAway (W.behaviour.tied m.worker) words.space.now.about words.space.now.table
                 (start + k) m.token) }
             ensures { (k : ℕ) (d : _) → k < length members.old
-                → let m = slice_index_or members.new k d in IsAway (W.conduct.tied m.worker) words.entry.space.now.about
+                → let m = slice_index_or members.new k d in IsAway (W.behaviour.tied m.worker) words.entry.space.now.about
                 words.entry.space.now.table (start + k) m.token
-                × TookRow W.conduct words.entry.space.now.about (start + k) (slice_index_or members.old k d).worker m.worker
+                × TookSlice W.behaviour words.entry.space.now.about (start + k) (slice_index_or members.old k d).worker m.worker
                 × M.shown.began start × G.passed gate.entry.now (start + k) }
-        { rows_together(words, gate, roll, start, members) },
+        { slices_together(words, gate, roll, start, members) },
     );
 }
 
 /// All members' rows of turns, at most `each` of them in a thread.
-fn all_rows<W: Worker + Send, G: Gate + Sync, R: Threads + Sync, M: Marks + Sync>(
+fn all_slices<W: Worker + Send, G: Gate + Sync, R: Threads + Sync, M: Marks + Sync>(
     rt: &R,
     words: Words<'_>,
     gate: &G,
@@ -171,12 +171,12 @@ fn all_rows<W: Worker + Send, G: Gate + Sync, R: Threads + Sync, M: Marks + Sync
     requires some { 0 < length crew.old }
     requires each { 0 < each }
     requires away { (i : ℕ) (d : _) → i < length crew.old
-        → let m = slice_index_or crew.old i d in IsAway (W.conduct.tied m.worker) words.space.now.about words.space.now.table i m.token }
+        → let m = slice_index_or crew.old i d in IsAway (W.behaviour.tied m.worker) words.space.now.about words.space.now.table i m.token }
     ensures away { (i : ℕ) (d : _) → i < length crew.old
-        → let m = slice_index_or crew.new i d in IsAway (W.conduct.tied m.worker) words.entry.space.now.about
+        → let m = slice_index_or crew.new i d in IsAway (W.behaviour.tied m.worker) words.entry.space.now.about
         words.entry.space.now.table i m.token }
-    ensures rows { (i : ℕ) (d : _) → i < length crew.old
-        → TookRow W.conduct words.entry.space.now.about i (slice_index_or crew.old i d).worker (slice_index_or crew.new i d).worker }
+    ensures slices { (i : ℕ) (d : _) → i < length crew.old
+        → TookSlice W.behaviour words.entry.space.now.about i (slice_index_or crew.old i d).worker (slice_index_or crew.new i d).worker }
     ensures began { (i : ℕ) → i < length crew.old → BeganFor M.shown each i }
     ensures passed { (i : ℕ) → i < length crew.old → G.passed gate.now i }
 {
@@ -192,11 +192,11 @@ fn take_home<W: Worker>(chip: &mut Chip, crew: &mut [Member<W>])
     requires none { IsHomeBelow chip.old 0 }
     requires each { length crew.old ≡ (about_in chip.old).nue }
     requires away { (i : ℕ) (d : _) → i < length crew.old
-        → let m = slice_index_or crew.old i d in IsAway (W.conduct.tied m.worker) (about_in chip.old) (table_in chip.old) i m.token }
+        → let m = slice_index_or crew.old i d in IsAway (W.behaviour.tied m.worker) (about_in chip.old) (table_in chip.old) i m.token }
     ensures whole { IsWhole chip.new }
     ensures same { (about_in chip.new ≡ about_in chip.old) × (table_in chip.new ≡ table_in chip.old) }
     ensures served { Served (λ k m n. (n.worker ≡ m.worker)
-        × IsAtHome (W.conduct.tied n.worker) n.token (about_in chip.old) k (events_in chip.new k))
+        × IsAtHome (W.behaviour.tied n.worker) n.token (about_in chip.old) k (events_in chip.new k))
         (length crew.old) crew.old crew.new }
 {
     for at in 0..crew.len() {
@@ -212,11 +212,11 @@ pub(crate) fn round_in_threads<
     R: Threads + Sync,
     M: Marks + Drop + Sync,
 >(rt: &R, chip: &mut Chip, crew: &mut [Member<W>], gate: &G, threads: usize) -> usize
-    requires crew { IsCrew (conduct_of_members W.conduct) chip.old crew.old }
+    requires crew { IsCrew (behaviour_of_members W.behaviour) chip.old crew.old }
     requires some { 0 < length crew.old }
     requires threads { 0 < threads }
     // Each worker took a row of turns.
-    ensures took { TookRows (conduct_of_members W.conduct) chip.old crew.old chip.new crew.new }
+    ensures took { TookSlices (behaviour_of_members W.behaviour) chip.old crew.old chip.new crew.new }
     // The thread of each row marked that it began, and each member passed the gate.
     ensures began { (k : ℕ) → k < length crew.old → BeganFor M.shown (div_ceil (length crew.old) threads) k }
     ensures passed { (k : ℕ) → k < length crew.old → G.passed gate.now k }
@@ -227,7 +227,7 @@ pub(crate) fn round_in_threads<
     let each = crew.len().div_ceil(threads);
     let roll: Roll<M> = Roll::new(rt, crew.len().div_ceil(each));
     hand_out(chip, crew);
-    all_rows(rt, chip.words(), gate, &roll, crew, each);
+    all_slices(rt, chip.words(), gate, &roll, crew, each);
     take_home(chip, crew);
     roll.next()
 }

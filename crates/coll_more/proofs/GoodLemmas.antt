@@ -245,17 +245,17 @@ rising_at m (y ∷ ys) (suc k) x up at is =
     let rest = rising_at (reach_by y.way (y.first + y.len) m) ys k x up.1 at is in
     omega (arith, more, rest)
 
-pub later_behind : (m : ℕ) (xs : List PieceCall) (j k : ℕ) (x y : PieceCall) → Rising m xs → slice_get xs j ≡ Some x → slice_get xs k ≡ Some y → j < k → is_of_dst x.way ≡ true → is_taking y.way ≡ true
+pub later_after : (m : ℕ) (xs : List PieceCall) (j k : ℕ) (x y : PieceCall) → Rising m xs → slice_get xs j ≡ Some x → slice_get xs k ≡ Some y → j < k → is_of_dst x.way ≡ true → is_taking y.way ≡ true
     → x.first + x.len ≤ y.first
-later_behind m [] j k x y up one two less of is = absurd (cc)
-later_behind m (z ∷ zs) zero zero x y up one two less of is = absurd (omega (arith, less))
-later_behind m (z ∷ zs) zero (suc k) x y up one two less of is =
+later_after m [] j k x y up one two less of is = absurd (cc)
+later_after m (z ∷ zs) zero zero x y up one two less of is = absurd (omega (arith, less))
+later_after m (z ∷ zs) zero (suc k) x y up one two less of is =
     let rest = rising_at (reach_by z.way (z.first + z.len) m) zs k y up.1 two is in
     subst (λ (v : PieceCall). is_of_dst v.way ≡ true → v.first + v.len ≤ y.first) (some_same z x one)
     (λ here. let end = reach_end z.way (z.first + z.len) m here in omega (arith, end, rest)) of
-later_behind m (z ∷ zs) (suc j) zero x y up one two less of is = absurd (omega (arith, less))
-later_behind m (z ∷ zs) (suc j) (suc k) x y up one two less of is =
-    later_behind (reach_by z.way (z.first + z.len) m) zs j k x y up.1 one two (omega (arith, less)) of is
+later_after m (z ∷ zs) (suc j) zero x y up one two less of is = absurd (omega (arith, less))
+later_after m (z ∷ zs) (suc j) (suc k) x y up one two less of is =
+    later_after (reach_by z.way (z.first + z.len) m) zs j k x y up.1 one two (omega (arith, less)) of is
 
 -- ---- the tables go up
 
@@ -267,17 +267,17 @@ reach_next a len m le = let next = next_piece a len in omega (arith, le, next)
 
 module _ (len : ℕ) where
   -- what comes behind goes up from there on
-  abbrev Behind : ℕ → List PieceCall → Type 0
-  Behind b rest = (m : ℕ) → m ≤ b * len → Rising m rest
+  abbrev After : ℕ → List PieceCall → Type 0
+  After b rest = (m : ℕ) → m ≤ b * len → Rising m rest
 
-  rising_takes : (a n b m : ℕ) (rest : List PieceCall) → b ≡ a + n → m ≤ a * len → Behind b rest → Rising m (for_each (takes_piece len) a n ++ rest)
-  rising_takes a zero b m rest end le behind = behind m (up_to a b len m end le)
-  rising_takes a (suc n) b m rest end le behind = (λ is. le, rising_takes (a + 1) n b (max m (a * len + len)) rest (omega (arith, end)) (reach_next a len m le) behind)
+  rising_takes : (a n b m : ℕ) (rest : List PieceCall) → b ≡ a + n → m ≤ a * len → After b rest → Rising m (for_each (takes_piece len) a n ++ rest)
+  rising_takes a zero b m rest end le afterwards = afterwards m (up_to a b len m end le)
+  rising_takes a (suc n) b m rest end le afterwards = (λ is. le, rising_takes (a + 1) n b (max m (a * len + len)) rest (omega (arith, end)) (reach_next a len m le) afterwards)
 
-  rising_low : (a n b m : ℕ) (rest : List PieceCall) → b ≡ a + n → m ≤ a * len → Behind b rest → Rising m (for_each (takes_then_gives len) a n ++ rest)
-  rising_low a zero b m rest end le behind = behind m (up_to a b len m end le)
-  rising_low a (suc n) b m rest end le behind =
-      (λ is. le, (λ is. absurd (cc), rising_low (a + 1) n b (max m (a * len + len)) rest (omega (arith, end)) (reach_next a len m le) behind))
+  rising_low : (a n b m : ℕ) (rest : List PieceCall) → b ≡ a + n → m ≤ a * len → After b rest → Rising m (for_each (takes_then_gives len) a n ++ rest)
+  rising_low a zero b m rest end le afterwards = afterwards m (up_to a b len m end le)
+  rising_low a (suc n) b m rest end le afterwards =
+      (λ is. le, (λ is. absurd (cc), rising_low (a + 1) n b (max m (a * len + len)) rest (omega (arith, end)) (reach_next a len m le) afterwards))
 
   rising_high : (a n m : ℕ) → m ≤ a * len → Rising m (for_each (gives_then_takes len) a n)
   rising_high a zero m le = tt

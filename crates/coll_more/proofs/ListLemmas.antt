@@ -10,10 +10,10 @@ get_front [] ys k less = absurd (omega (arith, less))
 get_front (x ∷ xs) ys zero less = refl
 get_front (x ∷ xs) ys (suc k) less = get_front xs ys k (omega (arith, less))
 
-pub get_behind : {X : Type 0} (xs ys : List X) (k n : ℕ) → k ≡ length xs + n → slice_get (xs ++ ys) k ≡ slice_get ys n
-get_behind [] ys k n at = let same : k ≡ n = omega (arith, at) in ap (slice_get ys) same
-get_behind (x ∷ xs) ys zero n at = absurd (omega (arith, at))
-get_behind (x ∷ xs) ys (suc k) n at = get_behind xs ys k n (omega (arith, at))
+pub get_after : {X : Type 0} (xs ys : List X) (k n : ℕ) → k ≡ length xs + n → slice_get (xs ++ ys) k ≡ slice_get ys n
+get_after [] ys k n at = let same : k ≡ n = omega (arith, at) in ap (slice_get ys) same
+get_after (x ∷ xs) ys zero n at = absurd (omega (arith, at))
+get_after (x ∷ xs) ys (suc k) n at = get_after xs ys k n (omega (arith, at))
 
 -- the element at a place is the next one
 pub next_taken : {X Y : Type 0} (f : X → Y) (xs : List X) (k : ℕ) (x : X) → slice_get xs k ≡ Some x → map f (take (k + 1) xs) ≡ map f (take k xs) ++ f x ∷ []

@@ -49,21 +49,21 @@ at_between m is = λ i. record m { stage = between_by m.stage is i }
 module _ (s t : Sight) (c d : Private) (old a now b : MoreAt) (slot after : SlotAt) (src dst later : List ℕ) (answer : RecvTurn) where
   -- a turn of ops that are spelled in another way
   carry : old ≡ a → now ≡ b → Stands (taking_part s c old slot src dst) → (Stands (taking_part s c a slot src dst) → MoreTurns (taking_part s c a slot src dst) (taking_part t d b after src later) answer) → MoreTurns (taking_part s c old slot src dst) (taking_part t d now after src later) answer
-  carry before behind fit turns =
+  carry before afterwards fit turns =
       subst (λ (x : MoreAt). MoreTurns (taking_part s c x slot src dst) (taking_part t d now after src later) answer) (sym before)
-      (subst (λ (y : MoreAt). MoreTurns (taking_part s c a slot src dst) (taking_part t d y after src later) answer) (sym behind) (turns (subst (λ (x : MoreAt). Stands (taking_part s c x slot src dst)) before fit)))
+      (subst (λ (y : MoreAt). MoreTurns (taking_part s c a slot src dst) (taking_part t d y after src later) answer) (sym afterwards) (turns (subst (λ (x : MoreAt). Stands (taking_part s c x slot src dst)) before fit)))
 
 module _ (m old now : MoreAt) (s : Sight) (c : Private) (slot : SlotAt) (src dst : List ℕ) (fit : Stands (taking_part s c old slot src dst)) where
   pub owned : (later : List ℕ) → old ≡ record m { stage = Own } → now ≡ record m { stage = Between } → length later ≡ length dst → HasOwn m.more s.seat.rank m.len src later
       → MoreTurns (taking_part s c old slot src dst) (taking_part s c now slot src later) receive.Moved
-  owned later before behind long has = carry s s c c old _ now _ slot slot src dst later receive.Moved before behind fit (λ there. own_turns m s c slot src dst later there long has)
+  owned later before afterwards long has = carry s s c c old _ now _ slot slot src dst later receive.Moved before afterwards fit (λ there. own_turns m s c slot src dst later there long has)
 
   pub begun_next : s.seat.setup.nue ≤ 48 → s.seat.rank < s.seat.setup.nue → (call : PieceCall) → slice_get (table_of s.seat m) m.ended ≡ Some call
       → old ≡ record m { stage = Between } → now ≡ record m { stage = begun_at call } → MoreTurns (taking_part s c old slot src dst) (taking_part s c now slot src dst) receive.Moved
-  begun_next few low call at before behind = carry s s c c old _ now _ slot slot src dst dst receive.Moved before behind fit (λ there. begun_turns m s c slot src dst few low call at there.1.fits)
+  begun_next few low call at before afterwards = carry s s c c old _ now _ slot slot src dst dst receive.Moved before afterwards fit (λ there. begun_turns m s c slot src dst few low call at there.1.fits)
 
   pub nothing_left : slice_get (table_of s.seat m) m.ended ≡ None → old ≡ record m { stage = Between } → now ≡ record m { stage = Between } → MoreTurns (taking_part s c old slot src dst) (taking_part s c now slot src dst) receive.Done
-  nothing_left none before behind = carry s s c c old _ now _ slot slot src dst dst receive.Done before behind fit (λ there. over_turns m s c slot src dst there none)
+  nothing_left none before afterwards = carry s s c c old _ now _ slot slot src dst dst receive.Done before afterwards fit (λ there. over_turns m s c slot src dst there none)
 
 module _ (m old now : MoreAt) (s t : Sight) (c d : Private) (call : PieceCall) (slot : SlotAt) (src dst : List ℕ) (fit : Stands (taking_part s c old slot src dst)) where
   module _ (op next : SendAt) (after : SlotAt) (bytes : List ℕ) (before : old ≡ record m { stage = Sending call op }) (out : bytes ≡ bytes_of_piece call src dst) (stands : SendStands t d next after bytes) where
@@ -86,25 +86,25 @@ module _ (m old now : MoreAt) (s t : Sight) (c d : Private) (call : PieceCall) (
 
   module _ (few : s.seat.setup.nue ≤ 48) (low : s.seat.rank < s.seat.setup.nue) (op next : RecvAt) (later : List ℕ) (before : old ≡ record m { stage = Receiving call op })
       (stands : RecvStands t d next (window call.first call.len later)) (long : length later ≡ length dst) (front : take call.first later ≡ take call.first dst)
-      (behind : drop (call.first + call.len) later ≡ drop (call.first + call.len) dst) where
+      (afterwards : drop (call.first + call.len) later ≡ drop (call.first + call.len) dst) where
     abbrev Got : RecvTurn → Type 0
     Got answer = RecvTurned (receiving s c op (window call.first call.len dst)) (receiving t d next (window call.first call.len later)) answer
 
     pub receiving_moved : now ≡ record m { stage = Receiving call next } → Got receive.Moved → MoreTurns (taking_part s c old slot src dst) (taking_part t d now slot src later) receive.Moved
     receiving_moved is r =
-        carry s t c d old _ now _ slot slot src dst later receive.Moved before is fit (λ there. recv_moved m s t c d call op next slot src dst later few low there stands long front behind r)
+        carry s t c d old _ now _ slot slot src dst later receive.Moved before is fit (λ there. recv_moved m s t c d call op next slot src dst later few low there stands long front afterwards r)
 
     pub receiving_waited : (spot : Spot) → now ≡ record m { stage = Receiving call next } → Got (receive.Waiting spot) → MoreTurns (taking_part s c old slot src dst) (taking_part t d now slot src later) (receive.Waiting spot)
     receiving_waited spot is r =
-        carry s t c d old _ now _ slot slot src dst later (receive.Waiting spot) before is fit (λ there. recv_waited m s t c d call op next slot src dst later few low there stands long front behind spot r)
+        carry s t c d old _ now _ slot slot src dst later (receive.Waiting spot) before is fit (λ there. recv_waited m s t c d call op next slot src dst later few low there stands long front afterwards spot r)
 
     pub receiving_refused : (sent : MessageHead) → now ≡ record m { stage = Receiving call next } → Got (receive.Mismatch sent) → MoreTurns (taking_part s c old slot src dst) (taking_part t d now slot src later) (receive.Mismatch sent)
     receiving_refused sent is r =
-        carry s t c d old _ now _ slot slot src dst later (receive.Mismatch sent) before is fit (λ there. recv_refused m s t c d call op next slot src dst later few low there stands long front behind sent r)
+        carry s t c d old _ now _ slot slot src dst later (receive.Mismatch sent) before is fit (λ there. recv_refused m s t c d call op next slot src dst later few low there stands long front afterwards sent r)
 
     pub receiving_done : now ≡ record m { ended = m.ended + 1; stage = Between } → Got receive.Done → MoreTurns (taking_part s c old slot src dst) (taking_part t d now slot src later) receive.Moved
     receiving_done is r =
-        carry s t c d old _ now _ slot slot src dst later receive.Moved before is fit (λ there. recv_done m s t c d call op next slot src dst later few low there stands long front behind r)
+        carry s t c d old _ now _ slot slot src dst later receive.Moved before is fit (λ there. recv_done m s t c d call op next slot src dst later few low there stands long front afterwards r)
 
 -- ---- what the calls of a turn ask for
 

@@ -26,7 +26,7 @@ use Rattle.coll_more.specs.declared.kinds.PieceCall.{PieceCall}
 use Rattle.coll_more.specs.declared.kinds.Way.{Way}
 use Rattle.coll_more.specs.declared.kinds.Way.TheVariants.{Gives, Shares, Takes}
 use Rattle.coll_more.specs.declared.ops.Stage.TheVariants.{Between, Receiving}
-use Rattle.coll_more.proofs.GoodLemmas.{IsApart, IsGood, is_of_dst, later_behind, rising_calls}
+use Rattle.coll_more.proofs.GoodLemmas.{IsApart, IsGood, is_of_dst, later_after, rising_calls}
 use Rattle.coll_more.proofs.ListLemmas.{next_taken, same_taken}
 use Rattle.coll_more.proofs.TurnLemmas.{good_here, turned_by}
 use Rattle.coll_more.proofs.WindowLemmas.{same_parts, window_back, window_front}
@@ -70,7 +70,7 @@ module _ (m : MoreAt) (s t : Sight) (c d : Private) (call : PieceCall) (op next 
 
   module _ (few : s.seat.setup.nue ≤ 48) (low : s.seat.rank < s.seat.setup.nue) (fit : Stands old)
       (there : RecvStands t d next (window call.first call.len later)) (long : length later ≡ length dst) (front : take call.first later ≡ take call.first dst)
-      (behind : drop (call.first + call.len) later ≡ drop (call.first + call.len) dst) where
+      (afterwards : drop (call.first + call.len) later ≡ drop (call.first + call.len) dst) where
     here : IsRecvOfPiece call op
     here = fit.1.at.1
 
@@ -81,14 +81,14 @@ module _ (m : MoreAt) (s t : Sight) (c d : Private) (call : PieceCall) (op next 
     kept_calls : ended_calls s.seat m src dst ≡ ended_calls s.seat m src later
     kept_calls = same_taken (data_call_of src dst) (data_call_of src later) (table_of s.seat m) m.ended (λ k x less at.
         ap (data_by x.way x.peer x.len) (old_bytes src dst later x call x.way
-        (λ of. later_behind 0 (table_of s.seat m) k m.ended x call (rising_calls m.len m.more s.seat.rank s.seat.setup.nue) at fit.1.at.0 less of here.way) front))
+        (λ of. later_after 0 (table_of s.seat m) k m.ended x call (rising_calls m.len m.more s.seat.rank s.seat.setup.nue) at fit.1.at.0 less of here.way) front))
 
     -- and so does the own piece
     own_by : (own : Bool) → IsApart own s.seat.rank m.len call → own ≡ true → window (s.seat.rank * m.len) m.len later ≡ window (s.seat.rank * m.len) m.len dst
     own_by true apart is = by (apart here.way)
       where
         by : (call.first + call.len ≤ s.seat.rank * m.len) ⊎ (s.seat.rank * m.len + m.len ≤ call.first) → window (s.seat.rank * m.len) m.len later ≡ window (s.seat.rank * m.len) m.len dst
-        by (inl under) = window_back dst later (call.first + call.len) (s.seat.rank * m.len) m.len under behind
+        by (inl under) = window_back dst later (call.first + call.len) (s.seat.rank * m.len) m.len under afterwards
         by (inr over) = window_front dst later call.first (s.seat.rank * m.len) m.len over front
     own_by false apart is = absurd (cc)
 
@@ -128,14 +128,14 @@ module _ (m : MoreAt) (s t : Sight) (c d : Private) (call : PieceCall) (op next 
     recv_waited spot r = record {
       stands = kept (turn.Waiting spot) r (ap (λ (x : RecvAt). is_received x.stage) r.means.0 ∙ here.unended) r.means.2.calls;
       turned = turned_by old now (turn.Waiting spot) r.events r.did r.does r.tried r.freed (λ at same. r.rests spot refl) r.only (refl, refl)
-          (record { same_op = (λ i. record m { stage = Receiving call (r.means.0 i) }); same_slot = refl; same_dst = same_parts dst later call.first call.len front r.means.1 behind; rest = r.means.2 }, refl) r.rest (none_stored s.seat.setup c r.events r.no_drafts) r.held;
+          (record { same_op = (λ i. record m { stage = Receiving call (r.means.0 i) }); same_slot = refl; same_dst = same_parts dst later call.first call.len front r.means.1 afterwards; rest = r.means.2 }, refl) r.rest (none_stored s.seat.setup c r.events r.no_drafts) r.held;
     }
 
     pub recv_refused : (sent : MessageHead) → Turned (turn.Mismatch sent) → MoreTurns old now (turn.Mismatch sent)
     recv_refused sent r = record {
       stands = kept (turn.Mismatch sent) r (ap (λ (x : RecvAt). is_received x.stage) r.means.0 ∙ here.unended) r.means.3.calls;
       turned = turned_by old now (turn.Mismatch sent) r.events r.did r.does r.tried r.freed (λ spot same. absurd (cc)) r.only (refl, refl)
-          (record { same_op = (λ i. record m { stage = Receiving call (r.means.0 i) }); same_slot = refl; same_dst = same_parts dst later call.first call.len front r.means.1 behind; rest = r.means.3 }, refl, (r.means.2, λ same. r.means.4 (same ∙ sym here.head), r.means.5, subst (λ (j : ℕ). (record_in t).notes j ≡ Some r.means.5) here.from r.means.6, r.means.7)) r.rest (none_stored s.seat.setup c r.events r.no_drafts) r.held;
+          (record { same_op = (λ i. record m { stage = Receiving call (r.means.0 i) }); same_slot = refl; same_dst = same_parts dst later call.first call.len front r.means.1 afterwards; rest = r.means.3 }, refl, (r.means.2, λ same. r.means.4 (same ∙ sym here.head), r.means.5, subst (λ (j : ℕ). (record_in t).notes j ≡ Some r.means.5) here.from r.means.6, r.means.7)) r.rest (none_stored s.seat.setup c r.events r.no_drafts) r.held;
     }
 
     pub recv_done : Turned turn.Done → MoreTurns old past turn.Moved

@@ -7,7 +7,7 @@ use Rattle.coll_more.specs.declared.kinds.More.TheVariants.{Gather, Scatter, All
 use Rattle.coll_more.specs.declared.kinds.PieceCall.{PieceCall}
 use Rattle.coll_more.specs.declared.kinds.Way.{Way}
 use Rattle.coll_more.specs.declared.kinds.Way.TheVariants.{Gives, Takes}
-use Rattle.coll_more.proofs.ListLemmas.{get_behind, get_front}
+use Rattle.coll_more.proofs.ListLemmas.{get_after, get_front}
 
 -- one message a rank
 module _ (f : ℕ → PieceCall) where
@@ -103,7 +103,7 @@ module _ (rank nue len k : ℕ) where
   high_is high =
       let many = low_many in
       let rest : k ≡ length low_part + (k - 2 * rank) = omega (arith, high, many) in
-      get_behind low_part high_part k (k - 2 * rank) rest
+      get_after low_part high_part k (k - 2 * rank) rest
 
   pub high_pair : rank ≤ k / 2 → k / 2 + 1 < nue → slice_get (alltoall_calls rank nue len) k ≡ Some (piece_call (if k % 2 == 0 then Gives else Takes) (k / 2 + 1) len)
   high_pair high within =

@@ -27,8 +27,8 @@ module _ (old new : List ℕ) where
 
   -- three parts are the whole
   pub same_parts : (a b : ℕ) → take a new ≡ take a old → window a b new ≡ window a b old → drop (a + b) new ≡ drop (a + b) old → new ≡ old
-  same_parts a b front middle behind =
-      sym (parts new) ∙ (λ i. front i ++ (middle i ++ behind i)) ∙ parts old
+  same_parts a b front middle afterwards =
+      sym (parts new) ∙ (λ i. front i ++ (middle i ++ afterwards i)) ∙ parts old
     where
       parts : (l : List ℕ) → take a l ++ (window a b l ++ drop (a + b) l) ≡ l
       parts l =
@@ -44,7 +44,7 @@ module _ (front part rest : List ℕ) (first len : ℕ) (at : length front ≡ f
   drop_part = sym (drop-drop len first (front ++ (part ++ rest))) ∙ ap (drop len) (drop_at front (part ++ rest) first at) ∙ drop_at part rest len long
 
 -- a list that was cut there, and behind the part
-pub window_of_parts : (whole front behind part rest : List ℕ) (first len : ℕ) → whole ≡ front ++ behind → behind ≡ part ++ rest
+pub window_of_parts : (whole front afterwards part rest : List ℕ) (first len : ℕ) → whole ≡ front ++ afterwards → afterwards ≡ part ++ rest
     → length front ≡ first → length part ≡ len → window first len whole ≡ part
-window_of_parts whole front behind part rest first len cut then at long =
+window_of_parts whole front afterwards part rest first len cut then at long =
     ap (window first len) (cut ∙ ap (λ (x : List ℕ). front ++ x) then) ∙ window_part front part rest first len at long

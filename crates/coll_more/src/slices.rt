@@ -59,7 +59,7 @@ pub(crate) fn take_turn<V: Evict, P: Port>(
         (receiving (P.sight port.new) core.new op.new (window first len dst.new)) result }
     ensures steps { (spot : Spot) → recv_waits result ≡ Some spot → MadeSteps P.stepped (P.sight port.old) (P.sight port.new) }
     ensures before { take first dst.new ≡ take first dst.old }
-    ensures behind { drop (first + len) dst.new ≡ drop (first + len) dst.old }
+    ensures afterwards { drop (first + len) dst.new ≡ drop (first + len) dst.old }
 {
     let (_, rest) = dst.split_at_mut(first);
     let (part, _) = rest.split_at_mut(len);

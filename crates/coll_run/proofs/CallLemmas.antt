@@ -73,8 +73,8 @@ module _ (F : ℕ → List DataCall → List Message) (want : Bool) (src dst : L
   either_way false true same other = other refl
   either_way false false same other = same refl
 
-  none_behind : (p : ℕ) (x : PieceCall) (rest : List DataCall) → F p (data_call_of src dst x ∷ rest) ≡ [] → F p rest ≡ []
-  none_behind p x rest none = either_way (is_taking x.way) want
+  none_after : (p : ℕ) (x : PieceCall) (rest : List DataCall) → F p (data_call_of src dst x ∷ rest) ≡ [] → F p rest ≡ []
+  none_after p x rest none = either_way (is_taking x.way) want
       (λ is. same_or_other (F p rest ≡ []) x.peer p
       (λ t same. absurd (counts x.way x.peer x.len _ rest is (subst (λ (q : ℕ). F q (data_call_of src dst x ∷ rest) ≡ []) (sym same) none)))
       (λ t apart. sym (others x.way p x.peer x.len _ rest apart) ∙ none))
@@ -86,7 +86,7 @@ module _ (F : ℕ → List DataCall → List Message) (want : Bool) (src dst : L
   counted (x ∷ xs) zero c at is none =
       subst (λ (y : PieceCall). is_taking y.way ≡ want → F y.peer (data_call_of src dst x ∷ map (data_call_of src dst) xs) ≡ [] → ⊥) (some_same x c at)
       (λ here empty. counts x.way x.peer x.len _ (map (data_call_of src dst) xs) here empty) is none
-  counted (x ∷ xs) (suc j) c at is none = counted xs j c at is (none_behind c.peer x (map (data_call_of src dst) xs) none)
+  counted (x ∷ xs) (suc j) c at is none = counted xs j c at is (none_after c.peer x (map (data_call_of src dst) xs) none)
 
   -- a message of the list is one of the table
   abbrev Found : ℕ → List PieceCall → Type 0

@@ -24,7 +24,7 @@ use Rattle.coll_more.specs.declared.ops.Stage.TheVariants.{Own, Between, Sending
 use Rattle.coll_more.proofs.EndLemmas.{stands_there}
 use Rattle.coll_run.specs.Resting.{want_at}
 use Rattle.coll_run.specs.Teams.{MemberStands, MemberView, seat_of, sight_of}
-use Rattle.coll_run.specs.Workers.{HasGoneOn, IsTied, member_conduct}
+use Rattle.coll_run.specs.Workers.{HasGoneOn, IsTied, member_behaviour}
 use Rattle.coll_run.proofs.LookLemmas.{has_ended, has_moved, has_waited, left_running}
 
 -- where a rank stands at its port
@@ -56,7 +56,7 @@ met_idle s m table ended sent (Sending call op) at met = absurd met
 met_idle s m table ended sent (Receiving call op) at met =
     (subst (λ (x : RecvStage). IsAtRecvStage s.seat (record_in s) m.core op (window call.first call.len m.dst) x) met.0 at.3.at).1
 
-pub met_rests : (stepped : Seat → List Event → Event → Type 0) (m : MemberView) (s : Sight) → IsTied m s.seat.setup s.seat.rank s.events → m.met ≡ true → Turned member_conduct (stepped s.seat) m s m s worker_turn.Done
+pub met_rests : (stepped : Seat → List Event → Event → Type 0) (m : MemberView) (s : Sight) → IsTied m s.seat.setup s.seat.rank s.events → m.met ≡ true → Turned member_behaviour (stepped s.seat) m s m s worker_turn.Done
 unfolding record_in
 met_rests stepped m s ties is_met =
     let (sent, met) = ties.met is_met in
@@ -90,17 +90,17 @@ module _ (stepped : Seat → List Event → Event → Type 0) (old : MemberView)
     pub tied_on : IsTied new t.seat.setup t.seat.rank t.events
     tied_on = record { stands = stands_later; met = λ is_met. absurd (let off : new.met ≡ false = gone.met ∙ running in cc (is_met, off)) }
 
-  pub moved_on : HasGoneOn stepped old s new t turn.Moved → Turned member_conduct (stepped s.seat) old s new t worker_turn.Moved
+  pub moved_on : HasGoneOn stepped old s new t turn.Moved → Turned member_behaviour (stepped s.seat) old s new t worker_turn.Moved
   moved_on gone = record { events = gone.turned.events; did = gone.turned.did; means = has_moved s t old new running gone.turned gone.met gone.src }
 
-  pub waited_on : (spot : Spot) → HasGoneOn stepped old s new t (turn.Waiting spot) → Turned member_conduct (stepped s.seat) old s new t (worker_turn.Waiting spot)
+  pub waited_on : (spot : Spot) → HasGoneOn stepped old s new t (turn.Waiting spot) → Turned member_behaviour (stepped s.seat) old s new t (worker_turn.Waiting spot)
   waited_on spot gone = record {
     events = gone.turned.events;
     did = gone.turned.did;
     means = has_waited (stepped s.seat) s t old new spot (at_port_of old s ties) gone.turned (gone.steps spot refl gone.turned.events gone.turned.did) running gone.met gone.src;
   }
 
-  pub done_on : HasGoneOn stepped old s new t turn.Done → Turned member_conduct (stepped s.seat) old s new t worker_turn.Done
+  pub done_on : HasGoneOn stepped old s new t turn.Done → Turned member_behaviour (stepped s.seat) old s new t worker_turn.Done
   done_on gone = record { events = gone.turned.events; did = gone.turned.did; means = has_ended s t old new running gone.turned (at_port_of old s ties) gone.met gone.src }
 
   module _ (sent : MessageHead) (gone : HasGoneOn stepped old s new t (turn.Mismatch sent)) where
@@ -117,7 +117,7 @@ module _ (stepped : Seat → List Event → Event → Type 0) (old : MemberView)
           met = λ is_met. (sent, subst (λ (x : MoreAt). MetOther (record_in t) sent x.stage) (sym still.same_op) gone.turned.means.2);
         }
 
-    pub met_on : Turned member_conduct (stepped s.seat) old s stopped t worker_turn.Moved
+    pub met_on : Turned member_behaviour (stepped s.seat) old s stopped t worker_turn.Moved
     met_on = record {
       events = gone.turned.events;
       did = gone.turned.did;

@@ -31,7 +31,7 @@ use Rattle.coll_more.proofs.EndLemmas.{begins, ended_by}
 use Rattle.coll_more.proofs.PieceLemmas.{pieces_there}
 use Rattle.coll_run.specs.Resting.{AtEnd, HaveRested, Looks, Met, Rests, want_at}
 use Rattle.coll_run.specs.Teams.{TeamHasEnded, IsFreshMember, IsFreshTeam, MemberStands, MemberView, seat_of, sight_of, srcs_of}
-use Rattle.coll_run.specs.Workers.{IsTied, member_conduct, member_seen, member_want}
+use Rattle.coll_run.specs.Workers.{IsTied, member_behaviour, member_seen, member_want}
 use Rattle.coll_run.proofs.RestLemmas.{all_over, passed_is}
 
 -- ---- before the first turn
@@ -60,7 +60,7 @@ fresh_tied more len m s rank events fresh fits none =
       met = λ is_met. absurd (let off = fresh.met in cc (is_met, off));
     }
 
-pub team_at_start : (more : More) (len : ℕ) (chip : ChipView) (team : List MemberView) → IsFreshTeam more len chip team → IsCrew member_conduct chip team
+pub team_at_start : (more : More) (len : ℕ) (chip : ChipView) (team : List MemberView) → IsFreshTeam more len chip team → IsCrew member_behaviour chip team
 team_at_start more len chip team fresh = record {
   whole = fresh.whole;
   each = fresh.each;
@@ -85,7 +85,7 @@ wants_none false (Sending call op) is = absurd (cc (is))
 wants_none false (Receiving call op) is = absurd (cc (is))
 
 module _ (more : More) (len : ℕ) (chip now : ChipView) (team later : List MemberView) (d : MemberView) (memory : Memory) (agrees : Agrees (about_in now) memory (records_in now))
-    (fresh : IsFreshTeam more len chip team) (is : IsCrew member_conduct now later) (goes : CrewGoesOn member_conduct chip team now later) (rests : AllRest member_conduct now later (length later)) where
+    (fresh : IsFreshTeam more len chip team) (is : IsCrew member_behaviour now later) (goes : CrewGoesOn member_behaviour chip team now later) (rests : AllRest member_behaviour now later (length later)) where
   abbrev s : SetupView
   s = about_in now
 
@@ -101,19 +101,19 @@ module _ (more : More) (len : ℕ) (chip now : ChipView) (team later : List Memb
   -- it is still the same call, of the same bytes
   same_more : (k : ℕ) → k < s.nue → (member k).op.more ≡ more
   same_more k low =
-      later_keeps member_conduct (λ (m : MemberView). m.op.more) (λ x y moves. moves.more) (λ x y stays. ap (λ (op : MoreAt). op.more) stays.op)
+      later_keeps member_behaviour (λ (m : MemberView). m.op.more) (λ x y moves. moves.more) (λ x y stays. ap (λ (op : MoreAt). op.more) stays.op)
       (slice_index_or team k d) (member k) (goes.each k d (at_first k low))
       ∙ ap (λ (op : MoreAt). op.more) (fresh.fresh.fresh k d (at_first k low)).op
 
   same_len : (k : ℕ) → k < s.nue → (member k).op.len ≡ len
   same_len k low =
-      later_keeps member_conduct (λ (m : MemberView). m.op.len) (λ x y moves. moves.len) (λ x y stays. ap (λ (op : MoreAt). op.len) stays.op)
+      later_keeps member_behaviour (λ (m : MemberView). m.op.len) (λ x y moves. moves.len) (λ x y stays. ap (λ (op : MoreAt). op.len) stays.op)
       (slice_index_or team k d) (member k) (goes.each k d (at_first k low))
       ∙ ap (λ (op : MoreAt). op.len) (fresh.fresh.fresh k d (at_first k low)).op
 
   same_srcs : (k : ℕ) → k < s.nue → (member k).src ≡ srcs_of team d k
   same_srcs k low =
-      later_keeps member_conduct (λ (m : MemberView). m.src) (λ x y moves. moves.src) (λ x y stays. stays.src) (slice_index_or team k d) (member k) (goes.each k d (at_first k low))
+      later_keeps member_behaviour (λ (m : MemberView). m.src) (λ x y moves. moves.src) (λ x y stays. stays.src) (slice_index_or team k d) (member k) (goes.each k d (at_first k low))
 
   same_all : (k : ℕ) → (member k).src ≡ srcs_of team d k
   same_all k =
@@ -214,7 +214,7 @@ module _ (more : More) (len : ℕ) (chip now : ChipView) (team later : List Memb
       ∙ (λ i. data_calls more k (same_nue i) len (same_all k i) (pieces_now k low i))
 
 module _ (more : More) (len : ℕ) (chip now : ChipView) (team later : List MemberView) (memory : Memory) (agrees : Agrees (about_in now) memory (records_in now))
-    (fresh : IsFreshTeam more len chip team) (is : IsCrew member_conduct now later) (goes : CrewGoesOn member_conduct chip team now later) (rests : AllRest member_conduct now later (length later)) where
+    (fresh : IsFreshTeam more len chip team) (is : IsCrew member_behaviour now later) (goes : CrewGoesOn member_behaviour chip team now later) (rests : AllRest member_behaviour now later (length later)) where
   some_at : (xs : List MemberView) (k : ℕ) → k < length xs → MemberView
   some_at [] k low = absurd (omega (arith, low))
   some_at (x ∷ xs) k low = x

@@ -11,7 +11,7 @@ use Rattle.send_recv.specs.Ops.{SlotAt}
 use Rattle.send_recv.specs.declared.answers.RecvTurn.TheVariants as turn
 use Rattle.chip_run.specs.Turns.{HasMoved, HasWaited, IsDone}
 use Rattle.chip_run.specs.Wants.{Want}
-use Rattle.waiting_laws.specs.Looks.{LookedInVain, SeatWaits}
+use Rattle.waiting_laws.specs.Looks.{LookFailed, SeatWaits}
 use Rattle.waiting_laws.proofs.Messages.{receives_here, sends_here}
 use Rattle.waiting_laws.proofs.Waited.{turn_waited}
 use Rattle.coll_more.specs.Ops.{MoreAt, bytes_of_piece, table_of, window, taking_part}
@@ -22,7 +22,7 @@ use Rattle.coll_more.specs.declared.ops.Stage.{Stage}
 use Rattle.coll_more.specs.declared.ops.Stage.TheVariants.{Own, Between, Sending, Receiving}
 use Rattle.coll_run.specs.Resting.{want_at}
 use Rattle.coll_run.specs.Teams.{MemberView, seat_of}
-use Rattle.coll_run.specs.Workers.{Stays, member_conduct, member_seen}
+use Rattle.coll_run.specs.Workers.{Stays, member_behaviour, member_seen}
 
 -- nothing more is nothing
 none_more : (xs ys : List Event) → xs ≡ xs ++ ys → ys ≡ []
@@ -56,7 +56,7 @@ module _ (s t : Sight) (old new : MemberView) where
 module _ (stepped : List Event → Event → Type 0) (s t : Sight) (old new : MemberView) where
   module _ (spot : Spot) (stands : MoreStands [] (taking_part s old.core old.op old.slot old.src old.dst))
       (turned : MoreTurned (taking_part s old.core old.op old.slot old.src old.dst) (taking_part t new.core new.op new.slot old.src new.dst) (turn.Waiting spot)) (steps : WereSteps stepped s.events turned.events) where
-    module _ (memory : Memory) (records : ℕ → Record) (aim : Aim) (look : LookedInVain s.seat memory records (record_in s) aim) where
+    module _ (memory : Memory) (records : ℕ → Record) (aim : Aim) (look : LookFailed s.seat memory records (record_in s) aim) where
       waits_by : (st : Stage) → StandsAt s old.core old.slot (table_of s.seat old.op) old.op.ended old.src old.dst st → stage_aim s.seat old.slot st ≡ Some aim → SeatWaits s.seat memory records (want_at st)
       waits_by Own st is = absurd (cc (is))
       waits_by Between st is = absurd (cc (is))
@@ -64,10 +64,10 @@ module _ (stepped : List Event → Event → Type 0) (s t : Sight) (old new : Me
       waits_by (Receiving call op) st is = receives_here s.seat memory records (record_in s) aim look old.core op (window call.first call.len old.dst) st.3 is
 
     -- so it waits for what it wants
-    pub has_waited : old.met ≡ false → new.met ≡ old.met → new.src ≡ old.src → HasWaited member_conduct stepped s.seat.setup s.seat.rank s.events turned.events old new
+    pub has_waited : old.met ≡ false → new.met ≡ old.met → new.src ≡ old.src → HasWaited member_behaviour stepped s.seat.setup s.seat.rank s.events turned.events old new
     has_waited running met src =
         let still = turned.means in
-        turn_waited stepped (stage_aim s.seat old.slot old.op.stage) s t turned.events spot turned.did steps turned.tried (turned.rests spot refl) still.0.rest member_conduct old new (want_at old.op.stage)
+        turn_waited stepped (stage_aim s.seat old.slot old.op.stage) s t turned.events spot turned.did steps turned.tried (turned.rests spot refl) still.0.rest member_behaviour old new (want_at old.op.stage)
         (λ i. if sym running i || sym still.1 i then Want.Nothing else want_at old.op.stage) (stays_still s t old new still.0 src) (seen_still s t old new still.0 met)
         (λ memory records aim look is. waits_by memory records aim look old.op.stage stands.at is)
 
@@ -82,7 +82,7 @@ module _ (s t : Sight) (old new : MemberView) (running : old.met ≡ false) wher
       ap (λ (b : Bool). if b then 0 else more_left (seat_of seat.setup seat.rank) m.op m.slot + 1) off ∙ ap (λ (n : ℕ). n + 1) (sym (left_same seat m.op m.slot m.op.stage))
 
   module _ (turned : MoreTurned (taking_part s old.core old.op old.slot old.src old.dst) (taking_part t new.core new.op new.slot old.src new.dst) turn.Moved) where
-    pub has_moved : new.met ≡ old.met → new.src ≡ old.src → HasMoved member_conduct seat.setup seat.rank old new
+    pub has_moved : new.met ≡ old.met → new.src ≡ old.src → HasMoved member_behaviour seat.setup seat.rank old new
     has_moved met src = record {
       moves = record { more = turned.same.0; len = turned.same.1; src = src };
       less = (let less = turned.means.0 in omega (arith, less, left_running old running, left_running new (met ∙ running)));
@@ -96,7 +96,7 @@ module _ (s t : Sight) (old new : MemberView) (running : old.met ≡ false) wher
     over_idle table ended (Sending call op) over at = absurd (cc (over))
     over_idle table ended (Receiving call op) over at = absurd (cc (over))
 
-    pub has_ended : new.met ≡ old.met → new.src ≡ old.src → IsDone member_conduct seat.setup seat.rank s.events turned.events old new
+    pub has_ended : new.met ≡ old.met → new.src ≡ old.src → IsDone member_behaviour seat.setup seat.rank s.events turned.events old new
     unfolding record_in
     has_ended met src = record {
       stays = record { op = turned.means.0; slot = turned.means.1; src = src };

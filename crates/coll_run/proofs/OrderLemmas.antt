@@ -9,7 +9,7 @@ use Rattle.coll_more.specs.declared.kinds.More.TheVariants.{Gather, Scatter, All
 use Rattle.coll_more.specs.declared.kinds.PieceCall.{PieceCall}
 use Rattle.coll_more.specs.declared.kinds.Way.{Way}
 use Rattle.coll_more.specs.declared.kinds.Way.TheVariants.{Gives, Takes}
-use Rattle.coll_more.proofs.ListLemmas.{get_behind, some_same}
+use Rattle.coll_more.proofs.ListLemmas.{get_after, some_same}
 use Rattle.coll_more.proofs.TableLemmas.{high_pair, low_pair, pairs_end, root_at, root_none}
 use Rattle.coll_run.specs.Order.{IsOtherSide, delay, number_at, message_number}
 
@@ -193,9 +193,9 @@ module _ (nue len : ℕ) where
       (λ (front : slice_get (gather_calls rank nue len) i ≡ Some one).
       let (j, other, there, is) = gather_mirrored rank i one low front in
       (j, other, in_front (gather_calls one.peer nue len) (spread_calls one.peer nue len) j other there, is))
-      (λ (behind : (k : ℕ) × (slice_get (spread_calls rank nue len) k ≡ Some one)).
-      let (j, other, there, is) = spread_mirrored rank behind.0 one low behind.1 in
-      (length (gather_calls one.peer nue len) + j, other, get_behind (gather_calls one.peer nue len) (spread_calls one.peer nue len) (length (gather_calls one.peer nue len) + j) j refl ∙ there, is))
+      (λ (afterwards : (k : ℕ) × (slice_get (spread_calls rank nue len) k ≡ Some one)).
+      let (j, other, there, is) = spread_mirrored rank afterwards.0 one low afterwards.1 in
+      (length (gather_calls one.peer nue len) + j, other, get_after (gather_calls one.peer nue len) (spread_calls one.peer nue len) (length (gather_calls one.peer nue len) + j) j refl ∙ there, is))
       (in_one (gather_calls rank nue len) (spread_calls rank nue len) i one at)
 
   -- a pair of an alltoall

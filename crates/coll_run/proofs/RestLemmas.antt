@@ -149,7 +149,7 @@ module _ (more : More) (len : ℕ) (s : SetupView) (memory : Memory) (lists : �
       → SlotWaits view k (recs k) ⊎ RaiseWaits s view k op.to op.head (recs k)
   sending_waits k call op is (AtEnd over) =
       absurd (let goes : is_more_over (seat_of s k) (members k).op ≡ false = ap (is_over_by (table_of (seat_of s k) (members k).op) (done k)) is in cc (goes, over))
-  sending_waits k call op is (Looks vain) = subst (λ (st : Stage). Waits s view k (recs k) (want_at st)) is vain
+  sending_waits k call op is (Looks failed) = subst (λ (st : Stage). Waits s view k (recs k) (want_at st)) is failed
   sending_waits k call op is (Met sent met) = absurd (subst (λ (st : Stage). MetOther (recs k) sent st) is met)
 
   -- a receive waits, or has met another head
@@ -157,7 +157,7 @@ module _ (more : More) (len : ℕ) (s : SetupView) (memory : Memory) (lists : �
       → TakeWaits s view k op.from (recs k) ⊎ HasMet (recs k) call.peer call.len
   receiving_waits k call op is (AtEnd over) =
       absurd (let goes : is_more_over (seat_of s k) (members k).op ≡ false = ap (is_over_by (table_of (seat_of s k) (members k).op) (done k)) is in cc (goes, over))
-  receiving_waits k call op is (Looks vain) = inl (subst (λ (st : Stage). Waits s view k (recs k) (want_at st)) is vain)
+  receiving_waits k call op is (Looks failed) = inl (subst (λ (st : Stage). Waits s view k (recs k) (want_at st)) is failed)
   receiving_waits k call op is (Met sent met) =
       let (at_head, other, header, noted, says) = subst (λ (st : Stage). MetOther (recs k) sent st) is met in
       inr (record { sent = sent; other = other; header = header; noted = noted; says = says })
@@ -233,13 +233,13 @@ module _ (more : More) (len : ℕ) (s : SetupView) (memory : Memory) (lists : �
 
       own_rests : (members k).op.stage ≡ Own → Rests s memory (recs k) k (members k).op → ⊥
       own_rests is (AtEnd over) = let goes : is_more_over (seat_of s k) (members k).op ≡ false = ap (is_over_by (table_of (seat_of s k) (members k).op) (done k)) is in cc (goes, over)
-      own_rests is (Looks vain) = subst (λ (st : Stage). Waits s view k (recs k) (want_at st)) is vain
+      own_rests is (Looks failed) = subst (λ (st : Stage). Waits s view k (recs k) (want_at st)) is failed
       own_rests is (Met sent met) = subst (λ (st : Stage). MetOther (recs k) sent st) is met
 
       between_rests : (members k).op.stage ≡ Between → Rests s memory (recs k) k (members k).op → ⊥
       between_rests is (AtEnd over) =
           no_more_is (slice_get (table_of (seat_of s k) (members k).op) (done k)) c (sym (ap (is_over_by (table_of (seat_of s k) (members k).op) (done k)) is) ∙ over) here
-      between_rests is (Looks vain) = subst (λ (st : Stage). Waits s view k (recs k) (want_at st)) is vain
+      between_rests is (Looks failed) = subst (λ (st : Stage). Waits s view k (recs k) (want_at st)) is failed
       between_rests is (Met sent met) = subst (λ (st : Stage). MetOther (recs k) sent st) is met
 
       by : (st : Stage) → (members k).op.stage ≡ st → At k st → Stuck k c
@@ -365,10 +365,10 @@ module _ (more : More) (len : ℕ) (s : SetupView) (memory : Memory) (lists : �
       next call at = none_left_at k call low (ap (λ (xs : List PieceCall). slice_get xs (done k)) (sym (table_is k low)) ∙ at)
 
       by_stage : (st : Stage) → (members k).op.stage ≡ st → At k st → Waits s view k (recs k) (want_at st) → ⊥
-      by_stage Own is at vain = vain
-      by_stage Between is at vain = vain
-      by_stage (Sending call op) is at vain = next call at.0
-      by_stage (Receiving call op) is at vain = next call at.0
+      by_stage Own is at failed = failed
+      by_stage Between is at failed = failed
+      by_stage (Sending call op) is at failed = next call at.0
+      by_stage (Receiving call op) is at failed = next call at.0
 
       by_met : (st : Stage) (sent : MessageHead) → At k st → MetOther (recs k) sent st → ⊥
       by_met Own sent at met = met
@@ -378,5 +378,5 @@ module _ (more : More) (len : ℕ) (s : SetupView) (memory : Memory) (lists : �
 
       by : Rests s memory (recs k) k (members k).op → is_more_over (seat_of s k) (members k).op ≡ true
       by (AtEnd over) = over
-      by (Looks vain) = absurd (by_stage (members k).op.stage refl (h.stands k low).stands.at vain)
+      by (Looks failed) = absurd (by_stage (members k).op.stage refl (h.stands k low).stands.at failed)
       by (Met sent met) = absurd (by_met (members k).op.stage sent (h.stands k low).stands.at met)

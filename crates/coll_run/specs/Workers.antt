@@ -9,7 +9,7 @@ use Rattle.scc_proto.specs.Records.{record_of}
 use Rattle.put_get.specs.Cores.{MadeSteps}
 use Rattle.send_recv.specs.Receiving.{recv_waits}
 use Rattle.send_recv.specs.declared.answers.RecvTurn.{RecvTurn}
-use Rattle.chip_run.specs.Conducts.{Conduct, WorkerView}
+use Rattle.chip_run.specs.Behaves.{Behaviour, WorkerView}
 use Rattle.chip_run.specs.Wants.{Want}
 use Rattle.coll_more.specs.Ops.{taking_part}
 use Rattle.coll_more.specs.Standing.{MoreStands}
@@ -57,5 +57,5 @@ pub record HasGoneOn (stepped : Seat → List Event → Event → Type 0) (old :
   pub met : new.met ≡ old.met
 
 -- how the ranks of a collective call conduct themselves in a run
-abbrev pub member_conduct : Conduct MemberView
-member_conduct = record { seen = member_seen; tied = IsTied; moves = KeepsCall; stays = Stays }
+abbrev pub member_behaviour : Behaviour MemberView
+member_behaviour = record { seen = member_seen; tied = IsTied; moves = KeepsCall; stays = Stays }

@@ -11,7 +11,7 @@ impl<V: Evict + Drop> Member<V> {
     ghost use Rattle.std.specs.Prelude.{[]};
     ghost use Rattle.coll_more.specs.Ops.{taking_part};
     ghost use Rattle.coll_more.specs.Standing.{MoreStands};
-    ghost use Rattle.coll_run.specs.Workers.{HasGoneOn, IsTied, member_conduct};
+    ghost use Rattle.coll_run.specs.Workers.{HasGoneOn, IsTied, member_behaviour};
     ghost use Rattle.chip_run.specs.Turns.{Turned};
 
     // One turn of its call.
@@ -32,7 +32,7 @@ impl<V: Evict + Drop> Member<V> {
     fn turn_on<P: Port>(&mut self, port: &mut P) -> Turn
         requires ties { IsTied self.old (P.sight port.old).seat.setup (P.sight port.old).seat.rank (P.sight port.old).events }
         ensures ties { IsTied self.new (P.sight port.new).seat.setup (P.sight port.new).seat.rank (P.sight port.new).events }
-        ensures turned { Turned member_conduct (P.stepped (P.sight port.old).seat) self.old (P.sight port.old) self.new
+        ensures turned { Turned member_behaviour (P.stepped (P.sight port.old).seat) self.old (P.sight port.old) self.new
             (P.sight port.new) result }
     {
         if self.met {
@@ -51,9 +51,9 @@ impl<V: Evict + Drop> Member<V> {
 }
 
 impl<V: Evict + Drop> Worker for Member<V> {
-    ghost use Rattle.coll_run.specs.Workers.{member_conduct};
+    ghost use Rattle.coll_run.specs.Workers.{member_behaviour};
 
-    ghost conduct = { member_conduct };
+    ghost behaviour = { member_behaviour };
 
     fn turn<P: Port>(&mut self, port: P) -> (Turn, P) {
         let mut port = port;
@@ -61,7 +61,7 @@ impl<V: Evict + Drop> Worker for Member<V> {
         (answer, port)
     }
 
-    fn stretch<P: Port>(&mut self, port: P) -> (Turn, P) {
+    fn batch<P: Port>(&mut self, port: P) -> (Turn, P) {
         self.turn(port)
     }
 

@@ -165,7 +165,7 @@ const READ_FAULTS: &[Row] = &[
 ];
 
 #[test]
-fn nothing_is_read_behind_a_read_fault(rt: HostRuntime) {
+fn nothing_is_read_after_a_read_fault(rt: HostRuntime) {
     expect(&rt, rt.alloc(), READ_FAULTS);
 }
 
@@ -187,7 +187,7 @@ const FAILED_WRITES: &[Row] = &[
 ];
 
 #[test]
-fn nothing_is_written_behind_a_failed_write(rt: HostRuntime) {
+fn nothing_is_written_after_a_failed_write(rt: HostRuntime) {
     expect(&rt, rt.alloc(), FAILED_WRITES);
 }
 
@@ -221,7 +221,7 @@ const COMPLAINTS: &[Told] = &[
         Complaint::Words {
             fault: "bad number after ",
             word: "-nue",
-            behind: ": ",
+            afterwards: ": ",
             value: "49",
         },
         Words,

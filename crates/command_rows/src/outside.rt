@@ -167,7 +167,7 @@ fn stops_reading(alloc: Global) -> bool {
 }
 
 #[test]
-fn no_call_is_made_behind_a_failed_one(rt: HostRuntime) {
+fn no_call_is_made_after_a_failed_one(rt: HostRuntime) {
     assert!(rt; stops_writing(rt.alloc()) && stops_reading(rt.alloc()));
 }
 

@@ -14,10 +14,10 @@ get_front [] ys k x h = absurd (cc h)
 get_front (y ∷ xs) ys zero x h = h
 get_front (y ∷ xs) ys (suc k) x h = get_front xs ys k x h
 
-pub get_behind : {X : Type 0} (xs ys : List X) (j k : ℕ) (x : X) → j ≡ length xs + k → slice_get ys k ≡ Some x → slice_get (xs ++ ys) j ≡ Some x
-get_behind [] ys j k x e h = let is : j ≡ k = omega (arith, e) in rw is h
-get_behind (y ∷ xs) ys zero k x e h = absurd (omega (arith, e))
-get_behind (y ∷ xs) ys (suc j) k x e h = get_behind xs ys j k x (omega (arith, e)) h
+pub get_after : {X : Type 0} (xs ys : List X) (j k : ℕ) (x : X) → j ≡ length xs + k → slice_get ys k ≡ Some x → slice_get (xs ++ ys) j ≡ Some x
+get_after [] ys j k x e h = let is : j ≡ k = omega (arith, e) in rw is h
+get_after (y ∷ xs) ys zero k x e h = absurd (omega (arith, e))
+get_after (y ∷ xs) ys (suc j) k x e h = get_after xs ys j k x (omega (arith, e)) h
 
 -- an entry before the one that is removed, and one behind it
 pub get_below : {X : Type 0} (xs : List X) (i k : ℕ) (x : X) → k < i → slice_get xs k ≡ Some x → slice_get (remove xs i) k ≡ Some x
@@ -86,7 +86,7 @@ pub reduce_finish : (h : MessageHead) (list : List ℕ) (k : ℕ) → 2 * length
 reduce_finish h list k low below =
     let all = reduce_length h list in
     let pairs = folds_length h list in
-    get_behind (Begin ∷ fold_each h list) (Finish ∷ []) k 0 Finish (omega (arith, low, below, all, pairs)) refl
+    get_after (Begin ∷ fold_each h list) (Finish ∷ []) k 0 Finish (omega (arith, low, below, all, pairs)) refl
 
 -- the entries of a reduction to all at member 0
 pub allreduce_send : (up down : MessageHead) (list : List ℕ) (k j to : ℕ) → k ≡ 2 * length list + 1 + j → slice_get list j ≡ Some to
@@ -94,7 +94,7 @@ pub allreduce_send : (up down : MessageHead) (list : List ℕ) (k j to : ℕ) �
 allreduce_send up down list k j to e found =
     let pairs = folds_length up list in
     get_front (Begin ∷ fold_each up list ++ send_each down list) (Finish ∷ []) k (Send to down)
-    (get_behind (Begin ∷ fold_each up list) (send_each down list) k j (Send to down) (omega (arith, e, pairs)) (get_send down list j to found))
+    (get_after (Begin ∷ fold_each up list) (send_each down list) k j (Send to down) (omega (arith, e, pairs)) (get_send down list j to found))
 
 pub allreduce_finish : (up down : MessageHead) (list : List ℕ) (k : ℕ) → 3 * length list < k
     → k < length (Begin ∷ fold_each up list ++ send_each down list ++ Finish ∷ [])
@@ -104,4 +104,4 @@ allreduce_finish up down list k low below =
     let front = length-append (Begin ∷ fold_each up list) (send_each down list) in
     let pairs = folds_length up list in
     let sends = sends_length down list in
-    get_behind (Begin ∷ fold_each up list ++ send_each down list) (Finish ∷ []) k 0 Finish (omega (arith, low, below, all, front, pairs, sends)) refl
+    get_after (Begin ∷ fold_each up list ++ send_each down list) (Finish ∷ []) k 0 Finish (omega (arith, low, below, all, front, pairs, sends)) refl

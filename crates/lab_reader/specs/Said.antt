@@ -86,15 +86,15 @@ read_by own at evict words None =
     heap_line_said own at >>= λ line. expected_line words >>= λ expect. Some (action.ReadLine line evict expect)
 
 -- a read with the line to evict, if any; `words` may give the expected values
-abbrev pub read_behind : ℕ → List ℕ → Option LineAt → List (List ℕ) → Option Action
-read_behind own at evict words = read_by own at evict words (word_said own at)
+abbrev pub read_afterwards : ℕ → List ℕ → Option LineAt → List (List ℕ) → Option Action
+read_afterwards own at evict words = read_by own at evict words (word_said own at)
 
 -- the words after `read` and the word or line: the expected values, if any, or `evict LINE` and then these
 abbrev pub read_after : ℕ → List ℕ → List (List ℕ) → Option Action
 read_after own at (word ∷ line ∷ rest) =
-    if bytes_eq word (codes "evict") then (heap_line_said own line >>= λ evict. read_behind own at (Some evict) rest)
-    else read_behind own at None (word ∷ line ∷ rest)
-read_after own at words = read_behind own at None words
+    if bytes_eq word (codes "evict") then (heap_line_said own line >>= λ evict. read_afterwards own at (Some evict) rest)
+    else read_afterwards own at None (word ∷ line ∷ rest)
+read_after own at words = read_afterwards own at None words
 
 -- the words after `read`
 abbrev pub read_said : ℕ → List (List ℕ) → Option Action

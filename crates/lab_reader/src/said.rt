@@ -1,7 +1,7 @@
 //! Parses the words of a line.
 
 ghost use Rattle.std.specs.Prelude.{◌≡◌, ◌≤◌, IfSome, map};
-ghost use Rattle.lab_reader.specs.Said.{action_said, bare_said, core_said, expected_line, expected_take, expected_word, four_said, free_said, get_said, line_at_said, load_said, heap_line_said, put_said, read_after, read_behind, read_said, store_said, take_named, take_said, verb_said, word_said, write_line_said, write_said, write_word_said};
+ghost use Rattle.lab_reader.specs.Said.{action_said, bare_said, core_said, expected_line, expected_take, expected_word, four_said, free_said, get_said, line_at_said, load_said, heap_line_said, put_said, read_after, read_afterwards, read_said, store_said, take_named, take_said, verb_said, word_said, write_line_said, write_said, write_word_said};
 
 use crate::places::{HeapLine, HeapWord};
 use crate::steps::Action;
@@ -153,8 +153,8 @@ fn expected_take(words: &[&[u8]]) -> Option<Option<bool>>
 }
 
 /// The read of a word or of a line, by the words after `evict LINE`, if that is there.
-fn read_behind(own: CoreId, at: &[u8], evict: Option<HeapLine>, words: &[&[u8]]) -> Option<Action>
-    ensures { result ≡ read_behind own at.now evict (map (λ word. word.now) words.now) }
+fn read_afterwards(own: CoreId, at: &[u8], evict: Option<HeapLine>, words: &[&[u8]]) -> Option<Action>
+    ensures { result ≡ read_afterwards own at.now evict (map (λ word. word.now) words.now) }
 {
     match word_said(own, at) {
         Some(at) => Some(Action::ReadWord {
@@ -178,12 +178,12 @@ fn read_after(own: CoreId, at: &[u8], words: &[&[u8]]) -> Option<Action>
         [word, line, rest @ ..] => {
             if *word == b"evict".as_slice() {
                 let evict = line_said(own, line)?;
-                read_behind(own, at, Some(evict), rest)
+                read_afterwards(own, at, Some(evict), rest)
             } else {
-                read_behind(own, at, None, words)
+                read_afterwards(own, at, None, words)
             }
         }
-        _ => read_behind(own, at, None, words),
+        _ => read_afterwards(own, at, None, words),
     }
 }
 

@@ -47,10 +47,10 @@ held_at (x ∷ xs) zero line e s h is t = rw (← is, t) refl
 held_at (x ∷ xs) (suc i) line e s h is t = by (held_at xs i line e s.1 (omega arith) is t) (same_line x.line line) refl
   where
     by : Some e.words ≡ cached_words xs line → (q : Bool) → same_line x.line line ≡ q → Some e.words ≡ cached_words (x ∷ xs) line
-    by behind true q =
+    by afterwards true q =
         let none : cached_words xs line ≡ None = subst (λ a. cached_words xs a ≡ None) (same_line-is x.line line q) s.0 in
         absurd (cc)
-    by behind false q = rw q behind
+    by afterwards false q = rw q afterwards
 
 pub held-push : (es : List Entry) (e : Entry) (line : LineAt) → cached_words es line ≡ None → same_line e.line line ≡ false
     → cached_words (es ++ e ∷ []) line ≡ None

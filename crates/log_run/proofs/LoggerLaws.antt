@@ -6,7 +6,7 @@ use Rattle.scc_base.specs.declared.events.Turn.{Turn}
 use Rattle.scc_base.specs.declared.events.Turn.TheVariants as turn
 use Rattle.scc_proto.specs.Ports.{Sight}
 use Rattle.call_tap.specs.declared.taps.Tap.{Tap}
-use Rattle.chip_run.specs.Conducts.{Conduct}
+use Rattle.chip_run.specs.Behaves.{Behaviour}
 use Rattle.chip_run.specs.Turns.{TurnMeans, Turned}
 use Rattle.log_run.specs.declared.loggers.Logger.{Logger}
 use Rattle.log_run.specs.Loggers.{loggers_of}
@@ -15,7 +15,7 @@ use Rattle.log_run.specs.Loggers.{loggers_of}
 abbrev pub with_tap : {A : Type 0} → Option Tap → A → Logger A
 with_tap tap w = record { worker = w; tap = tap }
 
-module _ {A : Type 0} (c : Conduct A) (stepped : List Event → Event → Type 0) where
+module _ {A : Type 0} (c : Behaviour A) (stepped : List Event → Event → Type 0) where
   means_logged : (one other : Option Tap) (s : SetupView) (rank : ℕ) (own events : List Event) (old new : A) (answer : Turn) → TurnMeans c stepped s rank own events old new answer
       → TurnMeans (loggers_of c) stepped s rank own events (with_tap one old) (with_tap other new) answer
   means_logged one other s rank own events old new turn.Moved means = record { moves = means.moves; less = means.less }

@@ -49,9 +49,9 @@ pub record AreCounted (planned : List Call) (calls bytes : ℕ) (left : List Cal
 pub counted_on : (planned : List Call) (calls bytes : ℕ) (l m : Lengths) (left : List Prim) (prim : Prim) (moved : Option ℕ) (more_calls more_bytes : ℕ) (rest : List Prim)
     → AreCounted planned calls bytes (calls_from l left) → slice_get left 0 ≡ Some prim → option_to_list moved ≡ map bytes_asked (calls_made l prim.act) → m ≡ lengths_after l prim.act
     → more_calls ≡ calls + calls_by moved → more_bytes ≡ bytes + bytes_moved_by moved → rest ≡ drop 1 left → AreCounted planned more_calls more_bytes (calls_from m rest)
-counted_on planned calls bytes l m left prim moved more_calls more_bytes rest counted here asks same is_calls is_bytes behind =
+counted_on planned calls bytes l m left prim moved more_calls more_bytes rest counted here asks same is_calls is_bytes afterwards =
     let parts : calls_from l left ≡ calls_made l prim.act ++ calls_from m rest =
-    calls_front l left prim here ∙ ap (λ (c : List Call). calls_made l prim.act ++ c) (λ i. calls_from (sym same i) (sym behind i)) in
+    calls_front l left prim here ∙ ap (λ (c : List Call). calls_made l prim.act ++ c) (λ i. calls_from (sym same i) (sym afterwards i)) in
     let lengths = ap length parts ∙ length-append (calls_made l prim.act) (calls_from m rest) in
     let sums = ap bytes_planned parts ∙ planned_append (calls_made l prim.act) (calls_from m rest) in
     let c = counted.count in

@@ -19,8 +19,8 @@ use Rattle.chip_run.specs.declared.ends.RunEnd.{RunEnd}
 use Rattle.rcce_run.specs.Crews.{EndsAs}
 use Rattle.chip_run.specs.Waiting.{NoneDrafts}
 use Rattle.rcce_run.specs.UeRuns.{IsFreshUe, WaitsOpen}
-use Rattle.rcce_ue.specs.Workers.{ue_conduct}
-use Rattle.chip_run.specs.Conducts.{Conduct}
+use Rattle.rcce_ue.specs.Workers.{ue_behaviour}
+use Rattle.chip_run.specs.Behaves.{Behaviour}
 use Rattle.log_run.specs.declared.loggers.Logger.{Logger}
 use Rattle.log_run.specs.Loggers.{IsTapped, loggers_of}
 
@@ -34,8 +34,8 @@ abbrev pub ue_of : Logger UeView → UeView
 ue_of logger = logger.worker
 
 -- how loggers with UEs conduct themselves in a run
-abbrev pub ue_loggers : Conduct (Logger UeView)
-ue_loggers = loggers_of ue_conduct
+abbrev pub ue_loggers : Behaviour (Logger UeView)
+ue_loggers = loggers_of ue_behaviour
 
 -- the tap is in its place, and keeps these calls
 abbrev pub KeepsCalls : Option Tap → List DataCall → Type 0

@@ -4,7 +4,7 @@ use Rattle.scc_base.specs.Setups.{SetupView}
 use Rattle.scc_base.specs.declared.events.Event.{Event}
 use Rattle.call_tap.specs.declared.taps.Tap.{Tap}
 use Rattle.call_tap.specs.Taps.{HasRead}
-use Rattle.chip_run.specs.Conducts.{Conduct}
+use Rattle.chip_run.specs.Behaves.{Behaviour}
 use Rattle.log_run.specs.declared.loggers.Logger.{Logger}
 
 -- a tap is in its place, and has read these events of a rank
@@ -19,7 +19,7 @@ pub record IsLogging (tied : SetupView → ℕ → List Event → Type 0) (tap :
   pub tapped : IsTapped tap s rank events
 
 -- how loggers conduct themselves, each with its tap in its place: as their workers do
-abbrev pub loggers_of : {A : Type 0} → Conduct A → Conduct (Logger A)
+abbrev pub loggers_of : {A : Type 0} → Behaviour A → Behaviour (Logger A)
 loggers_of c = record {
   seen = λ s r l. c.seen s r l.worker;
   tied = λ l. IsLogging (c.tied l.worker) l.tap;

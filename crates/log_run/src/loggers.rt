@@ -31,7 +31,7 @@ impl<W: Worker> Logger<W> {
 impl<W: Worker> Worker for Logger<W> {
     ghost use Rattle.log_run.specs.Loggers.{loggers_of};
 
-    ghost conduct = { loggers_of W.conduct };
+    ghost behaviour = { loggers_of W.behaviour };
 
     fn turn<P: Port>(&mut self, port: P) -> (Turn, P) {
         let Some(tap) = self.tap.take() else {
@@ -43,7 +43,7 @@ impl<W: Worker> Worker for Logger<W> {
         (answer, port)
     }
 
-    fn stretch<P: Port>(&mut self, port: P) -> (Turn, P) {
+    fn batch<P: Port>(&mut self, port: P) -> (Turn, P) {
         self.turn(port)
     }
 

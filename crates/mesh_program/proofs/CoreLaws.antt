@@ -13,7 +13,7 @@ use Rattle.std.proofs.lemmas.List.Folds.{list_any-append}
 use Rattle.std.proofs.lemmas.List.Sums.{fails_before_first}
 use Rattle.std.proofs.lemmas.List.Splits.{length-slice_split, slice_split_at, slice_split_none}
 use Rattle.mesh_load.specs.Mesh.{mesh_core_of}
-use Rattle.mesh_program.specs.Cores.{are_different, cores_by_rank, core_number, core_value, cores_in, is_comma, is_core, listed_cores, parts_behind, between_commas, rank_numbers}
+use Rattle.mesh_program.specs.Cores.{are_different, cores_by_rank, core_number, core_value, cores_in, is_comma, is_core, listed_cores, parts_after, between_commas, rank_numbers}
 
 -- a word with a comma at a place
 pub cut_at : (word : List ℕ) (i : ℕ) → position is_comma word ≡ Some i → between_commas word ≡ take i word ∷ between_commas (drop (i + 1) word)
@@ -91,7 +91,7 @@ numbered (part ∷ parts) (core ∷ cores) same =
 -- what was read of a list: the parts so far, their cores by rank, and what is left
 pub record SoFar (word : List ℕ) (i : ℕ) (at : List ℕ) (rest : Option (List ℕ)) : Type 0 where
   pub front : List (List ℕ)
-  pub whole : between_commas word ≡ front ++ parts_behind rest
+  pub whole : between_commas word ≡ front ++ parts_after rest
   pub count : length front ≡ i
   pub cores : map core_number front ≡ map Some (take i at)
   pub room : length at ≡ 48
@@ -121,14 +121,14 @@ taken_next at i core within =
     ∙ ap (λ (l : List ℕ). l ++ get_or (set at i core) i 0 ∷ []) (take-set at i core)
     ∙ ap (λ (n : ℕ). take i at ++ n ∷ []) (get_or-set_same at i core 0 within)
 
-pub stepped : (word : List ℕ) (i : ℕ) (at w first : List ℕ) (more : Option (List ℕ)) (core : ℕ) → SoFar word i at (Some w) → between_commas w ≡ first ∷ parts_behind more → core_number first ≡ Some core
+pub stepped : (word : List ℕ) (i : ℕ) (at w first : List ℕ) (more : Option (List ℕ)) (core : ℕ) → SoFar word i at (Some w) → between_commas w ≡ first ∷ parts_after more → core_number first ≡ Some core
     → list_any (λ other. other == core) (take i at) ≡ false → i < 48 → SoFar word (i + 1) (set at i core) more
 stepped word i at w first more core so_far cuts is free low =
     let within : i < length at = omega (arith, low, so_far.room) in
     let next : take (i + 1) (set at i core) ≡ take i at ++ core ∷ [] = taken_next at i core within in
     record {
       front = so_far.front ++ first ∷ [];
-      whole = so_far.whole ∙ ap (λ (l : List (List ℕ)). so_far.front ++ l) cuts ∙ sym (append_assoc so_far.front (first ∷ []) (parts_behind more));
+      whole = so_far.whole ∙ ap (λ (l : List (List ℕ)). so_far.front ++ l) cuts ∙ sym (append_assoc so_far.front (first ∷ []) (parts_after more));
       count = length-append so_far.front (first ∷ []) ∙ omega (arith, so_far.count);
       cores = map-append core_number so_far.front (first ∷ []) ∙ ap (λ (l : List (Option ℕ)). l ++ core_number first ∷ []) so_far.cores
           ∙ ap (λ (o : Option ℕ). map Some (take i at) ++ o ∷ []) is ∙ sym (map-append Some (take i at) (core ∷ [])) ∙ ap (map Some) (sym next);
@@ -187,16 +187,16 @@ too_many word nue at w so_far =
     omega (arith, same, ap length so_far.whole, length-append so_far.front (between_commas w), so_far.count, length-slice_split is_comma w)))
 
 -- a core comes twice
-pub twice : (word : List ℕ) (nue i : ℕ) (at w first : List ℕ) (more : Option (List ℕ)) (core : ℕ) → SoFar word i at (Some w) → between_commas w ≡ first ∷ parts_behind more → core_number first ≡ Some core
+pub twice : (word : List ℕ) (nue i : ℕ) (at w first : List ℕ) (more : Option (List ℕ)) (core : ℕ) → SoFar word i at (Some w) → between_commas w ≡ first ∷ parts_after more → core_number first ≡ Some core
     → list_any (λ other. other == core) (take i at) ≡ true → listed_cores nue word ≡ None
 twice word nue i at w first more core so_far cuts is found =
     let are = numbered so_far.front (take i at) so_far.cores in
-    let cores : cores_in word ≡ (take i at ++ core ∷ []) ++ map core_value (parts_behind more) =
+    let cores : cores_in word ≡ (take i at ++ core ∷ []) ++ map core_value (parts_after more) =
     ap (map core_value) (so_far.whole ∙ ap (λ (l : List (List ℕ)). so_far.front ++ l) cuts)
-    ∙ map-append core_value so_far.front (first ∷ parts_behind more)
-    ∙ ap (λ (l : List ℕ). l ++ core_value first ∷ map core_value (parts_behind more)) are.1
-    ∙ ap (λ (o : Option ℕ). take i at ++ unwrap_or o 0 ∷ map core_value (parts_behind more)) is
-    ∙ sym (append_assoc (take i at) (core ∷ []) (map core_value (parts_behind more))) in
+    ∙ map-append core_value so_far.front (first ∷ parts_after more)
+    ∙ ap (λ (l : List ℕ). l ++ core_value first ∷ map core_value (parts_after more)) are.1
+    ∙ ap (λ (o : Option ℕ). take i at ++ unwrap_or o 0 ∷ map core_value (parts_after more)) is
+    ∙ sym (append_assoc (take i at) (core ∷ []) (map core_value (parts_after more))) in
     let alike : are_different (take i at ++ core ∷ []) ≡ false =
     different_push (take i at) core ∙ ap (λ (b : Bool). b && not (list_any (λ other. other == core) (take i at))) so_far.different ∙ ap not found in
-    refuse_twice nue word (ap are_different cores ∙ different_front (take i at ++ core ∷ []) (map core_value (parts_behind more)) alike)
+    refuse_twice nue word (ap are_different cores ∙ different_front (take i at ++ core ∷ []) (map core_value (parts_after more)) alike)

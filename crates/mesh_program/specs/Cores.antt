@@ -25,9 +25,9 @@ abbrev pub between_commas : List ℕ → List (List ℕ)
 between_commas word = slice_split is_comma word
 
 -- the parts from a comma on, if there is one
-abbrev pub parts_behind : Option (List ℕ) → List (List ℕ)
-parts_behind None = []
-parts_behind (Some rest) = between_commas rest
+abbrev pub parts_after : Option (List ℕ) → List (List ℕ)
+parts_after None = []
+parts_after (Some rest) = between_commas rest
 
 -- the core of a part
 abbrev pub core_value : List ℕ → ℕ

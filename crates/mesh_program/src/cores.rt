@@ -2,7 +2,7 @@
 
 ghost use Rattle.std.specs.Prelude.{◌≡◌, ◌∷◌, ◌==◌, ◌≤◌, option_map, take};
 ghost use Rattle.std.specs.List.{list_any};
-ghost use Rattle.mesh_program.specs.Cores.{core_number, listed_cores, parts_behind, between_commas};
+ghost use Rattle.mesh_program.specs.Cores.{core_number, listed_cores, parts_after, between_commas};
 
 use scc_base::CoreId;
 use texts::place_of;
@@ -16,7 +16,7 @@ struct Cut<'a> {
 
 /// Cuts a word at its first comma.
 fn cut_word(word: &[u8]) -> Cut<'_>
-    ensures { between_commas word.now ≡ result.first.now ∷ parts_behind (option_map (λ rest. rest.now) result.rest) }
+    ensures { between_commas word.now ≡ result.first.now ∷ parts_after (option_map (λ rest. rest.now) result.rest) }
 {
     match place_of(word, b',') {
         Some(i) => Cut {

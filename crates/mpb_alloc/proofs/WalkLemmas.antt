@@ -5,7 +5,7 @@ use Rattle.std.proofs.lemmas.Grind.{common_steps}
 use Rattle.std.proofs.lemmas.List.{length-take, length-drop}
 use Rattle.std.proofs.lemmas.Bool.{le-leb, le-ltb, eq-eqb, ne_eqb, and_from}
 use Rattle.mpb_alloc.specs.declared.heap.Run.{Run}
-use Rattle.mpb_alloc.specs.Heaps.{line_behind, IsHeapRun, StandWithin, rest_of_run, taken_from, joined_runs, given_back, is_run, without_buffer, lowest_fit}
+use Rattle.mpb_alloc.specs.Heaps.{line_after, IsHeapRun, StandWithin, rest_of_run, taken_from, joined_runs, given_back, is_run, without_buffer, lowest_fit}
 
 -- what stands from a place on begins with the run at that place
 pub drop_here : (xs : List Run) (i : ℕ) (r : Run) → i < length xs → r ≡ get_or xs i r → drop i xs ≡ r ∷ drop (suc i) xs
@@ -82,15 +82,15 @@ pub record Giving (first : Run) (initial : List Run) (now : Run) (at : ℕ) (fre
 -- the run at the place is joined_runs with it
 pub giving_joined : (first : Run) (initial : List Run) (run : Run) (at : ℕ) (free : List Run) (other : Run)
     → Giving first initial run at free → at < length free → other ≡ get_or free at other
-    → other.first ≤ line_behind run → run.first ≤ line_behind other → Giving first initial (joined_runs run other) at (remove free at)
+    → other.first ≤ line_after run → run.first ≤ line_after other → Giving first initial (joined_runs run other) at (remove free at)
 giving_joined first initial run at free other g h e a b =
     let d = drop_here free at other h e in
     let le : at ≤ length free = omega arith in
     let w : StandWithin (other ∷ drop (suc at) free) = subst StandWithin d g.within in
     let o = w.0 in
     let r = g.whole in
-    let t : nat_lt (line_behind run) other.first ≡ false = le-ltb (line_behind run) other.first a in
-    let u : nat_lt (line_behind other) run.first ≡ false = le-ltb (line_behind other) run.first b in
+    let t : nat_lt (line_after run) other.first ≡ false = le-ltb (line_after run) other.first a in
+    let u : nat_lt (line_after other) run.first ≡ false = le-ltb (line_after other) run.first b in
     let len : length (remove free at) + 1 ≡ length free = simp (length-append, length-take, length-drop) (omega arith) in
     let room = g.room in
     record {
@@ -104,7 +104,7 @@ giving_joined first initial run at free other g h e a b =
 -- the run at the place ends before the one on its way back, and stays
 pub giving_passed : (first : Run) (initial : List Run) (run : Run) (at : ℕ) (free : List Run) (other : Run)
     → Giving first initial run at free → at < length free → other ≡ get_or free at other
-    → other.first ≤ line_behind run → line_behind other < run.first → Giving first initial run (at + 1) free
+    → other.first ≤ line_after run → line_after other < run.first → Giving first initial run (at + 1) free
 giving_passed first initial run at free other g h e a b = record {
   is = grind (arith, common_steps);
   within = grind (arith, common_steps);

@@ -12,8 +12,8 @@ abbrev pub run_of_lines : LineRun → Run
 run_of_lines b = record { first = b.first; lines = b.lines }
 
 -- the line behind a run
-abbrev pub line_behind : Run → ℕ
-line_behind r = r.first + r.lines
+abbrev pub line_after : Run → ℕ
+line_after r = r.first + r.lines
 
 -- what is seen of a heap: the runs that are free, in order, and the buffers that are out
 pub record LineHeap : Type 0 where
@@ -30,16 +30,16 @@ lines_for bytes = (bytes + 31) / 32
 
 -- a run has this line
 abbrev pub has_line : ℕ → Run → Bool
-has_line line r = nat_le r.first line && nat_lt line (line_behind r)
+has_line line r = nat_le r.first line && nat_lt line (line_after r)
 
 -- the runs stand in order from this line on up to 255; none is empty, none touches the next
 abbrev pub StandApart : ℕ → List Run → Type 0
 StandApart low [] = Unit {0}
-StandApart low (r ∷ rs) = (low ≤ r.first) × (0 < r.lines) × (line_behind r ≤ 256) × StandApart (line_behind r + 1) rs
+StandApart low (r ∷ rs) = (low ≤ r.first) × (0 < r.lines) × (line_after r ≤ 256) × StandApart (line_after r + 1) rs
 
 -- the run has a line, and all its lines are of the heap
 abbrev pub IsHeapRun : Run → Type 0
-IsHeapRun r = (first_heap ≤ r.first) × (0 < r.lines) × (line_behind r ≤ 256)
+IsHeapRun r = (first_heap ≤ r.first) × (0 < r.lines) × (line_after r ≤ 256)
 
 -- each run is such
 abbrev pub StandWithin : List Run → Type 0
@@ -92,15 +92,15 @@ abbrev pub joined_runs : Run → Run → Run
 joined_runs a b =
     record {
       first = min a.first b.first;
-      lines = max (line_behind a) (line_behind b) - min a.first b.first;
+      lines = max (line_after a) (line_after b) - min a.first b.first;
     }
 
 -- the free runs after one more came: it is joined_runs with each that it touches
 abbrev pub given_back : Run → List Run → List Run
 given_back b [] = b ∷ []
 given_back b (r ∷ rs) =
-    if nat_lt (line_behind b) r.first then b ∷ r ∷ rs
-    else (if nat_lt (line_behind r) b.first then r ∷ given_back b rs else given_back (joined_runs b r) rs)
+    if nat_lt (line_after b) r.first then b ∷ r ∷ rs
+    else (if nat_lt (line_after r) b.first then r ∷ given_back b rs else given_back (joined_runs b r) rs)
 
 -- the same buffer
 abbrev pub is_run : Run → Run → Bool

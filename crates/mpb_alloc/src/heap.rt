@@ -1,7 +1,7 @@
 //! The heap of a core's message passing buffer.
 
 ghost use Rattle.std.specs.Prelude.{◌≡◌, ◌+◌, ◌<◌, ◌↔◌, ◌++◌, [], ◌∷◌, length, IsTrue, IfOk, OnErr, OnOk, Contains, option_map, slice_index_or};
-ghost use Rattle.mpb_alloc.specs.Heaps.{front_of, longest_of, lowest_fit, given_back, taken_from, joined_runs, without_buffer, line_behind, IsHeapRun, StandWithin};
+ghost use Rattle.mpb_alloc.specs.Heaps.{front_of, longest_of, lowest_fit, given_back, taken_from, joined_runs, without_buffer, line_after, IsHeapRun, StandWithin};
 
 use arrayvec::ArrayVec;
 use scc_base::Buf;
@@ -126,7 +126,7 @@ impl Heap {
 
 impl Run {
     ghost use Rattle.std.specs.Prelude.{◌≡◌};
-    ghost use Rattle.mpb_alloc.specs.Heaps.{run_of_lines, line_behind};
+    ghost use Rattle.mpb_alloc.specs.Heaps.{run_of_lines, line_after};
 
     fn of(buffer: Buf) -> Run
         ensures { result ≡ run_of_lines buffer }
@@ -139,7 +139,7 @@ impl Run {
 
     /// The line behind the run.
     fn end(self) -> u16
-        ensures { result ≡ line_behind self }
+        ensures { result ≡ line_after self }
     {
         u16::from(self.first) + u16::from(self.lines)
     }

@@ -16,7 +16,7 @@ run_loud ran = loud_by ran.finished ran.out ran.err
 
 -- and a complaint has not
 pub complaint_quiet : (program : List ℕ) (why : Complaint) → is_quiet (complaint_outcome program why).status ≡ true
-complaint_quiet program (complaint.Words fault word behind value) = refl
+complaint_quiet program (complaint.Words fault word afterwards value) = refl
 complaint_quiet program complaint.Memory = refl
 complaint_quiet program (complaint.Absent file) = refl
 complaint_quiet program (complaint.ReadFault file) = refl

@@ -10,8 +10,8 @@ use Rattle.outcomes.specs.Coming.{Comes}
 
 -- the outcome that a complaint stands for
 abbrev pub complaint_outcome : List ℕ → Complaint → Outcome
-complaint_outcome program (complaint.Words fault word behind value) =
-    words_refused program (fault.now ++ (word.now ++ (behind.now ++ value.now)))
+complaint_outcome program (complaint.Words fault word afterwards value) =
+    words_refused program (fault.now ++ (word.now ++ (afterwards.now ++ value.now)))
 complaint_outcome program complaint.Memory = no_memory program
 complaint_outcome program (complaint.Absent file) = absent program file.now
 complaint_outcome program (complaint.ReadFault file) = read_fault program file.now

@@ -14,7 +14,7 @@ pub enum Complaint<'a> {
     Words {
         fault: &'a str,
         word: &'a str,
-        behind: &'a str,
+        afterwards: &'a str,
         value: &'a str,
     },
     /// No memory was left.
@@ -39,7 +39,7 @@ impl<'a> Complaint<'a> {
         Complaint::Words {
             fault,
             word: "",
-            behind: "",
+            afterwards: "",
             value: "",
         }
     }
@@ -64,7 +64,7 @@ impl<'a> Complaint<'a> {
             Complaint::Words {
                 fault,
                 word,
-                behind,
+                afterwards,
                 value,
             } => write_texts(
                 sink,
@@ -73,7 +73,7 @@ impl<'a> Complaint<'a> {
                     Text(": "),
                     Text(fault),
                     Text(word),
-                    Text(behind),
+                    Text(afterwards),
                     Text(value),
                     Text("\n"),
                 ],

@@ -4,7 +4,7 @@ use Rattle.scc_base.specs.Calls.{DataCall}
 use Rattle.scc_proto.specs.Ports.{Sight, record_in}
 use Rattle.send_recv.specs.Calling.{SendStalled}
 use Rattle.send_recv.specs.Ranks.{BufferHolder, Receiver}
-use Rattle.station.specs.Calls.{at_receive, at_send, behind_receive, in_send}
+use Rattle.station.specs.Calls.{at_receive, at_send, after_receive, in_send}
 use Rattle.station.specs.Patience.{AfterStalls, RecvStalls, SaysWhyAfter, SendStalls, WithinStalls}
 use Rattle.station.specs.Stations.{StationAt}
 use Rattle.station.specs.Stops.{SaysWhy}
@@ -29,7 +29,7 @@ module _ (begun now : Sight) (before after : StationAt) {polls first peer other 
   }
 
   pub gave_up_receiving : {done : List DataCall} (room came : Ball) (why : RecvStop) → (record_in begun).calls ≡ done
-      → SaysWhyAfter (at_receive begun before peer room) patience polls (behind_receive now after came) why → GaveUpReceiving first done other now why
+      → SaysWhyAfter (at_receive begun before peer room) patience polls (after_receive now after came) why → GaveUpReceiving first done other now why
   gave_up_receiving room came why calls stopped = record {
     begun = begun;
     before = before;
@@ -37,8 +37,8 @@ module _ (begun now : Sight) (before after : StationAt) {polls first peer other 
     room = room;
     came = came;
     calls = calls;
-    stopped = subst (λ (p : ℕ). SaysWhyAfter (at_receive begun before other room) patience p (behind_receive now after came) why) same
-        (subst (λ (from : ℕ). SaysWhyAfter (at_receive begun before from room) patience polls (behind_receive now after came) why) is stopped);
+    stopped = subst (λ (p : ℕ). SaysWhyAfter (at_receive begun before other room) patience p (after_receive now after came) why) same
+        (subst (λ (from : ℕ). SaysWhyAfter (at_receive begun before from room) patience polls (after_receive now after came) why) is stopped);
   }
 
 -- a receive that stopped and did not stall met another message, after at most so many stalls

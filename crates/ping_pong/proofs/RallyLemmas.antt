@@ -8,7 +8,7 @@ use Rattle.scc_base.specs.Setups.{SetupView}
 use Rattle.scc_base.specs.declared.events.Event.{Event}
 use Rattle.scc_proto.specs.Messages.{received_messages, sent_messages}
 use Rattle.scc_proto.specs.PairMessages.{PairMessages}
-use Rattle.scc_proto.specs.PairMessages.PairMessages.{AllReceived, OpenReceived, OnItsWayYet}
+use Rattle.scc_proto.specs.PairMessages.PairMessages.{AllReceived, OpenReceived, StillInFlight}
 use Rattle.scc_proto.specs.Records.{record_of}
 use Rattle.scc_proto.specs.Ports.{Seat, record_in}
 use Rattle.scc_proto.specs.Stages.{Record}
@@ -120,7 +120,7 @@ pair_same : (s : SetupView) (from to : ℕ) (records : ℕ → Record) (sent cam
 pair_same s from to records sent came (AllReceived same) gave got many = sym got ∙ ap bytes_in same ∙ gave
 pair_same s from to records sent came (OpenReceived message opened same) gave got many =
     absurd (one_more sent came message.bytes (sym got ∙ ap bytes_in same ∙ bytes_in-push (sent_messages to (records from).calls) message ∙ ap (λ (l : List Ball). l ++ message.bytes ∷ []) gave) many)
-pair_same s from to records sent came (OnItsWayYet message posted same) gave got many =
+pair_same s from to records sent came (StillInFlight message posted same) gave got many =
     absurd (one_more came sent message.bytes (sym gave ∙ ap bytes_in same ∙ bytes_in-push (received_messages from (records to).calls) message ∙ ap (λ (l : List Ball). l ++ message.bytes ∷ []) got) (sym many))
 
 -- the balls of two players

@@ -5,7 +5,7 @@ use Rattle.scc_base.specs.Heads.{plain_head}
 use Rattle.scc_proto.specs.Ports.{Sight, record_in}
 use Rattle.scc_mesh.specs.Scenes.{ChipView, about_in, events_in}
 use Rattle.send_recv.specs.Calling.{SendStalled}
-use Rattle.station.specs.Calls.{at_receive, at_send, behind_receive, in_send}
+use Rattle.station.specs.Calls.{at_receive, at_send, after_receive, in_send}
 use Rattle.station.specs.Patience.{AfterStalls, SaysWhyAfter, SendStalls}
 use Rattle.station.specs.Stations.{StationAt}
 use Rattle.station.specs.declared.stops.RecvStop.{RecvStop}
@@ -36,7 +36,7 @@ pub record GaveUpReceiving (polls : ℕ) (done : List DataCall) (from : ℕ) (no
   pub room : Ball
   pub came : Ball
   pub calls : (record_in begun).calls ≡ done
-  pub stopped : SaysWhyAfter (at_receive begun before from room) patience polls (behind_receive now after came) why
+  pub stopped : SaysWhyAfter (at_receive begun before from room) patience polls (after_receive now after came) why
 
 -- the player at rank 0 gave up behind its first rounds: at the serve of the next one, or at the receive of what comes back
 pub data ServeStops (polls : ℕ) (base : List DataCall) (balls back : List Ball) (now : Sight) (why : Stop) : Type 0 where

@@ -6,7 +6,7 @@ ghost use Rattle.scc_base.specs.Heads.{plain_head};
 ghost use Rattle.scc_proto.specs.Ports.{record_in};
 ghost use Rattle.scc_proto.specs.Words.{are_peers};
 ghost use Rattle.send_recv.specs.Calling.{SendStalled};
-ghost use Rattle.station.specs.Calls.{at_receive, at_send, behind_receive, in_send};
+ghost use Rattle.station.specs.Calls.{at_receive, at_send, after_receive, in_send};
 ghost use Rattle.station.specs.Patience.{AfterStalls, SaysWhyAfter, SendStalls};
 ghost use Rattle.station.specs.Stations.{NoCallOpen};
 ghost use Rattle.ping_pong.specs.GivingUp.{HitStops, ServeStops, patience};
@@ -55,7 +55,7 @@ fn get<P: Port>(
     ensures calls { IfOk result (λ done. (record_in (P.sight port.new)).calls
         ≡ (record_in (P.sight port.old)).calls ++ Recv from (plain_head 4) ball.new ∷ []) }
     ensures why { IfErr result (λ stop. SaysWhyAfter (at_receive (P.sight port.old) station.old from ball.old) patience station.old.polls
-        (behind_receive (P.sight port.new) station.new ball.new) stop) }
+        (after_receive (P.sight port.new) station.new ball.new) stop) }
     ensures seat { (P.sight port.new).seat ≡ (P.sight port.old).seat }
     ensures same { station.new.polls ≡ station.old.polls }
 {

@@ -25,7 +25,7 @@ impl Model for Rest {
 
     ghost Value = { Ended };
 
-    ghost view = { λ r. record { end = r.how; printed = r.items.items; on_its_way = r.target } };
+    ghost view = { λ r. record { end = r.how; printed = r.items.items; in_flight = r.target } };
 }
 
 /// What the run of a script leaves behind: no rank can take a step.
@@ -119,9 +119,9 @@ impl End {
     }
 
     /// The target of a rank's posted message that is not taken, if there is one.
-    pub fn on_its_way(&self, rank: Rank) -> Option<Rank>
+    pub fn in_flight(&self, rank: Rank) -> Option<Rank>
         requires { rank < length self.now }
-        ensures { result ≡ (ended_at self.now rank).on_its_way }
+        ensures { result ≡ (ended_at self.now rank).in_flight }
     {
         let rest = &self.ranks[rank.number() as usize];
         rest.target

@@ -2,10 +2,10 @@
 
 ghost use Rattle.std.specs.Prelude.{◌≡◌};
 ghost use Rattle.std.specs.Option.{option_map};
-ghost use Rattle.script_machine.specs.Machine.{on_its_way};
+ghost use Rattle.script_machine.specs.Machine.{in_flight};
 
 use scc_base::{Head, Rank};
-use script_machine::{OnItsWay, Posted, Register};
+use script_machine::{InFlight, Posted, Register};
 use std::marker::Model;
 
 /// A message that was posted and not taken yet. It has as many bytes as its head says.
@@ -27,7 +27,7 @@ impl Model for Left {
 
 impl Left {
     ghost use Rattle.std.specs.Prelude.{◌≡◌, length};
-    ghost use Rattle.script_machine.specs.Machine.{on_its_way};
+    ghost use Rattle.script_machine.specs.Machine.{in_flight};
 
     pub fn of(message: Posted) -> Left
         requires { length message.bytes ≡ message.head.len }
@@ -61,10 +61,10 @@ impl Left {
         &self.message.bytes
     }
 
-    pub fn on_its_way(&self) -> OnItsWay
-        ensures { result ≡ on_its_way self.now }
+    pub fn in_flight(&self) -> InFlight
+        ensures { result ≡ in_flight self.now }
     {
-        OnItsWay {
+        InFlight {
             line: self.message.line,
             to: self.message.to,
             head: self.message.head,
@@ -73,11 +73,11 @@ impl Left {
 }
 
 /// The message in a slot, without its bytes.
-pub fn in_slot(slot: &Option<Left>) -> Option<OnItsWay>
-    ensures { result ≡ option_map on_its_way slot.now }
+pub fn in_slot(slot: &Option<Left>) -> Option<InFlight>
+    ensures { result ≡ option_map in_flight slot.now }
 {
     match slot {
-        Some(message) => Some(message.on_its_way()),
+        Some(message) => Some(message.in_flight()),
         None => None,
     }
 }

@@ -217,15 +217,15 @@ puts [] known c d s t core line since none put =
 puts (words ∷ rest) known c d s t core line since none put =
     let at = line_at core line in
     let stores = stores_of_line (whole_line at words) in
-    let behind = put_stores core (line + 1) rest in
+    let afterwards = put_stores core (line + 1) rest in
     let written : Private = record c { lines = line_noted c.lines at words; out = Some (whole_line at words) } in
     let flushed : Private = record c { lines = line_noted c.lines at words; out = None } in
     let mid = and_then s stores in
     let a = writes_line known c written s s at words since (may_differ c at none)
     (record { did = subst (λ (x : Option Out). Did s (stores_of x) s) (sym none) (did_nothing s); is = refl }) in
-    let b = HasFlushed (known ++ writes_of at words) written a s mid flushed (record { did = did_front s stores behind t put.did; is = refl }) in
+    let b = HasFlushed (known ++ writes_of at words) written a s mid flushed (record { did = did_front s stores afterwards t put.did; is = refl }) in
     let later = puts rest (known ++ writes_of at words) flushed d mid t core (line + 1) b refl (record {
-      did = did_left s stores behind t put.did;
+      did = did_left s stores afterwards t put.did;
       is = put.is ∙ (λ i. record c { lines = put_lines c.lines core line (words ∷ rest); out = none i });
     }) in
     subst (λ es. Since es d) (append_assoc known (writes_of at words) (writes_from core (line + 1) rest)) later

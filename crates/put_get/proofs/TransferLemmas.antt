@@ -78,9 +78,9 @@ pub putting_may : (s : Sight) (c : Private) (core line : ℕ) (src : List (List 
 putting_may s c core line src i ws t d u e h is p w =
     let at = line_at core (line + i) in
     let stores = stores_of_line (whole_line at ws) in
-    let behind = put_stores core (line + i + 1) (drop (suc i) src) in
+    let afterwards = put_stores core (line + i + 1) (drop (suc i) src) in
     subst (λ (x : Private). MayMakeAll u.seat (record_in u) (stores_of x.out)) (sym w.is)
-    (may_part t [] stores behind u (writes_nothing t d u e at ws p.out w) (rest_here core line src i ws t h is p.rest))
+    (may_part t [] stores afterwards u (writes_nothing t d u e at ws p.out w) (rest_here core line src i ws t h is p.rest))
 
 -- while nothing waits
 pub none_waits : (t : Sight) (out : Option Out) → out ≡ None → MayMakeAll t.seat (record_in t) (stores_of out)
@@ -98,7 +98,7 @@ pub putting_next : (s : Sight) (c : Private) (core line : ℕ) (src : List (List
 putting_next s c core line src i ws t d u e v f h is p w fl =
     let at = line_at core (line + i) in
     let stores = stores_of_line (whole_line at ws) in
-    let behind = put_stores core (line + i + 1) (drop (suc i) src) in
+    let afterwards = put_stores core (line + i + 1) (drop (suc i) src) in
     let nothing = writes_nothing t d u e at ws p.out w in
     let flushed : Did u stores v = subst (λ (x : Private). Did u (stores_of x.out) v) w.is fl.did in
     let here : Did t stores v = did_both t [] u stores v nothing flushed in
@@ -127,7 +127,7 @@ putting_next s c core line src i ws t d u e v f h is p w fl =
         is = done;
       };
       rest = subst (λ k. MayMakeAll v.seat (record_in v) (put_stores core k (drop (suc i) src))) one
-          (may_next t stores behind v here (rest_here core line src i ws t h is p.rest));
+          (may_next t stores afterwards v here (rest_here core line src i ws t h is p.rest));
       out = ap (λ (x : Private). x.out) fl.is;
     } in
     subst (λ k. Putting s c core line src k v f) next q

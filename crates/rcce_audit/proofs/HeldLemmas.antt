@@ -9,17 +9,17 @@ use Rattle.rcce_audit.specs.Pieces.{line_by}
 use Rattle.rcce_audit.specs.Texts.{call_lines, text_of}
 
 -- the bytes that are left behind calls
-abbrev pub left_behind : List Call → List ℕ → List ℕ
-left_behind [] bytes = bytes
-left_behind (call ∷ calls) bytes = left_behind calls (drop (bytes_in call) bytes)
+abbrev pub left_after : List Call → List ℕ → List ℕ
+left_after [] bytes = bytes
+left_after (call ∷ calls) bytes = left_after calls (drop (bytes_in call) bytes)
 
-with_append : (one other : List Call) (bytes : List ℕ) → calls_with_bytes (one ++ other) bytes ≡ calls_with_bytes one bytes ++ calls_with_bytes other (left_behind one bytes)
+with_append : (one other : List Call) (bytes : List ℕ) → calls_with_bytes (one ++ other) bytes ≡ calls_with_bytes one bytes ++ calls_with_bytes other (left_after one bytes)
 with_append [] other bytes = refl
 with_append (call ∷ one) other bytes = ap (λ (l : List DataCall). call_with_bytes call (take (bytes_in call) bytes) ∷ l) (with_append one other (drop (bytes_in call) bytes))
 
-behind_append : (one other : List Call) (bytes : List ℕ) → left_behind (one ++ other) bytes ≡ left_behind other (left_behind one bytes)
-behind_append [] other bytes = refl
-behind_append (call ∷ one) other bytes = behind_append one other (drop (bytes_in call) bytes)
+after_append : (one other : List Call) (bytes : List ℕ) → left_after (one ++ other) bytes ≡ left_after other (left_after one bytes)
+after_append [] other bytes = refl
+after_append (call ∷ one) other bytes = after_append one other (drop (bytes_in call) bytes)
 
 joined_append : (one other : List (List ℕ)) → joined_texts (one ++ other) ≡ joined_texts one ++ joined_texts other
 joined_append [] other = refl
@@ -29,13 +29,13 @@ joined_append (text ∷ one) other = ap (λ (t : List ℕ). text ++ t) (joined_a
 abbrev pub list_text : ℕ → List Call → List ℕ → List ℕ
 list_text rank calls bytes = joined_texts (map (line_by rank) (calls_with_bytes calls bytes))
 
-text_append : (rank : ℕ) (one other : List Call) (bytes : List ℕ) → list_text rank (one ++ other) bytes ≡ list_text rank one bytes ++ list_text rank other (left_behind one bytes)
+text_append : (rank : ℕ) (one other : List Call) (bytes : List ℕ) → list_text rank (one ++ other) bytes ≡ list_text rank one bytes ++ list_text rank other (left_after one bytes)
 text_append rank one other bytes =
     ap (λ (l : List DataCall). joined_texts (map (line_by rank) l)) (with_append one other bytes)
-    ∙ ap joined_texts (map-append (line_by rank) (calls_with_bytes one bytes) (calls_with_bytes other (left_behind one bytes)))
-    ∙ joined_append (map (line_by rank) (calls_with_bytes one bytes)) (map (line_by rank) (calls_with_bytes other (left_behind one bytes)))
+    ∙ ap joined_texts (map-append (line_by rank) (calls_with_bytes one bytes) (calls_with_bytes other (left_after one bytes)))
+    ∙ joined_append (map (line_by rank) (calls_with_bytes one bytes)) (map (line_by rank) (calls_with_bytes other (left_after one bytes)))
 
-module _ (rank : ℕ) (calls : List Call) (bytes : List ℕ) (i at : ℕ) (call : Call) (within : i < length calls) (is : call ≡ get_or calls i call) (place : drop at bytes ≡ left_behind (take i calls) bytes) where
+module _ (rank : ℕ) (calls : List Call) (bytes : List ℕ) (i at : ℕ) (call : Call) (within : i < length calls) (is : call ≡ get_or calls i call) (place : drop at bytes ≡ left_after (take i calls) bytes) where
   abbrev own : List ℕ
   own = take (bytes_in call) (drop at bytes)
 
@@ -61,14 +61,14 @@ module _ (rank : ℕ) (calls : List Call) (bytes : List ℕ) (i at : ℕ) (call 
       ∙ ap (λ (b : List ℕ). list_text rank (take i calls) bytes ++ list_text rank (call ∷ drop (i + 1) calls) b) (sym place)
 
   -- and the bytes behind it
-  pub place_more : (n : ℕ) → n ≡ length own → drop (at + n) bytes ≡ left_behind (take (i + 1) calls) bytes
+  pub place_more : (n : ℕ) → n ≡ length own → drop (at + n) bytes ≡ left_after (take (i + 1) calls) bytes
   place_more n long =
       sym (drop-drop n at bytes)
       ∙ ap (λ (k : ℕ). drop k (drop at bytes)) long
       ∙ drop_taken (bytes_in call) (drop at bytes)
       ∙ ap (λ (b : List ℕ). drop (bytes_in call) b) place
-      ∙ sym (behind_append (take i calls) (call ∷ []) bytes)
-      ∙ ap (λ (l : List Call). left_behind l bytes) (sym more_calls)
+      ∙ sym (after_append (take i calls) (call ∷ []) bytes)
+      ∙ ap (λ (l : List Call). left_after l bytes) (sym more_calls)
     where
       drop_taken : (k : ℕ) (xs : List ℕ) → drop (length (take k xs)) xs ≡ drop k xs
       drop_taken zero xs = refl

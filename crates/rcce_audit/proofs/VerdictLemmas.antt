@@ -112,9 +112,9 @@ lowest_left calls (suc n) = next (lowest_left calls n) (is_empty (calls n))
     next (inr none) (inr some) = inl (n, omega arith, some, none)
     next (inr none) (inl empty) = inr (λ k below. ⊎_elim (λ (is : k ≡ n). ap calls is ∙ empty) (λ (lower : k < n). none k lower) (last_or_below k n below))
 
-none_behind : (xs ys : List DataCall) → xs ++ ys ≡ [] → ys ≡ []
-none_behind [] ys is = is
-none_behind (x ∷ xs) ys is = absurd cc
+none_after : (xs ys : List DataCall) → xs ++ ys ≡ [] → ys ≡ []
+none_after [] ys is = is
+none_after (x ∷ xs) ys is = absurd cc
 
 -- a log has a verdict, where no rank from 48 on has a call
 pub verdict_found : (log : LogView) → ((k : ℕ) → 48 ≤ k → calls_at_rank log.lists k ≡ []) → (v : Verdict) × IsVerdict log v
@@ -132,7 +132,7 @@ verdict_found log none =
         (verdict.Yes, (e, (m, run), λ k. ⊎_elim (λ (below : k < 48). empty k below) (λ (past : 48 ≤ k). left_none e m run k (none k past)) (cases_lt k 48)))
       where
         left_none : (f : Standing) (n : ℕ) → Runs (OwnStep log.nue (key_of log.comms)) (EndsAt (OwnStep log.nue (key_of log.comms)) f) n (record { calls = calls_at_rank log.lists; slots = λ k. None }) → (k : ℕ) → calls_at_rank log.lists k ≡ [] → f.calls k ≡ []
-        left_none f n run k nothing = let used = used_up log.nue (key_of log.comms) n _ f run k in none_behind used.0 (f.calls k) (sym used.1 ∙ nothing)
+        left_none f n run k nothing = let used = used_up log.nue (key_of log.comms) n _ f run k in none_after used.0 (f.calls k) (sym used.1 ∙ nothing)
 
 -- ---- a judge
 

@@ -69,15 +69,15 @@ module _ (inside : Inside) (calls : Calls) (state : FilesState) (place : Place) 
       rw (sym steady, rest_is, ne_eqb (length (drop place.at bytes)) 0 left) (ap (λ (n : ℕ). got.Bytes n) count_is) in
       subst (λ (s : FilesState). got.Bytes len ≡ read_answer s size) seen here
 
-  left_behind : (files_state_of (moved_on inside place len calls)).rest ≡ option_map (drop (min size inside.most)) (files_state_of inside).rest
-  left_behind =
+  left_after : (files_state_of (moved_on inside place len calls)).rest ≡ option_map (drop (min size inside.most)) (files_state_of inside).rest
+  left_after =
       ap (λ (l : List ℕ). Some (drop (place.at + len) l)) told
       ∙ ap Some (sym (drop-drop len place.at bytes) ∙ ap (λ (n : ℕ). drop n (drop place.at bytes)) count_is ∙ drop_min (min size inside.most) (drop place.at bytes))
       ∙ ap (option_map (drop (min size inside.most))) (sym rest_is)
 
   some_state : files_state_of (moved_on inside place len calls) ≡ after_read state size
   some_state =
-      let here : files_state_of (moved_on inside place len calls) ≡ after_read (files_state_of inside) size = rw (sym steady) (cc (left_behind, counted)) in
+      let here : files_state_of (moved_on inside place len calls) ≡ after_read (files_state_of inside) size = rw (sym steady) (cc (left_after, counted)) in
       here ∙ ap (λ (s : FilesState). after_read s size) seen
 
   pub at_some : (got.Bytes len ≡ read_answer state size) × (files_state_of (moved_on inside place len calls) ≡ after_read state size)

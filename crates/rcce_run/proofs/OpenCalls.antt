@@ -10,7 +10,7 @@ use Rattle.scc_proto.specs.Messages.{Notes, Progress, fresh_message, is_last, wi
 use Rattle.scc_proto.specs.Pairs.{Resting, Offering, Awaiting, side_of_part, side_of_post, sending_side, taking_side, HasArrived, Pair, pair_of, Phase, InRest, InRaised, InTaken, InReady}
 use Rattle.scc_proto.specs.Passed.{call_in_stage, open_call}
 use Rattle.scc_proto.specs.Records.{chunk_of}
-use Rattle.scc_proto.specs.Stages.{Part, Filling, Raised, Answered, Stage, Idle, Drafting, Sending, Between, Taking, Barrier, OnItsWay, Record}
+use Rattle.scc_proto.specs.Stages.{Part, Filling, Raised, Answered, Stage, Idle, Drafting, Sending, Between, Taking, Barrier, InFlight, Record}
 use Rattle.scc_proto.specs.Views.{view_of}
 use Rattle.scc_proto.specs.Words.{Memory}
 use Rattle.scc_proto.proofs.Pairs.OfferFacts.{posted_last}
@@ -22,7 +22,7 @@ use Rattle.script_machine.specs.Next.{Next, call_next}
 use Rattle.script_machine.specs.Next.Next.{Ends, Goes, Posts, Sends, Recvs, Bars}
 use Rattle.chip_run.specs.Waiting.{NoneDrafts}
 use Rattle.chip_run.specs.Waiting.{TakeWaits, IsLooking, BarWaits, AtRoot, AtMember}
-use Rattle.rcce_run.specs.Sweep.{Vain, Swept}
+use Rattle.rcce_run.specs.Sweep.{Failed, Swept}
 use Rattle.rcce_run.proofs.Refusals.{posting, sending}
 
 -- between two chunks: what the sender's side can be while the receiver's `sent` is not set
@@ -37,11 +37,11 @@ arrived_some true size p m w through sent received message is arrived = absurd (
 arrived_some false size p m w through sent received message is arrived = refl
 
 onward : (size : ℕ) (x : Pair) (message : Progress) → x.taking ≡ Awaiting (Some message) → x.sent_flag ≢ 1 → Phase size x → Onward size x message
-onward size x message takes vain (InRest through q) =
+onward size x message takes failed (InRest through q) =
     let same : through ≡ Some message = cc (q.taking, takes) in Refills (q.sending ∙ ap Resting same)
-onward size x message takes vain (InRaised through head b w q) = absurd (vain q.sent_flag)
-onward size x message takes vain (InTaken m b w words q) = absurd (cc (q.taking, takes))
-onward size x message takes vain (InReady through a b m w q) =
+onward size x message takes failed (InRaised through head b w q) = absurd (failed q.sent_flag)
+onward size x message takes failed (InTaken m b w words q) = absurd (cc (q.taking, takes))
+onward size x message takes failed (InReady through a b m w q) =
     let same : through ≡ Some message = cc (q.taking, takes) in
     by b refl (arrived_some (is_last size m) size b m w through x.sent x.received message same q.arrived)
   where
@@ -55,7 +55,7 @@ refilling_part Filling message chunk m is = refl
 refilling_part Raised message chunk m is = absurd (cc (is))
 refilling_part Answered message chunk m is = absurd (cc (is))
 
-no_post_rests : (to : ℕ) (m : Progress) (o : Option OnItsWay) → side_of_post to o ≡ Resting (Some m) → ⊥
+no_post_rests : (to : ℕ) (m : Progress) (o : Option InFlight) → side_of_post to o ≡ Resting (Some m) → ⊥
 no_post_rests to m None is = cc (is)
 no_post_rests to m (Some post) is = same_or_other ⊥ post.to to
     (λ t e. let side : Offering post.is_answered true (fresh_message post.head) post.chunk ≡ Resting (Some m) = sym (post_here to post t) ∙ is in cc (side))
@@ -64,7 +64,7 @@ no_post_rests to m (Some post) is = same_or_other ⊥ post.to to
 abbrev IsRefilling : ℕ → Stage → Type 0
 IsRefilling to st = (message : Progress) × (chunk : Notes) × (st ≡ Sending to Filling message chunk)
 
-refilling : (to : ℕ) (m : Progress) (st : Stage) (o : Option OnItsWay) → sending_side to st o ≡ Resting (Some m) → IsRefilling to st
+refilling : (to : ℕ) (m : Progress) (st : Stage) (o : Option InFlight) → sending_side to st o ≡ Resting (Some m) → IsRefilling to st
 refilling to m Idle o is = absurd (no_post_rests to m o is)
 refilling to m (Drafting header chunk) o is = absurd (no_post_rests to m o is)
 refilling to m (Sending j part message chunk) o is = same_or_other (IsRefilling to (Sending j part message chunk)) j to
@@ -78,32 +78,32 @@ refilling to m (Barrier comm seen released) o is = absurd (no_post_rests to m o 
 module _ {U : Type 0} (next : U → Next U) (s : SetupView) (memory : Memory) (records : ℕ → Record) (starts states : ℕ → U) (lasts : ℕ → Option Posted) (sw : Swept next s memory records starts states lasts) where
   -- a rank that sends waits for its `ready`, with a chunk raised
   pub raised_by : (k to : ℕ) (part : Part) (m : Progress) (w : Notes) → k < s.nue → (records k).stage ≡ Sending to part m w → (part ≡ Raised) × ((view_of s memory).signal Ready to k ≢ 1)
-  raised_by k to part m w low stage = by (next (states k)) (sw.vain k low)
+  raised_by k to part m w low stage = by (next (states k)) (sw.failed k low)
     where
       not_looking : (from : ℕ) (st : Stage) → st ≡ Sending to part m w → IsLooking from st → ⊥
       not_looking from st is looks = subst (IsLooking from) is looks
 
       not_bar : (comm : ℕ) → BarWaits s (view_of s memory) k comm (records k) → ⊥
-      not_bar comm (AtRoot seen j present zeroth bar less below grouped placed vain) = cc (stage, bar)
-      not_bar comm (AtMember present other bar vain) = cc (stage, bar)
+      not_bar comm (AtRoot seen j present zeroth bar less below grouped placed failed) = cc (stage, bar)
+      not_bar comm (AtMember present other bar failed) = cc (stage, bar)
 
-      by : (n : Next U) → Vain s (view_of s memory) k (records k) n → (part ≡ Raised) × ((view_of s memory).signal Ready to k ≢ 1)
-      by Ends vain = absurd (cc (stage, vain))
-      by (Goes after) vain = absurd vain
-      by (Posts message after) vain = absurd (let idle = vain.stage in cc (stage, idle))
+      by : (n : Next U) → Failed s (view_of s memory) k (records k) n → (part ≡ Raised) × ((view_of s memory).signal Ready to k ≢ 1)
+      by Ends failed = absurd (cc (stage, failed))
+      by (Goes after) failed = absurd failed
+      by (Posts message after) failed = absurd (let idle = failed.stage in cc (stage, idle))
       by (Sends j head bytes after) (inl slot) = absurd (let idle = slot.stage in cc (stage, idle))
       by (Sends j head bytes after) (inr raise) =
           let at = raise.stage in
           let to_is : j ≡ to = cc (stage, at) in
           let part_is : part ≡ Raised = cc (stage, at) in
-          (part_is, subst (λ (x : ℕ). (view_of s memory).signal Ready x k ≢ 1) to_is raise.vain)
-      by (Recvs from head take refuse) vain = absurd (not_looking from (records k).stage stage vain.stage)
-      by (Bars comm after) vain = absurd (not_bar comm vain)
+          (part_is, subst (λ (x : ℕ). (view_of s memory).signal Ready x k ≢ 1) to_is raise.failed)
+      by (Recvs from head take refuse) failed = absurd (not_looking from (records k).stage stage failed.stage)
+      by (Bars comm after) failed = absurd (not_bar comm failed)
 
   -- a receiver between two chunks has a sender that moves
   pub no_open_receive : (k from : ℕ) (message : Progress) → k < s.nue → TakeWaits s (view_of s memory) k from (records k) → (records k).stage ≡ Between from message → ⊥
   no_open_receive k from message low takes stage =
-      by (onward (chunk_of s) (pair_of from k (view_of s memory) (records from) (records k)) message here takes.vain (sw.agrees.pairs from k takes.peers))
+      by (onward (chunk_of s) (pair_of from k (view_of s memory) (records from) (records k)) message here takes.failed (sw.agrees.pairs from k takes.peers))
     where
       below : from < s.nue
       below = (peers_are s from k takes.peers).one
@@ -126,7 +126,7 @@ module _ {U : Type 0} (next : U → Next U) (s : SetupView) (memory : Memory) (r
 
   -- an open call is the one that stands next
   pub open_is_next : (k : ℕ) → k < s.nue → (c : DataCall) → open_call s (records k) ≡ Some c → call_next (next (states k)) ≡ Some (calls.call_of c)
-  open_is_next k low c is = by (next (states k)) (sw.vain k low)
+  open_is_next k low c is = by (next (states k)) (sw.failed k low)
     where
       closed : (st : Stage) → (records k).stage ≡ st → call_in_stage (chunk_of s) st ≡ Some c
       closed st at = ap (call_in_stage (chunk_of s)) (sym at) ∙ is
@@ -143,25 +143,25 @@ module _ {U : Type 0} (next : U → Next U) (s : SetupView) (memory : Memory) (r
       by_looking from (Barrier comm seen released) at takes looks = looks
 
       by_bar : (comm : ℕ) → BarWaits s (view_of s memory) k comm (records k) → Some (call.Bar comm) ≡ Some (calls.call_of c)
-      by_bar comm (AtRoot seen j present zeroth bar less below grouped placed vain) =
+      by_bar comm (AtRoot seen j present zeroth bar less below grouped placed failed) =
           ap (λ (x : DataCall). Some (calls.call_of x)) (same_Some (DataCall.Bar comm) c (closed (Barrier comm seen 0) bar))
-      by_bar comm (AtMember present other bar vain) =
+      by_bar comm (AtMember present other bar failed) =
           ap (λ (x : DataCall). Some (calls.call_of x)) (same_Some (DataCall.Bar comm) c (closed (Barrier comm 0 0) bar))
 
-      by : (n : Next U) → Vain s (view_of s memory) k (records k) n → call_next n ≡ Some (calls.call_of c)
-      by Ends vain = idle_none _ vain
-      by (Goes after) vain = absurd vain
-      by (Posts message after) vain = idle_none _ vain.stage
+      by : (n : Next U) → Failed s (view_of s memory) k (records k) n → call_next n ≡ Some (calls.call_of c)
+      by Ends failed = idle_none _ failed
+      by (Goes after) failed = absurd failed
+      by (Posts message after) failed = idle_none _ failed.stage
       by (Sends to head bytes after) (inl slot) = idle_none _ slot.stage
       by (Sends to head bytes after) (inr raise) =
           let opened = same_Some (DataCall.Send to raise.message.head (with_chunk (chunk_of s) raise.message raise.chunk).bytes) c (closed (Sending to Raised raise.message raise.chunk) raise.stage) in
           ap (λ (h : _). Some (call.Send to h)) (sym raise.head_is) ∙ ap (λ (x : DataCall). Some (calls.call_of x)) opened
-      by (Recvs from head take refuse) vain = absurd (by_looking from (records k).stage refl vain vain.stage)
-      by (Bars comm after) vain = by_bar comm vain
+      by (Recvs from head take refuse) failed = absurd (by_looking from (records k).stage refl failed failed.stage)
+      by (Bars comm after) failed = by_bar comm failed
 
   -- a rank with no open call is in the midst of nothing
   pub none_drafts : NoneDrafts s records
-  none_drafts k low none = by (next (states k)) (sw.vain k low)
+  none_drafts k low none = by (next (states k)) (sw.failed k low)
     where
       closed : (st : Stage) → (records k).stage ≡ st → call_in_stage (chunk_of s) st ≡ None
       closed st at = ap (call_in_stage (chunk_of s)) (sym at) ∙ none
@@ -175,14 +175,14 @@ module _ {U : Type 0} (next : U → Next U) (s : SetupView) (memory : Memory) (r
       by_looking from (Barrier comm seen released) at looks = absurd looks
 
       by_bar : (comm : ℕ) → BarWaits s (view_of s memory) k comm (records k) → ⊥
-      by_bar comm (AtRoot seen j present zeroth bar less below grouped placed vain) = let some = closed (Barrier comm seen 0) bar in cc (some)
-      by_bar comm (AtMember present other bar vain) = let some = closed (Barrier comm 0 0) bar in cc (some)
+      by_bar comm (AtRoot seen j present zeroth bar less below grouped placed failed) = let some = closed (Barrier comm seen 0) bar in cc (some)
+      by_bar comm (AtMember present other bar failed) = let some = closed (Barrier comm 0 0) bar in cc (some)
 
-      by : (n : Next U) → Vain s (view_of s memory) k (records k) n → (records k).stage ≡ Idle
-      by Ends vain = vain
-      by (Goes after) vain = absurd vain
-      by (Posts message after) vain = vain.stage
+      by : (n : Next U) → Failed s (view_of s memory) k (records k) n → (records k).stage ≡ Idle
+      by Ends failed = failed
+      by (Goes after) failed = absurd failed
+      by (Posts message after) failed = failed.stage
       by (Sends to head bytes after) (inl slot) = slot.stage
       by (Sends to head bytes after) (inr raise) = absurd (let some = closed (Sending to Raised raise.message raise.chunk) raise.stage in cc (some))
-      by (Recvs from head take refuse) vain = by_looking from (records k).stage refl vain.stage
-      by (Bars comm after) vain = absurd (by_bar comm vain)
+      by (Recvs from head take refuse) failed = by_looking from (records k).stage refl failed.stage
+      by (Bars comm after) failed = absurd (by_bar comm failed)

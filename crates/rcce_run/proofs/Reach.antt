@@ -273,7 +273,7 @@ module _ {U : Type 0} (nue : ℕ) (keys : ℕ → ℕ → ℕ) (next : U → Nex
               (Passing comm after at (sym (root_is (keys comm) root root refl makes.proper.zeroth))
               (runs.stand_there next comm group c.cells (λ k u member here.
               let (low, is) = some_at nue k (heads k) u (sym (holds.cells_at k) ∙ here) in
-              let (behind, bars, rest) = at_bar k (inside k low member) in
+              let (afterwards, bars, rest) = at_bar k (inside k low member) in
               ap (λ (x : U). is_at_barrier comm (next x)) (sym is) ∙ ap (is_at_barrier comm) bars ∙ itself comm)) refl),
           record {
             cells = past;

@@ -13,7 +13,7 @@ use Rattle.scc_proto.specs.Pairs.{Resting, Offering, side_of_part, side_of_post,
 use Rattle.scc_proto.specs.Passed.{passed_open, passed_calls, slot_by, slot_of}
 use Rattle.scc_proto.specs.Records.{chunk_of}
 use Rattle.scc_proto.specs.Singles.{IsPosted, is_free}
-use Rattle.scc_proto.specs.Stages.{Part, Filling, Raised, Answered, Stage, Idle, Drafting, Sending, Between, Taking, Barrier, OnItsWay, Record}
+use Rattle.scc_proto.specs.Stages.{Part, Filling, Raised, Answered, Stage, Idle, Drafting, Sending, Between, Taking, Barrier, InFlight, Record}
 use Rattle.scc_proto.specs.Tables.{table_with}
 use Rattle.scc_proto.specs.Views.{view_of}
 use Rattle.scc_proto.specs.Words.{Memory}
@@ -31,7 +31,7 @@ use Rattle.script_plain.proofs.Messages.MessageLaws.{same_heads}
 use Rattle.script_plain.proofs.Runs.StepLaws as steps
 use Rattle.script_plain.proofs.Runs.StepLaws.Takes.{RefusedPost, RefusedSend}
 use Rattle.chip_run.specs.Waiting.{IsLooking, BarWaits, AtRoot, AtMember}
-use Rattle.rcce_run.specs.Sweep.{Refused, IsStateOfRecord, Running, Stopped, Vain, Swept, keep, slots_by, outgoing, HoldsStates}
+use Rattle.rcce_run.specs.Sweep.{Refused, IsStateOfRecord, Running, Stopped, Failed, Swept, keep, slots_by, outgoing, HoldsStates}
 use Rattle.rcce_run.proofs.Holding.{posted_there, mixed, mixed_here, mixed_next, rank_after_rank, holds_same, holds_cell, next_held, slot_held}
 use Rattle.rcce_run.proofs.Reach.{Leads, reach}
 use Rattle.chip_run.proofs.Offers.{message_on, one_ahead, slot_full}
@@ -43,13 +43,13 @@ other_heads sent asked other =
     ⊎_elim (λ (is : same_head sent asked ≡ true). absurd (other (same_heads sent asked is))) (λ (is : same_head sent asked ≡ false). is) (true_or_false (same_head sent asked))
 
 -- a posted message that is offered to a rank
-pub record Posting (to : ℕ) (m : Progress) (o : Option OnItsWay) : Type 0 where
-  pub post : OnItsWay
+pub record Posting (to : ℕ) (m : Progress) (o : Option InFlight) : Type 0 where
+  pub post : InFlight
   pub is_posted : o ≡ Some post
   pub to_is : post.to ≡ to
   pub message_is : fresh_message post.head ≡ m
 
-offered_post : (to : ℕ) (a : Bool) (m : Progress) (c : Notes) (o : Option OnItsWay) → side_of_post to o ≡ Offering a true m c → Posting to m o
+offered_post : (to : ℕ) (a : Bool) (m : Progress) (c : Notes) (o : Option InFlight) → side_of_post to o ≡ Offering a true m c → Posting to m o
 offered_post to a m c None is = absurd (cc (is))
 offered_post to a m c (Some post) is = same_or_other (Posting to m (Some post)) post.to to
     (λ t e. let side : Offering post.is_answered true (fresh_message post.head) post.chunk ≡ Offering a true m c = sym (post_here to post t) ∙ is in
@@ -61,7 +61,7 @@ no_send to a p m c Filling message chunk is = absurd (cc (is))
 no_send to a p m c Raised message chunk is = cc (is)
 no_send to a p m c Answered message chunk is = cc (is)
 
-pub posting : (to : ℕ) (a : Bool) (m : Progress) (c : Notes) (st : Stage) (o : Option OnItsWay) → sending_side to st o ≡ Offering a true m c → Posting to m o
+pub posting : (to : ℕ) (a : Bool) (m : Progress) (c : Notes) (st : Stage) (o : Option InFlight) → sending_side to st o ≡ Offering a true m c → Posting to m o
 posting to a m c Idle o is = offered_post to a m c o is
 posting to a m c (Drafting header chunk) o is = offered_post to a m c o is
 posting to a m c (Sending j part message chunk) o is = absurd (same_or_other ⊥ j to
@@ -77,13 +77,13 @@ same_part a p m c Filling message chunk is = absurd (cc (is))
 same_part a p m c Raised message chunk is = cc (is)
 same_part a p m c Answered message chunk is = cc (is)
 
-no_post : (to : ℕ) (a : Bool) (m : Progress) (c : Notes) (o : Option OnItsWay) → side_of_post to o ≡ Offering a false m c → ⊥
+no_post : (to : ℕ) (a : Bool) (m : Progress) (c : Notes) (o : Option InFlight) → side_of_post to o ≡ Offering a false m c → ⊥
 no_post to a m c None is = cc (is)
 no_post to a m c (Some post) is = same_or_other ⊥ post.to to
     (λ t e. let side : Offering post.is_answered true (fresh_message post.head) post.chunk ≡ Offering a false m c = sym (post_here to post t) ∙ is in cc (side))
     (λ t ne. let side : Resting None ≡ Offering a false m c = sym (post_there to post t) ∙ is in cc (side))
 
-pub sending : (to : ℕ) (a : Bool) (m : Progress) (c : Notes) (st : Stage) (o : Option OnItsWay) → sending_side to st o ≡ Offering a false m c → (part : Part) × (chunk : Notes) × (st ≡ Sending to part m chunk)
+pub sending : (to : ℕ) (a : Bool) (m : Progress) (c : Notes) (st : Stage) (o : Option InFlight) → sending_side to st o ≡ Offering a false m c → (part : Part) × (chunk : Notes) × (st ≡ Sending to part m chunk)
 sending to a m c Idle o is = absurd (no_post to a m c o is)
 sending to a m c (Drafting header chunk) o is = absurd (no_post to a m c o is)
 sending to a m c (Sending j part message chunk) o is = same_or_other ((p : Part) × (w : Notes) × (Sending j part message chunk ≡ Sending to p m w)) j to
@@ -94,7 +94,7 @@ sending to a m c (Taking from message chunk) o is = absurd (no_post to a m c o i
 sending to a m c (Barrier comm seen released) o is = absurd (no_post to a m c o is)
 
 -- a rank that sends something posts nothing
-no_post_beside : (s : SetupView) (k to : ℕ) (part : Part) (m : Progress) (c : Notes) (st : Stage) → st ≡ Sending to part m c → (o : Option OnItsWay) → IsPosted s k st o → o ≡ None
+no_post_beside : (s : SetupView) (k to : ℕ) (part : Part) (m : Progress) (c : Notes) (st : Stage) → st ≡ Sending to part m c → (o : Option InFlight) → IsPosted s k st o → o ≡ None
 no_post_beside s k to part m c st is None posted = refl
 no_post_beside s k to part m c st is (Some post) posted = absurd (let free = posted.free in let busy = ap is_free is in cc (free, busy))
 
@@ -192,19 +192,19 @@ module _ {U : Type 0} (next : U → Next U) (s : SetupView) (memory : Memory) (r
 
   -- what stands next at the sender of a message that is being sent
   sender : (k to : ℕ) (part : Part) (m : Progress) (w : Notes) → k < s.nue → (records k).stage ≡ Sending to part m w → (bytes : List ℕ) × (after : U) × (next (states k) ≡ Sends to m.head bytes after)
-  sender k to part m w low stage = by (next (states k)) refl (sw.vain k low)
+  sender k to part m w low stage = by (next (states k)) refl (sw.failed k low)
     where
       not_looking : (from : ℕ) (st : Stage) → st ≡ Sending to part m w → IsLooking from st → ⊥
       not_looking from st is looks = subst (IsLooking from) is looks
 
       not_bar : (comm : ℕ) → BarWaits s (view_of s memory) k comm (records k) → ⊥
-      not_bar comm (AtRoot seen j present zeroth bar less below grouped placed vain) = cc (stage, bar)
-      not_bar comm (AtMember present other bar vain) = cc (stage, bar)
+      not_bar comm (AtRoot seen j present zeroth bar less below grouped placed failed) = cc (stage, bar)
+      not_bar comm (AtMember present other bar failed) = cc (stage, bar)
 
-      by : (n : Next U) → next (states k) ≡ n → Vain s (view_of s memory) k (records k) n → (bytes : List ℕ) × (after : U) × (next (states k) ≡ Sends to m.head bytes after)
-      by Ends is vain = absurd (cc (stage, vain))
-      by (Goes after) is vain = absurd vain
-      by (Posts message after) is vain = absurd (let idle = vain.stage in cc (stage, idle))
+      by : (n : Next U) → next (states k) ≡ n → Failed s (view_of s memory) k (records k) n → (bytes : List ℕ) × (after : U) × (next (states k) ≡ Sends to m.head bytes after)
+      by Ends is failed = absurd (cc (stage, failed))
+      by (Goes after) is failed = absurd failed
+      by (Posts message after) is failed = absurd (let idle = failed.stage in cc (stage, idle))
       by (Sends j head bytes after) is (inl slot) = absurd (let idle = slot.stage in cc (stage, idle))
       by (Sends j head bytes after) is (inr raise) =
           let at = raise.stage in
@@ -212,8 +212,8 @@ module _ {U : Type 0} (next : U → Next U) (s : SetupView) (memory : Memory) (r
           let message_is : raise.message ≡ m = cc (stage, at) in
           let head_same : head ≡ m.head = sym raise.head_is ∙ ap (λ (x : Progress). x.head) message_is in
           (bytes, after, is ∙ (λ i. Sends (to_is i) (head_same i) bytes after))
-      by (Recvs from head take refuse) is vain = absurd (not_looking from (records k).stage stage vain.stage)
-      by (Bars comm after) is vain = absurd (not_bar comm vain)
+      by (Recvs from head take refuse) is failed = absurd (not_looking from (records k).stage stage failed.stage)
+      by (Bars comm after) is failed = absurd (not_bar comm failed)
 
   module _ (told : (k : ℕ) → option_map outgoing (slots_by s records lasts k) ≡ slot_of s records k) where
     module _ (k : ℕ) (low : k < s.nue) (before : U) (refused : Refused next s k (records k) before (states k)) (c : Configuration U)
@@ -248,7 +248,7 @@ module _ {U : Type 0} (next : U → Next U) (s : SetupView) (memory : Memory) (r
           let (bytes, after, sends) = sender i k part m w below stage in
           let no_post : (records i).post ≡ None = no_post_beside s i k part m w (records i).stage stage (records i).post (sw.agrees.singles.0 i below).post in
           let free : slot_at c i ≡ None =
-          slots ∙ ap (λ (o : Option OnItsWay). keep (slot_by (chunk_of s) i o records) (lasts i)) no_post in
+          slots ∙ ap (λ (o : Option InFlight). keep (slot_by (chunk_of s) i o records) (lasts i)) no_post in
           let there : next_at next c i ≡ Sends k m.head bytes after = theirs (λ e. cc (e, sends)) ∙ sends in
           let other : same_head m.head refused.asked ≡ false = other_heads m.head refused.asked (λ same. refused.another (head ∙ same)) in
           let made : states k ≡ refused.refuse m.head = refused.stopped ∙ ap refused.refuse head in

@@ -4,7 +4,7 @@ use Rattle.std.proofs.lemmas.Bool.{cases_lt}
 use Rattle.scc_base.specs.Setups.{SetupView}
 use Rattle.scc_base.specs.declared.events.Event.{Event}
 use Rattle.scc_proto.specs.Agreement.{Agrees}
-use Rattle.scc_proto.specs.Stages.{OnItsWay, Record}
+use Rattle.scc_proto.specs.Stages.{InFlight, Record}
 use Rattle.scc_proto.specs.Views.{view_of}
 use Rattle.scc_proto.specs.Words.{Memory}
 use Rattle.scc_mesh.specs.Scenes.{ChipView, about_in, events_in, records_in}
@@ -21,7 +21,7 @@ use Rattle.rcce_ue.specs.Standing.{Tied}
 use Rattle.rcce_ue.specs.Ues.{UeView}
 use Rattle.chip_run.specs.declared.ends.RunEnd.{RunEnd}
 use Rattle.chip_run.specs.declared.ends.RunEnd.TheVariants as run_end
-use Rattle.chip_run.specs.Conducts.{Conduct, WorkerView}
+use Rattle.chip_run.specs.Behaves.{Behaviour, WorkerView}
 use Rattle.chip_run.specs.Crews.{AllRest, RunEndedAs, CrewGoesOn, IsCrew}
 use Rattle.chip_run.specs.Turns.{HasFinished, WantsNothing, RestsAt}
 use Rattle.chip_run.specs.Waiting.{SlotWaits}
@@ -29,24 +29,24 @@ use Rattle.chip_run.proofs.LaterLaws.{later_keeps}
 use Rattle.chip_run.proofs.WaitsLike.{slot_like, waits_like}
 use Rattle.rcce_run.specs.Crews.{AllRun, EndsAs, IsAtEnd, crew_locals}
 use Rattle.rcce_run.specs.Scripts.{IsSwept}
-use Rattle.rcce_run.specs.Sweep.{IsStateOfRecord, Vain, slots_by}
+use Rattle.rcce_run.specs.Sweep.{IsStateOfRecord, Failed, slots_by}
 use Rattle.rcce_ue.specs.Workers.{UeStands, slot_awaited, ue_seen, ue_want, want_at_end}
 use Rattle.rcce_run.specs.Ues.{FitsRecord, state_of}
 use Rattle.rcce_run.proofs.UeFits.{some_sight, tied_fits, tied_slot}
 use Rattle.rcce_run.proofs.OpenCalls.{open_is_next}
 use Rattle.rcce_run.proofs.PlainEnds.{finished_end, plain_end_at, stopped_end, waiting_end}
 use Rattle.rcce_run.proofs.ScriptSweep.{script_empty, script_ends, script_waits}
-use Rattle.rcce_run.proofs.UeWants.{none_awaited, nothing_ends, waits_at_end, waits_pauses, waits_vain}
+use Rattle.rcce_run.proofs.UeWants.{none_awaited, nothing_ends, waits_at_end, waits_pauses, waits_failed}
 
 -- workers that conduct themselves as their UEs do
-pub record RunsUes {A : Type 0} (c : Conduct A) (ue : A → UeView) : Type 0 where
+pub record RunsUes {A : Type 0} (c : Behaviour A) (ue : A → UeView) : Type 0 where
   pub shows : (s : SetupView) (rank : ℕ) (x : A) → c.seen s rank x ≡ ue_seen (ue x)
   pub stands : (x : A) (s : SetupView) (rank : ℕ) (events : List Event) → c.tied x s rank events → UeStands (ue x) s rank events
   pub moved : (x y : A) → c.moves x y → (ue y).machine.script ≡ (ue x).machine.script
   pub stayed : (x y : A) → c.stays x y → (ue y).machine.script ≡ (ue x).machine.script
 
 -- they run the same script as before
-pub still_run : {A : Type 0} (c : Conduct A) (ue : A → UeView) → RunsUes c ue → (script : Script) (chip now : ChipView) (crew later : List A) → CrewGoesOn c chip crew now later → AllRun ue script crew → AllRun ue script later
+pub still_run : {A : Type 0} (c : Behaviour A) (ue : A → UeView) → RunsUes c ue → (script : Script) (chip now : ChipView) (crew later : List A) → CrewGoesOn c chip crew now later → AllRun ue script crew → AllRun ue script later
 still_run {A} c ue runs script chip now crew later goes all k d low =
     let within : k < length crew = subst (λ (n : ℕ). k < n) goes.count low in
     later_keeps c (λ (x : A). (ue x).machine.script) runs.moved runs.stayed (slice_index_or crew k d) (slice_index_or later k d) (goes.each k d within) ∙ all k d within
@@ -55,17 +55,17 @@ still_run {A} c ue runs script chip now crew later goes all k d low =
 pub over_ends : (u : UeView) (rec : Record) → WantsNothing rec (ue_seen u) → local_next u.machine.local ≡ Ends
 over_ends u rec over = nothing_ends (want_at_end (slot_awaited u)) (local_next u.machine.local) over.ends
 
-none_posted : (o : Option OnItsWay) → option_map (λ (post : OnItsWay). post.to) o ≡ None → o ≡ None
+none_posted : (o : Option InFlight) → option_map (λ (post : InFlight). post.to) o ≡ None → o ≡ None
 none_posted None is = refl
 none_posted (Some post) is = absurd (cc (is))
 
 -- nothing of a UE that has finished is on its way
-pub none_on_its_way : (u : UeView) (rec : Record) → u.slot.to ≡ option_map (λ (post : OnItsWay). post.to) rec.post → HasFinished rec (ue_seen u) → rec.post ≡ None
-none_on_its_way u rec slot_is at =
+pub none_in_flight : (u : UeView) (rec : Record) → u.slot.to ≡ option_map (λ (post : InFlight). post.to) rec.post → HasFinished rec (ue_seen u) → rec.post ≡ None
+none_in_flight u rec slot_is at =
     let awaited : slot_awaited u ≡ None = none_awaited (slot_awaited u) (local_next u.machine.local) (over_ends u rec at.over) at.over.ends in
     none_posted rec.post (sym slot_is ∙ sym (ap (λ (b : Bool). if b then None else u.slot.to) at.running) ∙ awaited)
 
-module _ {A : Type 0} (c : Conduct A) (ue : A → UeView) (runs : RunsUes c ue) (script : Script) (chip : ChipView) (crew : List A) (memory : Memory)
+module _ {A : Type 0} (c : Behaviour A) (ue : A → UeView) (runs : RunsUes c ue) (script : Script) (chip : ChipView) (crew : List A) (memory : Memory)
     (agrees : Agrees (about_in chip) memory (records_in chip)) (is_crew : IsCrew c chip crew) (all_run : AllRun ue script crew) (some : 0 < length crew) (d : A) where
   abbrev s : SetupView
   s = about_in chip
@@ -104,15 +104,15 @@ module _ {A : Type 0} (c : Conduct A) (ue : A → UeView) (runs : RunsUes c ue) 
   pub rests_as : (b : Bool) (k : ℕ) → RestsAt b s records k (c.seen s k (slice_index_or crew k d)) → RestsAt b s records k (ue_seen (ue_at k))
   rests_as b k rests = subst (λ (w : WorkerView). RestsAt b s records k w) (runs.shows s k (slice_index_or crew k d)) rests
 
-  over_vain : (k : ℕ) → WantsNothing (records k) (ue_seen (ue_at k)) → Vain s (view_of s memory) k (records k) (next_of (states k))
-  over_vain k over =
-      subst (λ (n : Next Local). Vain s (view_of s memory) k (records k) (next_with_calls (records k).calls n)) (sym (over_ends (ue_at k) (records k) over)) over.idle
+  over_failed : (k : ℕ) → WantsNothing (records k) (ue_seen (ue_at k)) → Failed s (view_of s memory) k (records k) (next_of (states k))
+  over_failed k over =
+      subst (λ (n : Next Local). Failed s (view_of s memory) k (records k) (next_with_calls (records k).calls n)) (sym (over_ends (ue_at k) (records k) over)) over.idle
 
-  vain_by : (b : Bool) (k : ℕ) → k < s.nue → RestsAt b s records k (ue_seen (ue_at k)) → Vain s (view_of s memory) k (records k) (next_of (states k))
-  vain_by true k low rests = over_vain k rests.over
-  vain_by false k low (inl rests) = over_vain k rests.over
-  vain_by false k low (inr waits) =
-      waits_vain s (view_of s memory) k (records k) (records k).calls (slot_awaited (ue_at k)) (local_next (ue_at k).machine.local)
+  failed_by : (b : Bool) (k : ℕ) → k < s.nue → RestsAt b s records k (ue_seen (ue_at k)) → Failed s (view_of s memory) k (records k) (next_of (states k))
+  failed_by true k low rests = over_failed k rests.over
+  failed_by false k low (inl rests) = over_failed k rests.over
+  failed_by false k low (inr waits) =
+      waits_failed s (view_of s memory) k (records k) (records k).calls (slot_awaited (ue_at k)) (local_next (ue_at k).machine.local)
       (waits_like s waits.memory memory waits.records records waits.agrees agrees waits.alike k low (ue_want (ue_at k)) waits.waits)
 
   module _ (rests : AllRest c chip crew s.nue) where
@@ -123,7 +123,7 @@ module _ {A : Type 0} (c : Conduct A) (ue : A → UeView) (runs : RunsUes c ue) 
       swept = record {
         agrees = agrees;
         stands = λ k below. stood_by k (cases_lt k s.nue) below;
-        vain = λ k below. let (b, at) = rests k d below in vain_by b k below (rests_as b k at);
+        failed = λ k below. let (b, at) = rests k d below in failed_by b k below (rests_as b k at);
       };
     }
       where
@@ -146,7 +146,7 @@ module _ {A : Type 0} (c : Conduct A) (ue : A → UeView) (runs : RunsUes c ue) 
     all_finished : ((k : ℕ) → k < s.nue → RestsAt true s records k (ue_seen (ue_at k))) → EndsAs run_end.Finished script
     all_finished finished k low =
         let at = finished k (rank_below k low) in
-        let empty = none_on_its_way (ue_at k) (records k) (tied_slot (ue_at k) s k (events_in chip k) (tied_at k (rank_below k low))) at in
+        let empty = none_in_flight (ue_at k) (records k) (tied_slot (ue_at k) s k (events_in chip k) (tied_at k (rank_below k low))) at in
         end_at k low ∙ finished_end (crew_locals ue crew d k) (slots_by s records lasts k) at.running (over_ends (ue_at k) (records k) at.over) (script_empty script s memory records states lasts is_swept k empty)
 
     not_finished : (k : ℕ) → k < s.nue → RestsAt false s records k (ue_seen (ue_at k)) → end_of (slots_by s records lasts k) (crew_locals ue crew d k) ≢ ue_end.Finished

@@ -12,7 +12,7 @@ use Rattle.scc_base.specs.Setups.{SetupView, setup_key}
 use Rattle.scc_proto.specs.Legality.{Outgoing}
 use Rattle.scc_proto.specs.Passed.{slot_by, slot_of}
 use Rattle.scc_proto.specs.Records.{chunk_of}
-use Rattle.scc_proto.specs.Stages.{OnItsWay, Record}
+use Rattle.scc_proto.specs.Stages.{InFlight, Record}
 use Rattle.scc_proto.specs.Views.{view_of}
 use Rattle.scc_proto.specs.Words.{Memory}
 use Rattle.script_rules.specs.Script.{Script}
@@ -91,7 +91,7 @@ module _ (script : Script) (s : SetupView) (memory : Memory) (records : ℕ → 
       (message, sym (ap (λ (o : Option Outgoing). keep o (lasts k)) full) ∙ there, there)
 
   pub script_empty : (k : ℕ) → (records k).post ≡ None → slots_by s records lasts k ≡ None
-  script_empty k none = ap (λ (o : Option OnItsWay). keep (slot_by (chunk_of s) k o records) (lasts k)) none
+  script_empty k none = ap (λ (o : Option InFlight). keep (slot_by (chunk_of s) k o records) (lasts k)) none
 
   calls_by : (k : ℕ) → IsStateOfRecord next_of s k (start_of_rank script k) (records k) (states k) (lasts k) → (records k).calls ≡ (states k).matched
   calls_by k (Running did) = sym (did_matched (states k) (lasts k) (start_of_rank script k) None (records k).calls did)

@@ -23,16 +23,16 @@ use Rattle.script_machine.specs.Next.Next.{Ends, Goes, Posts, Sends, Recvs, Bars
 use Rattle.script_machine.proofs.Choices.{and_of, both_true}
 use Rattle.chip_run.specs.Waiting.{IsLooking, BarWaits, AtRoot, AtMember}
 use Rattle.chip_run.proofs.Offers.{as_many, raise_out}
-use Rattle.rcce_run.specs.Sweep.{Vain, Swept}
+use Rattle.rcce_run.specs.Sweep.{Failed, Swept}
 use Rattle.rcce_run.proofs.Holding.{lt_true}
 
 -- ---- barriers, as numbers
 
 one_more : (release low flips : ℕ) → release ≡ low % 2 → release ≢ flips % 2 → low ≤ flips → flips ≤ suc low → flips ≡ suc low
-one_more release low flips shows vain entered ahead = omega (arith, shows, vain, entered, ahead)
+one_more release low flips shows failed entered ahead = omega (arith, shows, failed, entered, ahead)
 
 no_two : (big small gather release low : ℕ) → gather ≡ small % 2 → gather ≢ big % 2 → release ≡ low % 2 → release ≢ small % 2 → low ≡ big - 1 → 1 ≤ big → low ≤ small → small ≤ suc low → ⊥
-no_two big small gather release low shows vain says waits is some entered ahead = omega (arith, shows, vain, says, waits, is, some, entered, ahead)
+no_two big small gather release low shows failed says waits is some entered ahead = omega (arith, shows, failed, says, waits, is, some, entered, ahead)
 
 -- a root that waits for a member has not seen all
 gathering_waits : (comm seen released last : ℕ) (rec : Record) → rec.stage ≡ Barrier comm seen released → seen < last → gathered_barriers comm last rec ≡ rec.flips comm - 1
@@ -82,11 +82,11 @@ module _ (s : SetupView) (memory : Memory) (records : ℕ → Record) (agrees : 
   -- a root and the member for which it waits are not both in a barrier that is complete
   pub no_barrier : (comm a : ℕ) → a < s.nue → place_of s comm a ≡ 0 → BarWaits s (view_of s memory) a comm (records a)
       → ((j : ℕ) → j < s.nue → setup_key s comm j ≡ setup_key s comm a → BarWaits s (view_of s memory) j comm (records j)) → ⊥
-  no_barrier comm a low zeroth (AtMember present other stage vain) members = other zeroth
-  no_barrier comm a low zeroth (AtRoot seen j present root stage less below grouped placed vain) members = by (members j below grouped)
+  no_barrier comm a low zeroth (AtMember present other stage failed) members = other zeroth
+  no_barrier comm a low zeroth (AtRoot seen j present root stage less below grouped placed failed) members = by (members j below grouped)
     where
       by : BarWaits s (view_of s memory) j comm (records j) → ⊥
-      by (AtRoot seen' k present' root' stage' less' below' grouped' placed' vain') = let one = placed in let two = root' in omega (arith, one, two)
+      by (AtRoot seen' k present' root' stage' less' below' grouped' placed' failed') = let one = placed in let two = root' in omega (arith, one, two)
       by (AtMember present' other stage' waits) =
           let step = member_of comm j below present other in
           let root_is_a : root_of s comm j ≡ a = sym (root_is (setup_key s comm) j a (sym grouped) zeroth) in
@@ -97,7 +97,7 @@ module _ (s : SetupView) (memory : Memory) (records : ℕ → Record) (agrees : 
           ap (λ (r : ℕ). releases comm (place_of s comm j) (records r)) root_is_a
           ∙ ap (λ (b : Bool). if b then (records a).flips comm - 1 else (records a).flips comm) held in
           no_two ((records a).flips comm) ((records j).flips comm) ((view_of s memory).gather comm j) ((view_of s memory).release comm j) (releases comm (place_of s comm j) (records (root_of s comm j)))
-          (agrees.groups comm j present below).gather_flag vain step.release_flag waits low_is (some_flip a comm seen 0 low stage) step.entered step.not_ahead
+          (agrees.groups comm j present below).gather_flag failed step.release_flag waits low_is (some_flip a comm seen 0 low stage) step.entered step.not_ahead
 
   -- a barrier in which a root waits for a member
   root_waits : (comm k : ℕ) (seen : ℕ) → k < s.nue → place_of s comm k ≡ 0 → (records k).stage ≡ Barrier comm seen 0 → seen < last_of s comm k → is_gathered s comm k records ≡ false
@@ -111,10 +111,10 @@ module _ (s : SetupView) (memory : Memory) (records : ℕ → Record) (agrees : 
       above n some = grind (arith, nat_tests)
 
   -- a member that waits for its release is not counted yet
-  behind : (comm k : ℕ) → k < s.nue → is_present s comm ≡ true → place_of s comm k ≢ 0 → (view_of s memory).release comm k ≢ (records k).flips comm % 2
+  afterwards : (comm k : ℕ) → k < s.nue → is_present s comm ≡ true → place_of s comm k ≢ 0 → (view_of s memory).release comm k ≢ (records k).flips comm % 2
       → ((seen released : ℕ) → (records (root_of s comm k)).stage ≡ Barrier comm seen released → BarWaits s (view_of s memory) (root_of s comm k) comm (records (root_of s comm k)))
       → is_gathered s comm k records ≡ false
-  behind comm k low present other vain roots =
+  afterwards comm k low present other failed roots =
       less ((records k).flips comm) (gathered_barriers comm (last_of s comm k) (records root)) (by (holds_back comm (place_of s comm k) (records root).stage) refl)
     where
       root : ℕ
@@ -124,7 +124,7 @@ module _ (s : SetupView) (memory : Memory) (records : ℕ → Record) (agrees : 
       step = member_of comm k low present other
 
       ahead : (records k).flips comm ≡ suc (releases comm (place_of s comm k) (records (root_of s comm k)))
-      ahead = one_more ((view_of s memory).release comm k) (releases comm (place_of s comm k) (records (root_of s comm k))) ((records k).flips comm) step.release_flag vain step.entered step.not_ahead
+      ahead = one_more ((view_of s memory).release comm k) (releases comm (place_of s comm k) (records (root_of s comm k))) ((records k).flips comm) step.release_flag failed step.entered step.not_ahead
 
       less : (n m : ℕ) → m < n → nat_le n m ≡ false
       less n m low = grind (arith, nat_tests)
@@ -133,8 +133,8 @@ module _ (s : SetupView) (memory : Memory) (records : ℕ → Record) (agrees : 
       same_last = ap (λ (n : ℕ). n - 1) (size_same s.nue (setup_key s comm) (root_of s comm k) k (root_with (setup_key s comm) k))
 
       by_root : BarWaits s (view_of s memory) (root_of s comm k) comm (records (root_of s comm k)) → gathered_barriers comm (last_of s comm k) (records (root_of s comm k)) ≡ (records (root_of s comm k)).flips comm - 1
-      by_root (AtMember present' other' stage' vain') = absurd (other' (root_place (setup_key s comm) k))
-      by_root (AtRoot seen j present' zeroth stage' less' below grouped placed vain') =
+      by_root (AtMember present' other' stage' failed') = absurd (other' (root_place (setup_key s comm) k))
+      by_root (AtRoot seen j present' zeroth stage' less' below grouped placed failed') =
           gathering_waits comm seen 0 (last_of s comm k) (records (root_of s comm k)) stage' (subst (λ (n : ℕ). seen < n) same_last less')
 
       by : (b : Bool) → holds_back comm (place_of s comm k) (records (root_of s comm k)).stage ≡ b → gathered_barriers comm (last_of s comm k) (records (root_of s comm k)) < (records k).flips comm
@@ -155,23 +155,23 @@ module _ (s : SetupView) (memory : Memory) (records : ℕ → Record) (agrees : 
 module _ {U : Type 0} (next : U → Next U) (s : SetupView) (memory : Memory) (records : ℕ → Record) (starts states : ℕ → U) (lasts : ℕ → Option Posted) (sw : Swept next s memory records starts states lasts) where
   -- a rank in a barrier waits there
   pub at_barrier : (k comm seen released : ℕ) → k < s.nue → (records k).stage ≡ Barrier comm seen released → BarWaits s (view_of s memory) k comm (records k)
-  at_barrier k comm seen released low stage = by (next (states k)) (sw.vain k low)
+  at_barrier k comm seen released low stage = by (next (states k)) (sw.failed k low)
     where
       not_looking : (from : ℕ) (st : Stage) → st ≡ Barrier comm seen released → IsLooking from st → ⊥
       not_looking from st is looks = subst (IsLooking from) is looks
 
       same_comm : (c : ℕ) → BarWaits s (view_of s memory) k c (records k) → c ≡ comm
-      same_comm c (AtRoot seen' j present zeroth stage' less below grouped placed vain) = cc (stage, stage')
-      same_comm c (AtMember present other stage' vain) = cc (stage, stage')
+      same_comm c (AtRoot seen' j present zeroth stage' less below grouped placed failed) = cc (stage, stage')
+      same_comm c (AtMember present other stage' failed) = cc (stage, stage')
 
-      by : (n : Next U) → Vain s (view_of s memory) k (records k) n → BarWaits s (view_of s memory) k comm (records k)
-      by Ends vain = absurd (cc (stage, vain))
-      by (Goes after) vain = absurd vain
-      by (Posts message after) vain = absurd (let idle = vain.stage in cc (stage, idle))
+      by : (n : Next U) → Failed s (view_of s memory) k (records k) n → BarWaits s (view_of s memory) k comm (records k)
+      by Ends failed = absurd (cc (stage, failed))
+      by (Goes after) failed = absurd failed
+      by (Posts message after) failed = absurd (let idle = failed.stage in cc (stage, idle))
       by (Sends to head bytes after) (inl slot) = absurd (let idle = slot.stage in cc (stage, idle))
       by (Sends to head bytes after) (inr raise) = absurd (let open_stage = raise.stage in cc (stage, open_stage))
-      by (Recvs from head take refuse) vain = absurd (not_looking from (records k).stage stage vain.stage)
-      by (Bars c after) vain = subst (λ (x : ℕ). BarWaits s (view_of s memory) k x (records k)) (same_comm c vain) vain
+      by (Recvs from head take refuse) failed = absurd (not_looking from (records k).stage stage failed.stage)
+      by (Bars c after) failed = subst (λ (x : ℕ). BarWaits s (view_of s memory) k x (records k)) (same_comm c failed) failed
 
   bar_not_passed : (k comm seen : ℕ) → k < s.nue → (records k).stage ≡ Barrier comm seen 0 → is_gathered s comm k records ≡ false → passed_open s k (records k).stage records ≡ []
   bar_not_passed k comm seen low stage not_yet =
@@ -179,7 +179,7 @@ module _ {U : Type 0} (next : U → Next U) (s : SetupView) (memory : Memory) (r
 
   -- nothing open is passed
   pub none_open : (k : ℕ) → k < s.nue → passed_open s k (records k).stage records ≡ []
-  none_open k low = by (next (states k)) (sw.vain k low)
+  none_open k low = by (next (states k)) (sw.failed k low)
     where
       idle_none : (records k).stage ≡ Idle → passed_open s k (records k).stage records ≡ []
       idle_none is = ap (λ (st : Stage). passed_open s k st records) is
@@ -193,16 +193,16 @@ module _ {U : Type 0} (next : U → Next U) (s : SetupView) (memory : Memory) (r
       looking_none from (Barrier comm seen released) looks = absurd looks
 
       by_bar : (comm : ℕ) → BarWaits s (view_of s memory) k comm (records k) → passed_open s k (records k).stage records ≡ []
-      by_bar comm (AtRoot seen j present zeroth stage less below grouped placed vain) =
+      by_bar comm (AtRoot seen j present zeroth stage less below grouped placed failed) =
           bar_not_passed k comm seen low stage (root_waits s memory records sw.agrees comm k seen low zeroth stage less)
-      by_bar comm (AtMember present other stage vain) =
-          bar_not_passed k comm 0 low stage (behind s memory records sw.agrees comm k low present other vain
+      by_bar comm (AtMember present other stage failed) =
+          bar_not_passed k comm 0 low stage (afterwards s memory records sw.agrees comm k low present other failed
           (λ seen released is. let within = root_within (setup_key s comm) k in at_barrier (root_of s comm k) comm seen released (omega (arith, low, within)) is))
 
-      by : (n : Next U) → Vain s (view_of s memory) k (records k) n → passed_open s k (records k).stage records ≡ []
-      by Ends vain = idle_none vain
-      by (Goes after) vain = absurd vain
-      by (Posts message after) vain = idle_none vain.stage
+      by : (n : Next U) → Failed s (view_of s memory) k (records k) n → passed_open s k (records k).stage records ≡ []
+      by Ends failed = idle_none failed
+      by (Goes after) failed = absurd failed
+      by (Posts message after) failed = idle_none failed.stage
       by (Sends to head bytes after) (inl slot) = idle_none slot.stage
       by (Sends to head bytes after) (inr raise) =
           let even = as_many (chunk_of s) (pair_of k to (view_of s memory) (records k) (records to)) raise.message raise.chunk (raise_out s memory records sw.agrees k to head raise) in
@@ -210,8 +210,8 @@ module _ {U : Type 0} (next : U → Next U) (s : SetupView) (memory : Memory) (r
           eqb_other (length (received_messages k (records to).calls)) (suc (length (sent_messages to (records k).calls))) (λ is. absurd (omega (arith, even, is))) in
           ap (λ (st : Stage). passed_open s k st records) raise.stage
           ∙ ap (λ (b : Bool). if b then DataCall.Send to raise.message.head (with_chunk (chunk_of s) raise.message raise.chunk).bytes ∷ [] else []) not_yet
-      by (Recvs from head take refuse) vain = looking_none from (records k).stage vain.stage
-      by (Bars comm after) vain = by_bar comm vain
+      by (Recvs from head take refuse) failed = looking_none from (records k).stage failed.stage
+      by (Bars comm after) failed = by_bar comm failed
 
   pub none_passed : (k : ℕ) → k < s.nue → passed_calls s records k ≡ (records k).calls
   none_passed k low = ap (λ (l : List DataCall). (records k).calls ++ l) (none_open k low) ∙ append-nil (records k).calls

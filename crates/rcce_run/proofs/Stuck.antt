@@ -19,24 +19,24 @@ use Rattle.script_plain.proofs.Runs.RunLaws.{stands_there}
 use Rattle.script_plain.proofs.Runs.StepLaws as steps
 use Rattle.script_plain.proofs.Runs.StepLaws.Takes.{Alone, Left, Met, Fetched, RefusedPost, RefusedSend, Passed}
 use Rattle.chip_run.specs.Waiting.{SlotWaits, RaiseWaits, BarWaits}
-use Rattle.rcce_run.specs.Sweep.{Vain, Swept, slots_by, outgoing, HoldsStates}
+use Rattle.rcce_run.specs.Sweep.{Failed, Swept, slots_by, outgoing, HoldsStates}
 use Rattle.rcce_run.proofs.Holding.{at_below, stands_below, full_below, slot_held}
 use Rattle.chip_run.proofs.Offers.{no_fetch, no_take, post_in_slot, raise_out}
 use Rattle.rcce_run.proofs.Still.{no_barrier}
 
 module _ {U : Type 0} (next : U → Next U) (s : SetupView) (memory : Memory) (records : ℕ → Record) (starts states : ℕ → U) (lasts : ℕ → Option Posted) (sw : Swept next s memory records starts states lasts) where
   -- what a rank waits for, by what stands next
-  pub vain_at : (k : ℕ) → k < s.nue → (n : Next U) → next (states k) ≡ n → Vain s (view_of s memory) k (records k) n
-  vain_at k low n is = subst (Vain s (view_of s memory) k (records k)) is (sw.vain k low)
+  pub failed_at : (k : ℕ) → k < s.nue → (n : Next U) → next (states k) ≡ n → Failed s (view_of s memory) k (records k) n
+  failed_at k low n is = subst (Failed s (view_of s memory) k (records k)) is (sw.failed k low)
 
   -- members that all stand at one barrier
-  bars_by : (k comm : ℕ) → (n : Next U) → Vain s (view_of s memory) k (records k) n → is_at_barrier comm n ≡ true → BarWaits s (view_of s memory) k comm (records k)
-  bars_by k comm Ends vain is = absurd (cc (is))
-  bars_by k comm (Goes after) vain is = absurd (cc (is))
-  bars_by k comm (Posts message after) vain is = absurd (cc (is))
-  bars_by k comm (Sends to head bytes after) vain is = absurd (cc (is))
-  bars_by k comm (Recvs from head take refuse) vain is = absurd (cc (is))
-  bars_by k comm (Bars asked after) vain is = subst (λ (c : ℕ). BarWaits s (view_of s memory) k c (records k)) (eqb-true asked comm is) vain
+  bars_by : (k comm : ℕ) → (n : Next U) → Failed s (view_of s memory) k (records k) n → is_at_barrier comm n ≡ true → BarWaits s (view_of s memory) k comm (records k)
+  bars_by k comm Ends failed is = absurd (cc (is))
+  bars_by k comm (Goes after) failed is = absurd (cc (is))
+  bars_by k comm (Posts message after) failed is = absurd (cc (is))
+  bars_by k comm (Sends to head bytes after) failed is = absurd (cc (is))
+  bars_by k comm (Recvs from head take refuse) failed is = absurd (cc (is))
+  bars_by k comm (Bars asked after) failed is = subst (λ (c : ℕ). BarWaits s (view_of s memory) k c (records k)) (eqb-true asked comm is) failed
 
   module _ (c : Configuration U) (holds : HoldsStates s.nue c states (slots_by s records lasts)) (told : (k : ℕ) → option_map outgoing (slots_by s records lasts k) ≡ slot_of s records k) where
     abbrev Slots : ℕ → Option Posted
@@ -61,8 +61,8 @@ module _ {U : Type 0} (next : U → Next U) (s : SetupView) (memory : Memory) (r
         ⊎_elim
         (λ (slot : SlotWaits (view_of s memory) i (records i)). no_slot i low free slot)
         (λ (raise : RaiseWaits s (view_of s memory) i j head (records i)).
-        no_take s memory records sw.agrees i j false raise.message raise.chunk (raise_out s memory records sw.agrees i j head raise) (vain_at j below (Recvs i asked take refuse) there))
-        (vain_at i low (Sends j head bytes after) at)
+        no_take s memory records sw.agrees i j false raise.message raise.chunk (raise_out s memory records sw.agrees i j head raise) (failed_at j below (Recvs i asked take refuse) there))
+        (failed_at i low (Sends j head bytes after) at)
 
     -- a message in a slot, and a receive of it
     no_message : (i j : ℕ) (asked : MessageHead) (take : List ℕ → U) (refuse : MessageHead → U) (message : Posted)
@@ -70,20 +70,20 @@ module _ {U : Type 0} (next : U → Next U) (s : SetupView) (memory : Memory) (r
     no_message i j asked take refuse message takes full mine =
         let (below, there) = stands j (Recvs i asked take refuse) takes (λ e. cc (e)) in
         let (low, at) = full_below s.nue next c states Slots holds i message full in
-        no_fetch s memory records sw.agrees i j low (outgoing message) (sym (told i) ∙ ap (option_map outgoing) at) mine (vain_at j below (Recvs i asked take refuse) there)
+        no_fetch s memory records sw.agrees i j low (outgoing message) (sym (told i) ∙ ap (option_map outgoing) at) mine (failed_at j below (Recvs i asked take refuse) there)
 
     no_meeting : (a comm : ℕ) (after : U) → next_at next c a ≡ Bars comm after → root_in (setup_key s comm) a ≡ a → all_at_barrier next comm (is_with (setup_key s comm) a) c.cells ≡ true → ⊥
     no_meeting a comm after bars root all =
         let (low, at) = stands a (Bars comm after) bars (λ e. cc (e)) in
-        no_barrier s memory records sw.agrees comm a low (subst (λ (r : ℕ). place_of s comm r ≡ 0) root (root_place (setup_key s comm) a)) (vain_at a low (Bars comm after) at)
+        no_barrier s memory records sw.agrees comm a low (subst (λ (r : ℕ). place_of s comm r ≡ 0) root (root_place (setup_key s comm) a)) (failed_at a low (Bars comm after) at)
         (λ j below same.
-        bars_by j comm (next (states j)) (sw.vain j below)
+        bars_by j comm (next (states j)) (sw.failed j below)
         (stands_there next comm (is_with (setup_key s comm) a) c.cells j (states j) all (with_true (setup_key s comm) a j same) (holds.cells_at j ∙ at_below s.nue j (states j) below)))
 
     none_taken : (a : ℕ) (d : Configuration U) → steps.Takes (setup_key s) next c a d → ⊥
-    none_taken a d (Alone after at made) = let (low, is) = stands a (Goes after) at (λ e. cc (e)) in vain_at a low (Goes after) is
+    none_taken a d (Alone after at made) = let (low, is) = stands a (Goes after) at (λ e. cc (e)) in failed_at a low (Goes after) is
     none_taken a d (Left message after at slot made) =
-        let (low, is) = stands a (Posts message after) at (λ e. cc (e)) in no_slot a low slot (vain_at a low (Posts message after) is)
+        let (low, is) = stands a (Posts message after) at (λ e. cc (e)) in no_slot a low slot (failed_at a low (Posts message after) is)
     none_taken a d (Met j head bytes after asked take refuse at slot there same made) = no_pair a j head asked bytes after take refuse at slot there
     none_taken a d (Fetched j asked take refuse message at slot mine same made) = no_message j a asked take refuse message at slot mine
     none_taken a d (RefusedPost j asked take refuse message at slot mine same made) = no_message j a asked take refuse message at slot mine

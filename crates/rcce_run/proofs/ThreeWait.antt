@@ -28,7 +28,7 @@ use Rattle.script_machine.specs.Program.{unrolled_items}
 use Rattle.rcce_run.specs.Examples.{three_items, three_script, three_setup, three_events, three_words, three_records, three_message, three_states, three_lasts}
 use Rattle.rcce_run.specs.Scripts.{IsSwept}
 use Rattle.chip_run.specs.Waiting.{AtMember}
-use Rattle.rcce_run.specs.Sweep.{IsStateOfRecord, Running, Stopped, Vain, keep, slots_by}
+use Rattle.rcce_run.specs.Sweep.{IsStateOfRecord, Running, Stopped, Failed, keep, slots_by}
 
 -- ---- the setup, and the agreement
 
@@ -171,16 +171,16 @@ stands (suc zero) low =
 stands (suc (suc zero)) low = Running (subst (DidCalls next_of (three_states 2) None (start_of_rank three_script 2) None) (sym calls_2) Here)
 stands (suc (suc (suc k))) low = absurd (omega (arith, low))
 
-vain : (k : ℕ) → k < 3 → Vain three_setup (view_of three_setup three_words) k (three_records k) (next_of (three_states k))
-vain zero low = subst (Vain three_setup (view_of three_setup three_words) 0 (three_records 0)) (sym ended_0) stage_0
-vain (suc zero) low = subst (Vain three_setup (view_of three_setup three_words) 1 (three_records 1)) (sym ended_1) stage_1
-vain (suc (suc zero)) low = subst (Vain three_setup (view_of three_setup three_words) 2 (three_records 2)) (sym bars)
+failed : (k : ℕ) → k < 3 → Failed three_setup (view_of three_setup three_words) k (three_records k) (next_of (three_states k))
+failed zero low = subst (Failed three_setup (view_of three_setup three_words) 0 (three_records 0)) (sym ended_0) stage_0
+failed (suc zero) low = subst (Failed three_setup (view_of three_setup three_words) 1 (three_records 1)) (sym ended_1) stage_1
+failed (suc (suc zero)) low = subst (Failed three_setup (view_of three_setup three_words) 2 (three_records 2)) (sym bars)
     (AtMember refl (λ is. absurd (let at : 2 ≡ 0 = sym place_2 ∙ is in omega (arith, at))) stage_2
     (λ is. absurd (let at : 0 ≡ 1 % 2 = sym not_released ∙ is ∙ ap (λ (n : ℕ). n % 2) flips_2 in omega (arith, at))))
-vain (suc (suc (suc k))) low = absurd (omega (arith, low))
+failed (suc (suc (suc k))) low = absurd (omega (arith, low))
 
 pub three_swept : IsSwept three_script three_setup three_words three_records three_states three_lasts
-three_swept = record { ranks = refl; comms = refl; swept = record { agrees = agrees; stands = stands; vain = vain } }
+three_swept = record { ranks = refl; comms = refl; swept = record { agrees = agrees; stands = stands; failed = failed } }
 
 pub slot_is_full : slots_by three_setup three_records three_lasts 0 ≡ Some three_message
 slot_is_full = ap (λ (o : Option Outgoing). keep o (Some three_message)) full

@@ -10,7 +10,7 @@ use Rattle.scc_base.specs.Setups.{IsSetup, SetupView}
 use Rattle.scc_proto.specs.Agreement.{Agrees}
 use Rattle.scc_proto.specs.Passed.{open_call}
 use Rattle.scc_proto.specs.Ports.{record_in}
-use Rattle.scc_proto.specs.Stages.{OnItsWay, Record}
+use Rattle.scc_proto.specs.Stages.{InFlight, Record}
 use Rattle.scc_proto.specs.Views.{view_of}
 use Rattle.scc_proto.specs.Words.{Memory}
 use Rattle.scc_mesh.specs.Scenes.{ChipView, about_in, events_in, records_in}
@@ -45,7 +45,7 @@ use Rattle.rcce_run.specs.Ues.{state_of}
 use Rattle.rcce_run.proofs.Holding.{at_below, at_past}
 use Rattle.rcce_run.proofs.OpenCalls.{open_is_next}
 use Rattle.rcce_run.proofs.PlainEnds.{call_waits, end_same, plain_ended_at}
-use Rattle.rcce_run.proofs.RunEnds.{RunsUes, is_swept, none_on_its_way, over_ends}
+use Rattle.rcce_run.proofs.RunEnds.{RunsUes, is_swept, none_in_flight, over_ends}
 use Rattle.rcce_run.proofs.ScriptSweep.{script_empty, script_ends, script_waits}
 use Rattle.rcce_run.proofs.ShownStates.{any_slots}
 use Rattle.rcce_run.proofs.UeFits.{some_sight, tied_stood}
@@ -142,7 +142,7 @@ module _ (script : Script) (chip : ChipView) (crew : List (Member UeView)) (memo
   sw : IsSwept script s memory records states lasts
   sw =
       let found = is_swept ue_members member_ue members_run script chip crew memory agrees is_crew all_run some d rests in
-      record { ranks = found.ranks; comms = found.comms; swept = record { agrees = agrees; stands = λ k low. stood_by k (cases_lt k s.nue) low; vain = found.swept.vain } }
+      record { ranks = found.ranks; comms = found.comms; swept = record { agrees = agrees; stands = λ k low. stood_by k (cases_lt k s.nue) low; failed = found.swept.failed } }
 
   holds : HoldsStates script.nue (plain_end script) states (slots_by s records lasts)
   holds = script_ends script s memory records states lasts sw
@@ -161,21 +161,21 @@ module _ (script : Script) (chip : ChipView) (crew : List (Member UeView)) (memo
       waits_pauses s (view_of s waits.memory) k (waits.records k) (slot_awaited (ue_at k)) (local_next (locals k)) waits.waits
 
   module _ (k : ℕ) (low : k < s.nue) (tied : Tied (ue_at k) (some_sight s k (events_in chip k))) (same : lasts k ≡ tied.last) where
-    slot_is : (ue_at k).slot.to ≡ option_map (λ (post : OnItsWay). post.to) (records k).post
+    slot_is : (ue_at k).slot.to ≡ option_map (λ (post : InFlight). post.to) (records k).post
     unfolding record_in
     slot_is = tied.slot_is.to
 
     -- where nothing is left, the UE's slot is that of the plain end
     slot_same : (b : Bool) → RestsAt b s records k (ue_seen (ue_at k)) → local_next (locals k) ≡ Ends → is_stopped (locals k) ≡ false → in_slot (ue_at k).slot tied.last ≡ slots_by s records lasts k
     slot_same true at ends running =
-        let empty = none_on_its_way (ue_at k) (records k) slot_is at in
-        in_slot_none (ue_at k).slot tied.last (slot_is ∙ ap (option_map (λ (post : OnItsWay). post.to)) empty) ∙ sym (script_empty script s memory records states lasts sw k empty)
+        let empty = none_in_flight (ue_at k) (records k) slot_is at in
+        in_slot_none (ue_at k).slot tied.last (slot_is ∙ ap (option_map (λ (post : InFlight). post.to)) empty) ∙ sym (script_empty script s memory records states lasts sw k empty)
     slot_same false (inl at) ends running = absurd (let stopped = at.stopped in cc (stopped, running))
     slot_same false (inr waits) ends running =
         let slot : SlotWaits (view_of s memory) k (records k) = slot_like s waits.memory memory waits.records records waits.agrees agrees waits.alike k low
         (waits_at_end s (view_of s waits.memory) k (waits.records k) (slot_awaited (ue_at k)) (local_next (locals k)) ends waits.waits) in
         let (message, last, there) = script_waits script s memory records states lasts sw k low slot in
-        in_slot_full (ue_at k).slot tied.last slot.post.to (slot_is ∙ ap (option_map (λ (post : OnItsWay). post.to)) slot.is_posted) ∙ sym same ∙ last ∙ sym there
+        in_slot_full (ue_at k).slot tied.last slot.post.to (slot_is ∙ ap (option_map (λ (post : InFlight). post.to)) slot.is_posted) ∙ sym same ∙ last ∙ sym there
 
     shows_by : k < script.nue → (b : Bool) → RestsAt b s records k (ue_seen (ue_at k)) → ShowsEnd (ended_at (plain_ends script) k) (ue_at k)
     shows_by less b at = record {

@@ -6,7 +6,7 @@ use Rattle.scc_base.specs.declared.events.Event.{Event}
 use Rattle.scc_proto.specs.Messages.{has_all, head_of, is_head}
 use Rattle.scc_proto.specs.Ports.{Sight, record_in}
 use Rattle.scc_proto.specs.Records.{record_of}
-use Rattle.scc_proto.specs.Stages.{OnItsWay, Record}
+use Rattle.scc_proto.specs.Stages.{InFlight, Record}
 use Rattle.scc_proto.proofs.Tests.{both_first, peers_from}
 use Rattle.scc_mesh.specs.Scenes.{blank_table, sight_away}
 use Rattle.script_rules.specs.Script.{Script}
@@ -67,6 +67,6 @@ module _ (x : UeView) (s : SetupView) (rank : ℕ) (events : List Event) (tied :
   tied_fits = record { ranks = ranks; comms = ap (λ (y : SetupView). y.comms) tied.setup_is ∙ tied.begun.comms; last = tied.last; stood = tied_stood }
 
   -- its slot is as the record says
-  pub tied_slot : x.slot.to ≡ option_map (λ (post : OnItsWay). post.to) (record_of s rank events).post
+  pub tied_slot : x.slot.to ≡ option_map (λ (post : InFlight). post.to) (record_of s rank events).post
   unfolding record_in
   tied_slot = tied.slot_is.to

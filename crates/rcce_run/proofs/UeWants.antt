@@ -10,7 +10,7 @@ use Rattle.script_machine.specs.Next.{Next, is_going}
 use Rattle.script_machine.specs.Next.Next.{Ends, Goes, Posts, Sends, Recvs, Bars}
 use Rattle.chip_run.specs.Waiting.{SlotWaits, Waits}
 use Rattle.chip_run.specs.Wants.{Want}
-use Rattle.rcce_run.specs.Sweep.{Vain}
+use Rattle.rcce_run.specs.Sweep.{Failed}
 use Rattle.rcce_ue.specs.Workers.{want_at_end, want_next}
 
 -- a rank that wants nothing has nothing left
@@ -38,13 +38,13 @@ module _ (s : SetupView) (view : View) (me : ℕ) (rec : Record) where
   at_end_slot (Some to) waits = waits
 
   -- a UE that waits waits by what stands next at its rank
-  pub waits_vain : (calls : List DataCall) (slot : Option ℕ) (n : Next Local) → Waits s view me rec (want_next (want_at_end slot) n) → Vain s view me rec (next_with_calls calls n)
-  waits_vain calls slot Ends waits = (at_end_slot slot waits).stage
-  waits_vain calls slot (Goes after) waits = waits
-  waits_vain calls slot (Posts message after) waits = waits
-  waits_vain calls slot (Sends to head bytes after) waits = waits
-  waits_vain calls slot (Recvs from head take refuse) waits = waits
-  waits_vain calls slot (Bars comm after) waits = waits
+  pub waits_failed : (calls : List DataCall) (slot : Option ℕ) (n : Next Local) → Waits s view me rec (want_next (want_at_end slot) n) → Failed s view me rec (next_with_calls calls n)
+  waits_failed calls slot Ends waits = (at_end_slot slot waits).stage
+  waits_failed calls slot (Goes after) waits = waits
+  waits_failed calls slot (Posts message after) waits = waits
+  waits_failed calls slot (Sends to head bytes after) waits = waits
+  waits_failed calls slot (Recvs from head take refuse) waits = waits
+  waits_failed calls slot (Bars comm after) waits = waits
 
   -- at no statement of its own
   pub waits_pauses : (slot : Option ℕ) (n : Next Local) → Waits s view me rec (want_next (want_at_end slot) n) → is_going n ≡ false

@@ -44,13 +44,13 @@ pub data IsStateOfRecord {U : Type 0} (next : U → Next U) (s : SetupView) (me 
 
 -- what a rank waits for, by what stands next there. At its end nothing is open; a statement of its own does not wait; a
 -- post, and a send before its first chunk, wait for the rank's own slot
-abbrev pub Vain : {U : Type 0} → SetupView → View → ℕ → Record → Next U → Type 0
-Vain s view me rec Ends = rec.stage ≡ Idle
-Vain s view me rec (Goes after) = ⊥
-Vain s view me rec (Posts message after) = SlotWaits view me rec
-Vain s view me rec (Sends to head bytes after) = SlotWaits view me rec ⊎ RaiseWaits s view me to head rec
-Vain s view me rec (Recvs from head take refuse) = TakeWaits s view me from rec
-Vain s view me rec (Bars comm after) = BarWaits s view me comm rec
+abbrev pub Failed : {U : Type 0} → SetupView → View → ℕ → Record → Next U → Type 0
+Failed s view me rec Ends = rec.stage ≡ Idle
+Failed s view me rec (Goes after) = ⊥
+Failed s view me rec (Posts message after) = SlotWaits view me rec
+Failed s view me rec (Sends to head bytes after) = SlotWaits view me rec ⊎ RaiseWaits s view me to head rec
+Failed s view me rec (Recvs from head take refuse) = TakeWaits s view me from rec
+Failed s view me rec (Bars comm after) = BarWaits s view me comm rec
 
 -- a sweep has found every rank waiting: words and records agree, each rank's state fits its record, and each look that a
 -- rank waits at is vain. Seven parameters: what is next in a state, the setup and the words, and by rank the record, the
@@ -59,7 +59,7 @@ pub record Swept {U : Type 0} (next : U → Next U) (s : SetupView) (memory : Me
     (starts states : ℕ → U) (lasts : ℕ → Option Posted) : Type 0 where
   pub agrees : Agrees s memory records
   pub stands : (k : ℕ) → k < s.nue → IsStateOfRecord next s k (starts k) (records k) (states k) (lasts k)
-  pub vain : (k : ℕ) → k < s.nue → Vain s (view_of s memory) k (records k) (next (states k))
+  pub failed : (k : ℕ) → k < s.nue → Failed s (view_of s memory) k (records k) (next (states k))
 
 -- the message posted last, where the slot is full
 abbrev pub keep : Option Outgoing → Option Posted → Option Posted

@@ -16,7 +16,7 @@ use Rattle.script_machine.specs.declared.posts.Posted.{Posted}
 use Rattle.script_plain.specs.Collectives.{CollectivesHold}
 use Rattle.script_plain.specs.Ends.{Ended, ended_at}
 use Rattle.script_machine.specs.Local.{end_of, local_next, local_start}
-use Rattle.script_machine.specs.Machine.{on_its_way}
+use Rattle.script_machine.specs.Machine.{in_flight}
 use Rattle.script_plain.specs.Meaning.{State, next_of, plain_end, plain_ends}
 use Rattle.script_machine.specs.Next as next
 use Rattle.script_plain.specs.Step.{Configuration}
@@ -24,11 +24,11 @@ use Rattle.rcce_ue.specs.Standing.{Tied}
 use Rattle.rcce_ue.specs.Ues.{UeView, in_slot}
 use Rattle.chip_run.specs.declared.ends.RunEnd.{RunEnd}
 use Rattle.chip_run.specs.declared.members.Member.{Member}
-use Rattle.chip_run.specs.Away.{conduct_of_members}
-use Rattle.chip_run.specs.Conducts.{Conduct}
+use Rattle.chip_run.specs.Away.{behaviour_of_members}
+use Rattle.chip_run.specs.Behaves.{Behaviour}
 use Rattle.rcce_run.specs.Crews.{EndsAs}
 use Rattle.rcce_run.specs.Sent.{CountsSends}
-use Rattle.rcce_ue.specs.Workers.{ue_conduct}
+use Rattle.rcce_ue.specs.Workers.{ue_behaviour}
 use Rattle.rcce_run.specs.Ues.{state_of}
 
 -- a UE before its first turn: it holds what the script starts its rank with, and fits every port of its rank without events
@@ -58,8 +58,8 @@ abbrev pub member_ue : Member UeView → UeView
 member_ue m = m.worker
 
 -- how members with UEs conduct themselves in a run
-abbrev pub ue_members : Conduct (Member UeView)
-ue_members = conduct_of_members ue_conduct
+abbrev pub ue_members : Behaviour (Member UeView)
+ue_members = behaviour_of_members ue_behaviour
 
 -- a chip is the same as before, with the same setup, and all its ranks are at home
 pub record IsSameChip (old now : ChipView) : Type 0 where
@@ -77,7 +77,7 @@ pub record AreHome (old now : List (Member UeView)) : Type 0 where
 pub record ShowsEnd (ended : Ended) (ue : UeView) : Type 0 where
   pub pausing : next.is_going (local_next ue.machine.local) ≡ false
   pub last : Option Posted
-  pub posted : ue.posted ≡ option_map on_its_way last
+  pub posted : ue.posted ≡ option_map in_flight last
   pub end : end_of (in_slot ue.slot last) ue.machine.local ≡ ended.end
   pub printed : ue.machine.local.printed ≡ ended.printed
 

@@ -27,11 +27,11 @@ use Rattle.script_machine.specs.Next.Next.{Ends, Goes, Posts, Sends, Recvs, Bars
 use Rattle.script_machine.proofs.StoppedLaws.{stopped_ends}
 use Rattle.rcce_ue.specs.Left.{ue_left, rest_of}
 use Rattle.rcce_ue.specs.Standing.{IsFree, IsNoCall, Tied, keeping}
-use Rattle.rcce_ue.specs.Turns.{AloneDoes, Behind, IsUeStill, Turns, Within, slot_aim}
+use Rattle.rcce_ue.specs.Turns.{AloneDoes, After, IsUeStill, Turns, Within, slot_aim}
 use Rattle.rcce_ue.specs.Ues.{UeView, at_next_call}
 use Rattle.rcce_ue.specs.declared.calls.Open.TheVariants.{Nothing}
 use Rattle.rcce_ue.proofs.EnterLemmas.{entered_left, entered_tied, holds_none}
-use Rattle.rcce_ue.proofs.KeepLemmas.{begun_at, behind_by, kept_tied, no_try, not_over, parity_kept, turned_by, unless_below, unless_falls, unless_one}
+use Rattle.rcce_ue.proofs.KeepLemmas.{begun_at, after_by, kept_tied, no_try, not_over, parity_kept, turned_by, unless_below, unless_falls, unless_one}
 use Rattle.rcce_ue.proofs.MeasureLemmas.{falls}
 use Rattle.rcce_ue.proofs.PathLemmas.{goes_on, stood_went}
 use Rattle.rcce_ue.proofs.RecvTurns.{none_stored}
@@ -132,7 +132,7 @@ module _ (ue : UeView) (s : Sight) (tied : Tied (record ue { op = Nothing }) s) 
               unless_below (is_stopped ue.machine.local) _ _ on (omega (arith, rest)) in
               omega (arith, most, less),
           not_over (record ue { op = Nothing }) on open_still,
-          Behind (behind_by ue.machine.local v (Goes v) is refl) refl,
+          After (after_by ue.machine.local v (Goes v) is refl) refl,
         ) refl (none_stored s.seat.setup ue.core [] refl) (NoLoad refl);
       }
   goes_by (Posts message v) is going = absurd (cc)

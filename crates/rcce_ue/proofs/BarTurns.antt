@@ -15,14 +15,14 @@ use Rattle.scc_base.specs.declared.layouts.Layout.{Layout}
 use Rattle.scc_proto.specs.Drafts.{is_draft}
 use Rattle.scc_proto.specs.Ports.{Did, Seat, Sight, record_in}
 use Rattle.scc_proto.specs.Resting.{is_resting}
-use Rattle.scc_proto.specs.Stages.{OnItsWay, Record}
+use Rattle.scc_proto.specs.Stages.{InFlight, Record}
 use Rattle.scc_proto.proofs.PortLaws.{events_did, seat_kept}
 use Rattle.put_get.specs.Accesses.{loads_of}
 use Rattle.put_get.specs.Cores.{Private}
 use Rattle.put_get.specs.Transfers.{load_count}
 use Rattle.sync_flags.specs.Flags.{flag_value}
 use Rattle.sync_flags.specs.Looks.{LooksAt}
-use Rattle.sync_flags.specs.Tries.{AtWord, NoTry, Vain, Fruitful, Tried, spot_of}
+use Rattle.sync_flags.specs.Tries.{AtWord, NoTry, Failed, Fruitful, Tried, spot_of}
 use Rattle.send_recv.specs.Ops.{slot_left}
 use Rattle.send_recv.specs.Sending.{SlotStands}
 use Rattle.send_recv.specs.Tries as tries
@@ -40,12 +40,12 @@ use Rattle.script_machine.specs.Next.{Next}
 use Rattle.script_machine.specs.Next.Next.{Bars}
 use Rattle.rcce_ue.specs.Left.{ue_left, next_bound, rest_of}
 use Rattle.rcce_ue.specs.Standing.{IsBarOf, IsFree, Tied, keeping}
-use Rattle.rcce_ue.specs.Turns.{Behind, IsUeStill, Turns}
+use Rattle.rcce_ue.specs.Turns.{After, IsUeStill, Turns}
 use Rattle.rcce_ue.specs.Ues.{UeView, at_next_call}
 use Rattle.rcce_ue.specs.declared.calls.Open.TheVariants.{Meeting}
 use Rattle.rcce_ue.proofs.CountLemmas.{bytes_same, sends_same}
 use Rattle.rcce_ue.proofs.EnterLemmas.{entered_left, entered_tied, holds_none}
-use Rattle.rcce_ue.proofs.KeepLemmas.{begun_at, behind_by, hands_kept, is_calling, kept_tied, moved_within, not_at_end, not_ended, not_going, no_try, not_over, turned_by, unless_below, unless_one}
+use Rattle.rcce_ue.proofs.KeepLemmas.{begun_at, after_by, hands_kept, is_calling, kept_tied, moved_within, not_at_end, not_ended, not_going, no_try, not_over, turned_by, unless_below, unless_one}
 use Rattle.rcce_ue.proofs.MeasureLemmas.{falls}
 use Rattle.rcce_ue.proofs.PathLemmas.{goes_on, stood_met}
 
@@ -93,11 +93,11 @@ rests_by seat comm stage.Finished value s t c d events spot did does tried = abs
 -- and has done nothing else
 spot_here : (place : WordAt) (value : ℕ) (events : List Event) (spot : Spot) → Tried (Some (AtWord place value)) events (Some spot) → Flag place 0 ≡ spot
 spot_here place value events spot (NoTry none waits) = absurd (cc)
-spot_here place value events spot (Vain at is one vain waits) =
+spot_here place value events spot (Failed at is one failed waits) =
     let aim : AtWord place value ≡ at = cc in
     let there : spot ≡ spot_of at = cc in
     sym (there ∙ ap spot_of (sym aim))
-spot_here place value events spot (Fruitful at is one vain waits) = absurd (cc)
+spot_here place value events spot (Fruitful at is one failed waits) = absurd (cc)
 
 looked_only : (layout : Layout) (s t : Sight) (c d : Private) (events : List Event) (place : WordAt) (value found : ℕ) (spot : Spot) → Did s events t → LooksAt s c place found t d
     → Tried (Some (AtWord place value)) events (Some spot) → OnlyTries (tries.aim_at layout (Some spot)) events
@@ -127,7 +127,7 @@ from_buffer s c events none = record { front = []; rest = events; is = refl; non
 
 -- ---- the record
 
-same_post : (old new : Option OnItsWay) → new ≡ old → IsSamePost old new
+same_post : (old new : Option InFlight) → new ≡ old → IsSamePost old new
 same_post None new same = same
 same_post (Some post) new same = (post.is_answered, same, λ h. h)
 
@@ -242,7 +242,7 @@ module _ (ue : UeView) (s t : Sight) (op : BarAt) (tied : Tied (record ue { op =
                   unless_below (is_stopped ue.machine.local) _ _ on (omega (arith, rest, bound)) in
                   omega (arith, most, less),
               not_over (record ue { op = Meeting op }) on (not_ended (local_next ue.machine.local) at_call),
-              Behind (behind_by ue.machine.local v (Bars comm v) is refl) refl,
+              After (after_by ue.machine.local v (Bars comm v) is refl) refl,
             ) r.rest.heap (drafts_here turn.Done r) (held_here turn.Done r);
           }
       done_by _ is = absurd (subst (IsBarOf op) is of_next)

@@ -22,7 +22,7 @@ use Rattle.send_recv.specs.Turns.{HoldsNoneBy}
 use Rattle.send_recv.proofs.Starts.{receive_starts, send_starts}
 use Rattle.script_plain.specs.Collectives.{start_of_rank}
 use Rattle.script_machine.specs.Local.{Local, local_next}
-use Rattle.script_machine.specs.Machine.{MachineView, on_its_way}
+use Rattle.script_machine.specs.Machine.{MachineView, in_flight}
 use Rattle.script_machine.specs.Moves.{is_stopped}
 use Rattle.script_machine.specs.Next.{Next}
 use Rattle.script_machine.specs.Next.Next.{Ends, Goes, Posts, Sends, Recvs, Bars}
@@ -31,7 +31,7 @@ use Rattle.script_machine.specs.declared.posts.Posted.{Posted}
 use Rattle.script_plain.proofs.ProgramLengths.ReadyLemmas.{ready-law}
 use Rattle.script_machine.proofs.Choices as choices
 use Rattle.script_machine.proofs.StoppedLaws.{stopped_ends}
-use Rattle.rcce_ue.specs.Left.{ue_left, next_bound, open_left, rest_behind, rest_of, unless}
+use Rattle.rcce_ue.specs.Left.{ue_left, next_bound, open_left, rest_after, rest_of, unless}
 use Rattle.rcce_ue.specs.Standing.{IsFree, IsLastTarget, OpStands, Stood, Tied, bytes_sent, keeping}
 use Rattle.rcce_ue.specs.Standing.Stood.{Runs, Refused}
 use Rattle.rcce_ue.specs.Ues.{IsBegun, UeView, capped_count, at_next_call, is_send_call, open_for_next}
@@ -104,7 +104,7 @@ module _ (m : MachineView) (s : Sight) (begun : IsBegun m) (setup_is : s.seat.se
 -- a UE that comes to what stands next and the record fit together
 pub entered_tied : (ue : UeView) (s : Sight) (last : Option Posted) → IsBegun ue.machine → s.seat.setup ≡ ue.machine.setup → s.seat.rank ≡ ue.machine.rank
     → Stood (start_of_rank ue.machine.script ue.machine.rank) (record_in s) ue.machine.local last → IsFree s (keeping ue.core ue.slot ue.parity) → ((core : ℕ) → (record_in s).held core ≡ None)
-    → length ue.inbox ≡ 65536 → ue.posted ≡ option_map on_its_way last → IsLastTarget ue.slot last
+    → length ue.inbox ≡ 65536 → ue.posted ≡ option_map in_flight last → IsLastTarget ue.slot last
     → ue.sent ≡ capped_count (count_by is_send_call (record_in s).calls) → ue.sent_bytes ≡ capped_count (sum_by bytes_sent (record_in s).calls) → Tied (at_next_call ue) s
 entered_tied ue s last begun setup_is rank_is stood free hands room posted target sends bytes = record {
   begun = begun;
@@ -128,7 +128,7 @@ module _ (s : SetupView) (rank : ℕ) (u : Local) (slot : SlotAt) (within : rank
   split : (open_now bound slot_now rest after : ℕ) → open_now ≤ slot_now + (1 + bound) → rest ≡ (1 + bound) + after → open_now + (rest - (1 + bound)) ≤ slot_now + rest
   split open_now bound slot_now rest after fits is = omega (arith, fits, is)
 
-  by_next : (n : Next Local) → local_next u ≡ n → open_left s rank (open_for_next n) slot + rest_behind s rank (open_for_next n) u ≤ slot_left slot + rest_of s rank u
+  by_next : (n : Next Local) → local_next u ≡ n → open_left s rank (open_for_next n) slot + rest_after s rank (open_for_next n) u ≤ slot_left slot + rest_of s rank u
   by_next Ends is = omega arith
   by_next (Goes after) is = omega arith
   by_next (Posts message after) is =

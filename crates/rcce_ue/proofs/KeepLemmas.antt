@@ -16,7 +16,7 @@ use Rattle.send_recv.specs.Sending.{IsSameOrEmpty, SlotStands}
 use Rattle.send_recv.specs.Steps.{moves_on}
 use Rattle.send_recv.specs.Tries.{aim_at}
 use Rattle.send_recv.specs.Turns.{LastHeld, OnlyTries, StoresFromBuffer}
-use Rattle.sync_flags.specs.Tries.{NoTry, Vain, Fruitful, Tried}
+use Rattle.sync_flags.specs.Tries.{NoTry, Failed, Fruitful, Tried}
 use Rattle.sync_flags.specs.Turns.{waits_at}
 use Rattle.barrier.specs.Flags.{IsParityOf}
 use Rattle.script_plain.specs.Collectives.{start_of_rank}
@@ -28,7 +28,7 @@ use Rattle.script_machine.specs.Next.Next.{Ends, Goes, Posts, Sends, Recvs, Bars
 use Rattle.script_machine.specs.declared.posts.Posted.{Posted}
 use Rattle.rcce_ue.specs.Left.{ue_left, unless}
 use Rattle.rcce_ue.specs.Standing.{IsLastTarget, OpStands, Tied, bytes_sent}
-use Rattle.rcce_ue.specs.Turns.{IsBehind, UeDoes, UeMeans, UeTurned, Within, is_over, ue_aim}
+use Rattle.rcce_ue.specs.Turns.{IsAfter, UeDoes, UeMeans, UeTurned, Within, is_over, ue_aim}
 use Rattle.rcce_ue.specs.Ues.{IsBegun, UeView, capped_count, is_send_call}
 use Rattle.rcce_ue.specs.declared.calls.Open.{Open}
 use Rattle.rcce_ue.proofs.PathLemmas.{stood_kept}
@@ -57,8 +57,8 @@ not_going _ calls = refl
 -- a turn that tries for nothing waits nowhere
 pub no_try : (events : List Event) (spot : Spot) → Tried None events (Some spot) → ⊥
 no_try events spot (NoTry none waits) = absurd (cc)
-no_try events spot (Vain at is one vain waits) = absurd (cc)
-no_try events spot (Fruitful at is one vain waits) = absurd (cc)
+no_try events spot (Failed at is one failed waits) = absurd (cc)
+no_try events spot (Fruitful at is one failed waits) = absurd (cc)
 
 -- a turn of a UE, by what the turn of its call was
 pub turned_by : (ue : UeView) (s : Sight) (now : UeView) (t : Sight) (answer : Turn) (events : List Event) → Did s events t → UeDoes ue s now.parity ue.op (moves_on answer) t now.core
@@ -144,8 +144,8 @@ moved_within ue now s t on next same one =
     (one_fewer (ue_left now) (ue_left ue) one, not_over ue on next, Within same one)
 
 -- what stands next is behind
-pub behind_by : (u v : Local) (n : Next Local) → local_next u ≡ n → IsBehind n v → IsBehind (local_next u) v
-behind_by u v n is behind = subst (λ (x : Next Local). IsBehind x v) (sym is) behind
+pub after_by : (u v : Local) (n : Next Local) → local_next u ≡ n → IsAfter n v → IsAfter (local_next u) v
+after_by u v n is afterwards = subst (λ (x : Next Local). IsAfter x v) (sym is) afterwards
 
 pub unless_below : (b : Bool) (n m : ℕ) → b ≡ false → n < m → n < unless b m
 unless_below true n m on less = absurd (cc)

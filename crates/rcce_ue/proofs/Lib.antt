@@ -12,7 +12,7 @@ pub mod AloneTurns
 pub mod StartLemmas
 pub mod Carry
 pub mod OpAnswers
-pub mod StretchTurns
+pub mod BatchTurns
 pub mod SureTurns
 pub mod OtherPort
 pub mod BarLooks

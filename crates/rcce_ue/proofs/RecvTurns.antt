@@ -30,12 +30,12 @@ use Rattle.script_machine.specs.Next.Next.{Recvs}
 use Rattle.script_machine.proofs.StoppedLaws.{refused_stops}
 use Rattle.rcce_ue.specs.Left.{ue_left, next_bound, rest_of, unless}
 use Rattle.rcce_ue.specs.Standing.{IsFree, IsRecvOf, Tied, bytes_sent, keeping}
-use Rattle.rcce_ue.specs.Turns.{Behind, IsUeStill, Turns}
+use Rattle.rcce_ue.specs.Turns.{After, IsUeStill, Turns}
 use Rattle.rcce_ue.specs.Ues.{UeView, capped_count, at_next_call, is_send_call}
 use Rattle.rcce_ue.specs.declared.calls.Open.TheVariants.{Receiving}
 use Rattle.rcce_ue.proofs.CountLemmas.{bytes_same, sends_same}
 use Rattle.rcce_ue.proofs.EnterLemmas.{entered_left, entered_tied}
-use Rattle.rcce_ue.proofs.KeepLemmas.{begun_at, behind_by, hands_kept, is_calling, kept_tied, moved_within, not_at_end, not_ended, not_going, not_over, parity_kept, turned_by, unless_below, unless_one}
+use Rattle.rcce_ue.proofs.KeepLemmas.{begun_at, after_by, hands_kept, is_calling, kept_tied, moved_within, not_at_end, not_ended, not_going, not_over, parity_kept, turned_by, unless_below, unless_one}
 use Rattle.rcce_ue.proofs.MeasureLemmas.{falls}
 use Rattle.rcce_ue.proofs.PathLemmas.{goes_on, stood_got, stood_refused}
 
@@ -160,7 +160,7 @@ module _ (ue : UeView) (s t : Sight) (op : RecvAt) (tied : Tied (record ue { op 
                   unless_below (is_stopped ue.machine.local) _ _ on (omega (arith, rest, bound)) in
                   omega (arith, most, less),
               not_over (record ue { op = Receiving op }) on (not_ended (local_next ue.machine.local) at_call),
-              Behind (behind_by ue.machine.local (take_in bytes) (Recvs from head take_in refuse) is (inl (bytes, refl))) refl,
+              After (after_by ue.machine.local (take_in bytes) (Recvs from head take_in refuse) is (inl (bytes, refl))) refl,
             ) r.rest.heap (none_stored s.seat.setup ue.core r.events r.no_drafts) r.held;
           }
       done_by _ is = absurd (subst (IsRecvOf op) is of_next)
@@ -195,7 +195,7 @@ module _ (ue : UeView) (s t : Sight) (op : RecvAt) (tied : Tied (record ue { op 
             turned = turned_by (record ue { op = Receiving op }) s (refused_recv (Recvs from head take_in refuse) sent) t turn.Moved r.events r.did r.does (refl, refl, refl) r.tried (λ spot same. absurd (cc)) tt (
               gone _ _ (is_stopped (refuse sent)) (refused_stops ue.machine.local from head sent take_in refuse is) (unless_below (is_stopped ue.machine.local) 0 _ on (omega arith)),
               not_over (record ue { op = Receiving op }) on (not_ended (local_next ue.machine.local) at_call),
-              Behind (behind_by ue.machine.local (refuse sent) (Recvs from head take_in refuse) is (inr (sent, refl))) refl,
+              After (after_by ue.machine.local (refuse sent) (Recvs from head take_in refuse) is (inr (sent, refl))) refl,
             ) r.rest.heap (none_stored s.seat.setup ue.core r.events r.no_drafts) r.held;
           }
       refused_by _ is = absurd (subst (IsRecvOf op) is of_next)

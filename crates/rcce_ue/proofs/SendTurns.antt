@@ -19,18 +19,18 @@ use Rattle.send_recv.specs.Ranks.{sending}
 use Rattle.send_recv.proofs.Starts.{slot_left_most}
 use Rattle.script_plain.specs.Collectives.{start_of_rank}
 use Rattle.script_machine.specs.Local.{Local, local_next}
-use Rattle.script_machine.specs.Machine.{on_its_way}
+use Rattle.script_machine.specs.Machine.{in_flight}
 use Rattle.script_machine.specs.Moves.{bytes_out, is_stopped, after_pass}
 use Rattle.script_machine.specs.Next.{Next}
 use Rattle.script_machine.specs.Next.Next.{Posts, Sends}
 use Rattle.rcce_ue.specs.Left.{turns_at_end, ue_left, next_bound, rest_of}
 use Rattle.rcce_ue.specs.Standing.{IsFree, IsSendOf, Tied, keeping}
-use Rattle.rcce_ue.specs.Turns.{Behind, IsUeStill, Turns}
+use Rattle.rcce_ue.specs.Turns.{After, IsUeStill, Turns}
 use Rattle.rcce_ue.specs.Ues.{UeView, capped_count, at_next_call, posted_by}
 use Rattle.rcce_ue.specs.declared.calls.Open.TheVariants.{Sending}
 use Rattle.rcce_ue.proofs.CountLemmas.{bytes_more, sends_more}
 use Rattle.rcce_ue.proofs.EnterLemmas.{entered_left, entered_tied}
-use Rattle.rcce_ue.proofs.KeepLemmas.{begun_at, behind_by, empty_left, hands_kept, is_calling, kept_tied, moved_within, not_at_end, not_ended, not_going, not_over, parity_kept, turned_by, unless_below, unless_one}
+use Rattle.rcce_ue.proofs.KeepLemmas.{begun_at, after_by, empty_left, hands_kept, is_calling, kept_tied, moved_within, not_at_end, not_ended, not_going, not_over, parity_kept, turned_by, unless_below, unless_one}
 use Rattle.rcce_ue.proofs.MeasureLemmas.{falls}
 use Rattle.rcce_ue.proofs.PathLemmas.{goes_on, stood_left, stood_sent}
 
@@ -153,19 +153,19 @@ module _ (ue : UeView) (s t : Sight) (op : SendAt) (tied : Tied (record ue { op 
           let few = slot_left_most after in
           let posted = ap turns_at_end of.2 in
           record {
-            tied = entered_tied (record ue { machine = record ue.machine { local = v }; core = d; slot = after; posted = Some (on_its_way message); sent = capped_count (ue.sent + 1); sent_bytes = capped_count (ue.sent_bytes + length message.bytes) }) t (Some message) (begun_at ue.machine v tied.begun) (ap (λ (x : Seat). x.setup) seat ∙ tied.setup_is) (ap (λ (x : Seat). x.rank) seat ∙ tied.rank_is)
+            tied = entered_tied (record ue { machine = record ue.machine { local = v }; core = d; slot = after; posted = Some (in_flight message); sent = capped_count (ue.sent + 1); sent_bytes = capped_count (ue.sent_bytes + length message.bytes) }) t (Some message) (begun_at ue.machine v tied.begun) (ap (λ (x : Seat). x.setup) seat ∙ tied.setup_is) (ap (λ (x : Seat). x.rank) seat ∙ tied.rank_is)
                 (stood_left (start_of_rank ue.machine.script ue.machine.rank) (record_in s) ue.machine.local tied.last (record_in t) tied.stood on message v is calls)
                 free (hands_kept (record_in s) (record_in t) r.rest.hold tied.hands) tied.room refl
                 (inr (filled op ue.slot after message.to r.means.1 of.0 of.2 of.3))
                 (sends_more (record_in s).calls (record_in t).calls _ ue.sent calls refl tied.sent_is)
                 (bytes_more (record_in s).calls (record_in t).calls _ ue.sent_bytes (length message.bytes) calls refl tied.bytes_are);
             turned = turned_by (record ue { op = Sending op }) s (done_send (Posts message v)) t turn.Moved r.events r.did r.does (refl, refl, refl) r.tried (λ spot same. absurd (cc)) tt (
-              let most = entered_left (record ue { machine = record ue.machine { local = v }; core = d; slot = after; posted = Some (on_its_way message); sent = capped_count (ue.sent + 1); sent_bytes = capped_count (ue.sent_bytes + length message.bytes) }) (begun_at ue.machine v tied.begun) in
+              let most = entered_left (record ue { machine = record ue.machine { local = v }; core = d; slot = after; posted = Some (in_flight message); sent = capped_count (ue.sent + 1); sent_bytes = capped_count (ue.sent_bytes + length message.bytes) }) (begun_at ue.machine v tied.begun) in
                   let less = done_left v (message_bound ue.machine.setup.layout message.head.len) (falls ue.machine.setup ue.machine.rank ue.machine.local (Posts message v) is)
                   (sym (ap (next_bound ue.machine.setup ue.machine.rank) is)) (omega (arith, few, posted)) in
                   omega (arith, most, less),
               not_over (record ue { op = Sending op }) on (not_ended (local_next ue.machine.local) at_call),
-              Behind (behind_by ue.machine.local v (Posts message v) is refl) refl,
+              After (after_by ue.machine.local v (Posts message v) is refl) refl,
             ) r.rest.heap r.drafts r.held;
           }
       done_by (Sends to head bytes v) is =
@@ -189,7 +189,7 @@ module _ (ue : UeView) (s t : Sight) (op : SendAt) (tied : Tied (record ue { op 
                   (sym (ap (next_bound ue.machine.setup ue.machine.rank) is)) (omega (arith, few, posted)) in
                   omega (arith, most, less),
               not_over (record ue { op = Sending op }) on (not_ended (local_next ue.machine.local) at_call),
-              Behind (behind_by ue.machine.local v (Sends to head bytes v) is refl) refl,
+              After (after_by ue.machine.local v (Sends to head bytes v) is refl) refl,
             ) r.rest.heap r.drafts r.held;
           }
       done_by _ is = absurd (subst (IsSendOf op) is of_next)

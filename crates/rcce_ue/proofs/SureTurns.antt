@@ -10,12 +10,12 @@ use Rattle.send_recv.specs.Ops.{SlotAt}
 use Rattle.send_recv.specs.Receiving.{recv_spot}
 use Rattle.send_recv.specs.Sending.{send_spot}
 use Rattle.send_recv.specs.Tries.{aim_at}
-use Rattle.sync_flags.specs.Tries.{Aim, Tried, NoTry, Vain, Fruitful}
+use Rattle.sync_flags.specs.Tries.{Aim, Tried, NoTry, Failed, Fruitful}
 use Rattle.sync_flags.specs.Turns.{waits_at}
 use Rattle.script_machine.specs.Local.{Local, local_next}
 use Rattle.rcce_ue.specs.Left.{ue_left}
 use Rattle.rcce_ue.specs.Standing.{OpStands, Tied}
-use Rattle.rcce_ue.specs.Stretches.{UeMoves, MovedOnce, MovedOn, makes_no_try}
+use Rattle.rcce_ue.specs.Batches.{UeMoves, MovedOnce, MovedOn, makes_no_try}
 use Rattle.rcce_ue.specs.Turns.{UeTurned, aim_by, is_over, ue_aim}
 use Rattle.rcce_ue.specs.Ues.{UeView}
 use Rattle.rcce_ue.specs.declared.calls.Open.{Open}
@@ -28,7 +28,7 @@ use Rattle.rcce_ue.proofs.SendTurns as send
 -- a turn that makes no try does not wait
 no_wait : (aim : Option Aim) (events : List Event) (waits : Option Spot) → aim ≡ None → Tried aim events waits → waits ≡ None
 no_wait aim events waits none (NoTry is same) = same
-no_wait aim events waits none (Vain at is one all same) = let both : None ≡ Some at = sym none ∙ is in absurd (cc)
+no_wait aim events waits none (Failed at is one all same) = let both : None ≡ Some at = sym none ∙ is in absurd (cc)
 no_wait aim events waits none (Fruitful at is one all same) = same
 
 none_aim : (layout : Layout) (spot : Option Spot) → is_none spot ≡ true → aim_at layout spot ≡ None

@@ -21,7 +21,7 @@ AreWithin (prims ∷ more) (n ∷ ns) = (length prims ≤ n) × AreWithin more n
 
 record IsWithin (u : Unrolled Prim) (v : Visits) : Type 0 where
   here : length u.here ≤ v.here
-  behind : AreWithin u.behind v.behind
+  afterwards : AreWithin u.afterwards v.afterwards
 
 length_copies : (n : ℕ) (prims : List Prim) → length (copies n prims) ≡ n * length prims
 length_copies zero prims = omega arith
@@ -34,24 +34,24 @@ scaled : (n a b : ℕ) → a ≤ b → n * a ≤ n * b
 scaled zero a b le = omega arith
 scaled (suc n) a b le = let rest = scaled n a b le in omega (arith, rest, le)
 
-within_repeated : (own times : ℕ) (body : List Prim) (behind : List (List Prim)) (n : ℕ) (ns : List ℕ) → length body ≤ n → AreWithin behind ns → IsWithin (unrolled_repeat times body behind) (visits_repeated own times n ns)
-within_repeated own times body [] n [] here rest = record { here = omega (arith, here); behind = tt }
+within_repeated : (own times : ℕ) (body : List Prim) (afterwards : List (List Prim)) (n : ℕ) (ns : List ℕ) → length body ≤ n → AreWithin afterwards ns → IsWithin (unrolled_repeat times body afterwards) (visits_repeated own times n ns)
+within_repeated own times body [] n [] here rest = record { here = omega (arith, here); afterwards = tt }
 within_repeated own times body [] n (m ∷ ns) here rest = absurd rest
-within_repeated own times body (next ∷ behind) n [] here rest = absurd rest
-within_repeated own times body (next ∷ behind) n (m ∷ ns) here rest =
+within_repeated own times body (next ∷ afterwards) n [] here rest = absurd rest
+within_repeated own times body (next ∷ afterwards) n (m ∷ ns) here rest =
     let all = length-append body (copies (times - 1) body ++ next) in
     let end = length-append (copies (times - 1) body) next in
     let many = length_copies (times - 1) body in
     let more = scaled (times - 1) (length body) n here in
-    record { here = omega (arith, all, end, many, more, here, rest.0); behind = rest.1 }
+    record { here = omega (arith, all, end, many, more, here, rest.0); afterwards = rest.1 }
 
 within_front : (n : Nesting) (prims : List Prim) (own : ℕ) (u : Unrolled Prim) (v : Visits) → length prims ≤ own → IsWithin u v → IsWithin (in_front n prims u) (visits_in_front n own v)
-within_front (nesting.Opens times) prims own u v each all = within_repeated own times u.here u.behind v.here v.behind all.here all.behind
-within_front (nesting.Closes start) prims own u v each all = record { here = each; behind = (all.here, all.behind) }
+within_front (nesting.Opens times) prims own u v each all = within_repeated own times u.here u.afterwards v.here v.afterwards all.here all.afterwards
+within_front (nesting.Closes start) prims own u v each all = record { here = each; afterwards = (all.here, all.afterwards) }
 within_front nesting.Stays prims own u v each all =
     let both = length-append prims u.here in
     let here = all.here in
-    record { here = omega (arith, both, each, here); behind = all.behind }
+    record { here = omega (arith, both, each, here); afterwards = all.afterwards }
 
 single_short : (o : Option Act) → length (option_to_list o) ≤ 1
 single_short None = omega arith
@@ -78,7 +78,7 @@ item_short s rank item = by (has_rank item.who rank)
 
 within_items : (s : SetupView) (rank : ℕ) (items : List Item) → IsWithin (unrolled_items s rank items) (visits_of s rank items)
 unfolding unrolled_items visits_of
-within_items s rank [] = record { here = omega arith; behind = tt }
+within_items s rank [] = record { here = omega arith; afterwards = tt }
 within_items s rank (item ∷ items) =
     within_front (nesting_at rank item) (prims_of s rank item) (item_visits s rank item) (unrolled_items s rank items) (visits_of s rank items) (item_short s rank item) (within_items s rank items)
 

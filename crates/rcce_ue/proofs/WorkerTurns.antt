@@ -9,7 +9,7 @@ use Rattle.scc_base.specs.declared.events.Turn.{Turn}
 use Rattle.scc_base.specs.declared.events.Turn.TheVariants as turn
 use Rattle.scc_proto.specs.Like.{Like}
 use Rattle.scc_proto.specs.Ports.{Seat, Sight, record_in}
-use Rattle.scc_proto.specs.Stages.{Idle, OnItsWay, Record}
+use Rattle.scc_proto.specs.Stages.{Idle, InFlight, Record}
 use Rattle.scc_proto.specs.Views.{view_of}
 use Rattle.scc_proto.specs.Words.{Memory}
 use Rattle.scc_proto.proofs.Tests.{both_first, both_second}
@@ -26,20 +26,20 @@ use Rattle.script_machine.specs.Next.{Next}
 use Rattle.script_machine.specs.Next.Next.{Ends, Goes, Posts, Sends, Recvs, Bars}
 use Rattle.script_machine.proofs.StoppedLaws.{stopped_ends}
 use Rattle.rcce_ue.specs.Standing.{IsBarOf, IsRecvOf, IsSendOf, OpStands, Tied}
-use Rattle.rcce_ue.specs.Stretches.{MovedOn, MovedOnce, UeMoves}
+use Rattle.rcce_ue.specs.Batches.{MovedOn, MovedOnce, UeMoves}
 use Rattle.rcce_ue.specs.Turns.{UeTurned, aim_by, ue_aim}
 use Rattle.rcce_ue.specs.Ues.{UeView}
 use Rattle.rcce_ue.specs.declared.calls.Open.{Open}
 use Rattle.rcce_ue.specs.declared.calls.Open.TheVariants.{Nothing, Sending, Receiving, Meeting}
 use Rattle.rcce_ue.proofs.OtherPort.{tied_there}
 use Rattle.chip_run.specs.Waiting.{BarWaits, RaiseWaits, SlotWaits, TakeWaits}
-use Rattle.chip_run.specs.Turns.{HasMoved, HasWaited, InARow, IsDone, MoreMoved, OneMoved, OneTurn, Stretched, TurnMeans, Turned, TurnsMoved}
+use Rattle.chip_run.specs.Turns.{HasMoved, HasWaited, InARow, IsDone, MoreMoved, OneMoved, OneTurn, TookBatch, TurnMeans, Turned, TurnsMoved}
 use Rattle.chip_run.specs.Waiting.{Waits}
 use Rattle.chip_run.specs.Wants.{Want}
 use Rattle.chip_run.proofs.Looks.{waits_same}
-use Rattle.rcce_ue.specs.Workers.{UeStands, slot_awaited, ue_conduct, ue_seen, ue_want, want_at_end, want_next}
+use Rattle.rcce_ue.specs.Workers.{UeStands, slot_awaited, ue_behaviour, ue_seen, ue_want, want_at_end, want_next}
 use Rattle.rcce_ue.proofs.BarLooks.{bar_waits}
-use Rattle.waiting_laws.specs.Looks.{LookedInVain}
+use Rattle.waiting_laws.specs.Looks.{LookFailed}
 use Rattle.waiting_laws.proofs.Messages.{recv_waits, send_waits, slot_waits}
 use Rattle.waiting_laws.proofs.Waited.{rest_alike, turn_waited}
 
@@ -114,7 +114,7 @@ module _ (stepped : List Event → Event → Type 0) (x : UeView) (s t : Sight) 
   parity : IsParityOf (record_in s) now.parity
   parity comm low = later.parity_is comm low ∙ ap (λ (n : ℕ). n % 2) (sym (alike.flips comm))
 
-  module _ (memory : Memory) (records : ℕ → Record) (aim : Aim) (look : LookedInVain s.seat memory records (record_in s) aim) where
+  module _ (memory : Memory) (records : ℕ → Record) (aim : Aim) (look : LookFailed s.seat memory records (record_in s) aim) where
     abbrev Here : Record → Type 0
     Here rec = Waits s.seat.setup (view_of s.seat.setup memory) s.seat.rank rec (ue_want x)
 
@@ -131,7 +131,7 @@ module _ (stepped : List Event → Event → Type 0) (x : UeView) (s t : Sight) 
         let running : is_stopped x.machine.local ≡ false = not_of (is_stopped x.machine.local) (both_first (not (is_stopped x.machine.local)) (is_ended (local_next x.machine.local)) over) in
         let slot : SlotWaits (view_of s.seat.setup memory) s.seat.rank (record_in s) = slot_waits s.seat memory records look.agrees (record_in s) look.like x.slot aim tied.slot_is between.stage aims look.tells in
         same (ends_wait s.seat.setup memory s.seat.rank (record_in s) (is_stopped x.machine.local) x.slot.to slot.post.to (local_next x.machine.local) running
-        (tied.slot_is.to ∙ ap (option_map (λ (post : OnItsWay). post.to)) slot.is_posted) ends slot)
+        (tied.slot_is.to ∙ ap (option_map (λ (post : InFlight). post.to)) slot.is_posted) ends slot)
     waits_by (Sending op) (stands, of_next) is =
         ⊎_elim
         (λ (slot : SlotWaits (view_of s.seat.setup memory) s.seat.rank (record_in s)).
@@ -149,9 +149,9 @@ module _ (stepped : List Event → Event → Type 0) (x : UeView) (s t : Sight) 
     waits_here : ue_aim s.seat x now.parity ≡ Some aim → Here (records s.seat.rank)
     waits_here is = waits_by x.op tied.stands is
 
-  pub has_waited : HasWaited ue_conduct stepped s.seat.setup s.seat.rank s.events turned.events x now
+  pub has_waited : HasWaited ue_behaviour stepped s.seat.setup s.seat.rank s.events turned.events x now
   has_waited =
-      turn_waited stepped (ue_aim s.seat x now.parity) s t turned.events spot turned.did steps turned.tried (turned.rests spot refl) turned.means.2 ue_conduct x now (ue_want x) refl
+      turn_waited stepped (ue_aim s.seat x now.parity) s t turned.events spot turned.did steps turned.tried (turned.rests spot refl) turned.means.2 ue_behaviour x now (ue_want x) refl
       (record { script = turned.program.0; local = ap (λ (y : UeView). y.machine.local) turned.means.0 })
       (λ i. record {
         want = ap ue_want turned.means.0 i;
@@ -203,7 +203,7 @@ module _ (x : UeView) (s t : Sight) (now : UeView) (tied : Tied x s) (turned : U
       over in
       λ i. want_next (want_at_end (no_slot i)) (ends i)
 
-  pub is_done : IsDone ue_conduct s.seat.setup s.seat.rank s.events turned.events x now
+  pub is_done : IsDone ue_behaviour s.seat.setup s.seat.rank s.events turned.events x now
   unfolding record_in
   is_done = record {
     stays = record { script = turned.program.0; local = ap (λ (y : UeView). y.machine.local) turned.means.0 };
@@ -215,18 +215,18 @@ module _ (x : UeView) (s t : Sight) (now : UeView) (tied : Tied x s) (turned : U
 -- ---- the turn
 
 -- a turn that moved
-has_moved : (x : UeView) (s t : Sight) (now : UeView) → UeTurned x s now t turn.Moved → HasMoved ue_conduct s.seat.setup s.seat.rank x now
+has_moved : (x : UeView) (s t : Sight) (now : UeView) → UeTurned x s now t turn.Moved → HasMoved ue_behaviour s.seat.setup s.seat.rank x now
 has_moved x s t now turned = record { moves = record { script = turned.program.0; went = turned.means.2 }; less = turned.means.0 }
 
 means_by : (stepped : List Event → Event → Type 0) (x : UeView) (s t : Sight) (now : UeView) (answer : Turn) (tied : Tied x s) (later : Tied now t) (turned : UeTurned x s now t answer)
-    → ((spot : Spot) → waits_at answer ≡ Some spot → WereSteps stepped s.events turned.events) → TurnMeans ue_conduct stepped s.seat.setup s.seat.rank s.events turned.events x now answer
+    → ((spot : Spot) → waits_at answer ≡ Some spot → WereSteps stepped s.events turned.events) → TurnMeans ue_behaviour stepped s.seat.setup s.seat.rank s.events turned.events x now answer
 means_by stepped x s t now turn.Moved tied later turned steps = has_moved x s t now turned
 means_by stepped x s t now (turn.Waiting spot) tied later turned steps = has_waited stepped x s t now spot tied later turned (steps spot refl)
 means_by stepped x s t now turn.Done tied later turned steps = is_done x s t now tied turned
 
 -- a turn of a UE is one of a worker
 pub ue_turned : (stepped : Seat → List Event → Event → Type 0) (x : UeView) (s t : Sight) (now : UeView) (answer : Turn) → Tied x s → Tied now t → UeTurned x s now t answer
-    → ((spot : Spot) → waits_at answer ≡ Some spot → MadeSteps stepped s t) → Turned ue_conduct (stepped s.seat) x s now t answer
+    → ((spot : Spot) → waits_at answer ≡ Some spot → MadeSteps stepped s t) → Turned ue_behaviour (stepped s.seat) x s now t answer
 ue_turned stepped x s t now answer tied later turned steps = record {
   events = turned.events;
   did = turned.did;
@@ -234,24 +234,24 @@ ue_turned stepped x s t now answer tied later turned steps = record {
 }
 
 -- and so are turns in a row
-moved_on : (stepped : List Event → Event → Type 0) (x : UeView) (s t : Sight) (now : UeView) → UeTurned x s now t turn.Moved → Turned ue_conduct stepped x s now t turn.Moved
+moved_on : (stepped : List Event → Event → Type 0) (x : UeView) (s t : Sight) (now : UeView) → UeTurned x s now t turn.Moved → Turned ue_behaviour stepped x s now t turn.Moved
 moved_on stepped x s t now turned = record { events = turned.events; did = turned.did; means = has_moved x s t now turned }
 
-ue_moves : (stepped : List Event → Event → Type 0) (x : UeView) (s t : Sight) (now : UeView) → UeMoves x s now t → TurnsMoved ue_conduct stepped x s now t
+ue_moves : (stepped : List Event → Event → Type 0) (x : UeView) (s t : Sight) (now : UeView) → UeMoves x s now t → TurnsMoved ue_behaviour stepped x s now t
 ue_moves stepped x s t now (MovedOnce _ _ turned) = OneMoved now t (moved_on stepped x s t now turned)
 ue_moves stepped x s t now (MovedOn mid _ m _ before there turned) =
     MoreMoved mid now m t (ue_moves stepped x s m mid before) (moved_on stepped mid m t now turned)
 
 -- turns in a row that moved
-pub ue_in_a_row : (stepped : List Event → Event → Type 0) (x : UeView) (s t : Sight) (now : UeView) → UeMoves x s now t → Stretched ue_conduct stepped x s now t turn.Moved
+pub ue_in_a_row : (stepped : List Event → Event → Type 0) (x : UeView) (s t : Sight) (now : UeView) → UeMoves x s now t → TookBatch ue_behaviour stepped x s now t turn.Moved
 ue_in_a_row stepped x s t now moves = InARow (ue_moves stepped x s t now moves) refl
 
 -- one turn, of a UE that stands as it stood
 pub ue_once : (stepped : Seat → List Event → Event → Type 0) (x mid now : UeView) (s m t : Sight) (answer : Turn) → mid ≡ x → m ≡ s → Tied mid m → Tied now t → UeTurned mid m now t answer
-    → ((spot : Spot) → waits_at answer ≡ Some spot → MadeSteps stepped m t) → Stretched ue_conduct (stepped s.seat) x s now t answer
+    → ((spot : Spot) → waits_at answer ≡ Some spot → MadeSteps stepped m t) → TookBatch ue_behaviour (stepped s.seat) x s now t answer
 ue_once stepped x mid now s m t answer same there tied later turned steps =
-    subst (λ (y : Sight). Stretched ue_conduct (stepped y.seat) x y now t answer) there
-    (subst (λ (y : UeView). Stretched ue_conduct (stepped m.seat) y m now t answer) same (OneTurn (ue_turned stepped mid m t now answer tied later turned steps)))
+    subst (λ (y : Sight). TookBatch ue_behaviour (stepped y.seat) x y now t answer) there
+    (subst (λ (y : UeView). TookBatch ue_behaviour (stepped m.seat) y m now t answer) same (OneTurn (ue_turned stepped mid m t now answer tied later turned steps)))
 
 -- where a UE fits every port at which its rank has these events, it stands there
 pub ue_stands : (x : UeView) (s : SetupView) (rank : ℕ) (events : List Event) → ((sight : Sight) → sight.seat.setup ≡ s → sight.seat.rank ≡ rank → sight.events ≡ events → Tied x sight) → UeStands x s rank events

@@ -25,22 +25,22 @@ item_visits s rank item = if has_rank item.who rank then 1 + steps_by s rank (co
 -- which stands open before them, up to the next such end
 pub record Visits : Type 0 where
   pub here : ℕ
-  pub behind : List ℕ
+  pub afterwards : List ℕ
 
 -- a repeat's body counts as often as it runs
 abbrev pub visits_repeated : ℕ → ℕ → ℕ → List ℕ → Visits
-visits_repeated own times body [] = record { here = own + body; behind = [] }
-visits_repeated own times body (next ∷ behind) = record { here = own + (body + ((times - 1) * body + next)); behind = behind }
+visits_repeated own times body [] = record { here = own + body; afterwards = [] }
+visits_repeated own times body (next ∷ afterwards) = record { here = own + (body + ((times - 1) * body + next)); afterwards = afterwards }
 
 -- the visits of one item more, in front of those of the items behind it
 abbrev pub visits_in_front : Nesting → ℕ → Visits → Visits
-visits_in_front (nesting.Opens times) own v = visits_repeated own times v.here v.behind
-visits_in_front (nesting.Closes start) own v = record { here = own; behind = v.here ∷ v.behind }
-visits_in_front nesting.Stays own v = record { here = own + v.here; behind = v.behind }
+visits_in_front (nesting.Opens times) own v = visits_repeated own times v.here v.afterwards
+visits_in_front (nesting.Closes start) own v = record { here = own; afterwards = v.here ∷ v.afterwards }
+visits_in_front nesting.Stays own v = record { here = own + v.here; afterwards = v.afterwards }
 
 -- the visits of items for a rank
 unfoldable pub visits_of : SetupView → ℕ → List Item → Visits
-visits_of s rank [] = record { here = 0; behind = [] }
+visits_of s rank [] = record { here = 0; afterwards = [] }
 visits_of s rank (item ∷ items) = visits_in_front (nesting_at rank item) (item_visits s rank item) (visits_of s rank items)
 
 -- the items of a rank, `repeat` and `end` among them, and the steps of its collective calls, each as often as it runs

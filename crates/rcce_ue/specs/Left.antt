@@ -66,9 +66,9 @@ open_left s rank (Receiving op) slot = slot_left slot + 1 + recv_left (chunk_siz
 open_left s rank (Meeting op) slot = slot_left slot + 1 + left_by (size_of s op.comm rank) (place_of s op.comm rank) op.stage
 
 -- what is left of the program behind it
-abbrev pub rest_behind : SetupView → ℕ → Open → Local → ℕ
-rest_behind s rank Nothing u = rest_of s rank u
-rest_behind s rank op u = rest_of s rank u - (1 + next_bound s rank (local_next u))
+abbrev pub rest_after : SetupView → ℕ → Open → Local → ℕ
+rest_after s rank Nothing u = rest_of s rank u
+rest_after s rank op u = rest_of s rank u - (1 + next_bound s rank (local_next u))
 
 -- a rank that a mismatch stopped has no turns left
 abbrev pub unless : Bool → ℕ → ℕ
@@ -78,4 +78,4 @@ unless false n = n
 -- how many turns are left at most to a UE; none to one that a mismatch stopped
 abbrev pub ue_left : UeView → ℕ
 ue_left ue = unless (is_stopped ue.machine.local)
-    (open_left ue.machine.setup ue.machine.rank ue.op ue.slot + rest_behind ue.machine.setup ue.machine.rank ue.op ue.machine.local)
+    (open_left ue.machine.setup ue.machine.rank ue.op ue.slot + rest_after ue.machine.setup ue.machine.rank ue.op ue.machine.local)

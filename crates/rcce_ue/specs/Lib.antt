@@ -4,5 +4,5 @@ pub mod Standing
 pub mod Left
 pub mod Turns
 pub mod Bounds
-pub mod Stretches
+pub mod Batches
 pub mod Workers

@@ -18,7 +18,7 @@ use Rattle.barrier.specs.Flags.{IsParityOf}
 use Rattle.barrier.specs.Stages.{BarAt, BarStands, is_bar_finished}
 use Rattle.script_plain.specs.Collectives.{start_of_rank}
 use Rattle.script_machine.specs.Local.{Local, local_next}
-use Rattle.script_machine.specs.Machine.{on_its_way}
+use Rattle.script_machine.specs.Machine.{in_flight}
 use Rattle.script_plain.specs.Meaning.{State, next_of}
 use Rattle.script_machine.specs.Moves.{bytes_out, is_stopped, length_asked}
 use Rattle.script_machine.specs.Next.{Next}
@@ -115,7 +115,7 @@ pub record Tied (ue : UeView) (s : Sight) : Type 0 where
   pub parity_is : IsParityOf (record_in s) ue.parity
   pub room : length ue.inbox ≡ most_message
   -- the message posted last, which is the one in the slot
-  pub posted_is : ue.posted ≡ option_map on_its_way last
+  pub posted_is : ue.posted ≡ option_map in_flight last
   pub target : IsLastTarget ue.slot last
   -- what was sent is what the record's calls have sent
   pub sent_is : ue.sent ≡ capped_count (count_by is_send_call (record_in s).calls)

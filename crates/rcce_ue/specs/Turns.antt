@@ -61,19 +61,19 @@ IsPausing ue = is_going (local_next ue.machine.local) ≡ false
 
 -- what a rank holds behind what stands next: behind its own statement, behind its call, or where a message with another head
 -- came to its receive
-abbrev pub IsBehind : Next Local → Local → Type 0
-IsBehind Ends u = ⊥
-IsBehind (Goes after) u = u ≡ after
-IsBehind (Posts message after) u = u ≡ after
-IsBehind (Sends to head bytes after) u = u ≡ after
-IsBehind (Recvs from head take refuse) u = ((bytes : List ℕ) × (u ≡ take bytes)) ⊎ ((sent : MessageHead) × (u ≡ refuse sent))
-IsBehind (Bars comm after) u = u ≡ after
+abbrev pub IsAfter : Next Local → Local → Type 0
+IsAfter Ends u = ⊥
+IsAfter (Goes after) u = u ≡ after
+IsAfter (Posts message after) u = u ≡ after
+IsAfter (Sends to head bytes after) u = u ≡ after
+IsAfter (Recvs from head take refuse) u = ((bytes : List ℕ) × (u ≡ take bytes)) ⊎ ((sent : MessageHead) × (u ≡ refuse sent))
+IsAfter (Bars comm after) u = u ≡ after
 
 -- a UE went one step on: within the call that stands next, or in the slot, and one turn fewer is left; or behind what stood
 -- next, and nothing is done yet of what stands next now
 pub data WentOn (ue now : UeView) : Type 0 where
   Within : now.machine ≡ ue.machine → ue_left ue ≡ ue_left now + 1 → WentOn ue now
-  Behind : IsBehind (local_next ue.machine.local) now.machine.local → now.op ≡ open_for_next (local_next now.machine.local) → WentOn ue now
+  After : IsAfter (local_next ue.machine.local) now.machine.local → now.op ≡ open_for_next (local_next now.machine.local) → WentOn ue now
 
 -- what each answer means: with Moved alone the UE went on, and the number of turns left falls; and Done comes exactly where the UE was over
 -- before, and then nothing is done

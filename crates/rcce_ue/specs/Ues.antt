@@ -13,7 +13,7 @@ use Rattle.script_machine.specs.Local.{local_next}
 use Rattle.script_machine.specs.Machine.{MachineView}
 use Rattle.script_machine.specs.Moves.{line_out}
 use Rattle.script_machine.specs.Next.{Next, call_next}
-use Rattle.script_machine.specs.declared.posts.OnItsWay.{OnItsWay}
+use Rattle.script_machine.specs.declared.posts.InFlight.{InFlight}
 use Rattle.rcce_ue.specs.declared.calls.Open.{Open}
 use Rattle.rcce_ue.specs.declared.calls.Open.TheVariants.{Nothing, Sending, Receiving, Meeting}
 
@@ -27,7 +27,7 @@ pub record UeView : Type 0 where
   pub parity : List Bool
   pub op : Open
   pub inbox : List ℕ
-  pub posted : Option OnItsWay
+  pub posted : Option InFlight
   pub sent : ℕ
   pub sent_bytes : ℕ
 
@@ -66,7 +66,7 @@ is_send_call (Recv from head bytes) = false
 is_send_call (Bar comm) = false
 
 -- the message that a call leaves behind, where it is a post of this line, and the earlier one where it is none
-abbrev pub post_left : Option Call → ℕ → Option OnItsWay → Option OnItsWay
+abbrev pub post_left : Option Call → ℕ → Option InFlight → Option InFlight
 post_left (Some (call.Post to head)) line earlier = Some (record { line = line; to = to; head = head })
 post_left (Some (call.Send to head)) line earlier = earlier
 post_left (Some (call.Recv from head)) line earlier = earlier
@@ -74,7 +74,7 @@ post_left (Some (call.Bar comm)) line earlier = earlier
 post_left None line earlier = earlier
 
 -- the message that a post leaves behind, where a post stands next
-abbrev pub posted_by : {U : Type 0} → Next U → Option OnItsWay → Option OnItsWay
+abbrev pub posted_by : {U : Type 0} → Next U → Option InFlight → Option InFlight
 posted_by next earlier = post_left (call_next next) (line_out next) earlier
 
 -- the message in the slot, where it is full

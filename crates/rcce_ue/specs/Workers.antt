@@ -7,7 +7,7 @@ use Rattle.script_machine.specs.Local.{local_next}
 use Rattle.script_machine.specs.Moves.{is_stopped}
 use Rattle.script_machine.specs.Next.{Next}
 use Rattle.script_machine.specs.Next.Next.{Ends, Goes, Posts, Sends, Recvs, Bars}
-use Rattle.chip_run.specs.Conducts.{Conduct, WorkerView}
+use Rattle.chip_run.specs.Behaves.{Behaviour, WorkerView}
 use Rattle.chip_run.specs.Turns.{RankHoldsNone}
 use Rattle.chip_run.specs.Wants.{Want}
 use Rattle.rcce_ue.specs.Left.{ue_left}
@@ -59,5 +59,5 @@ pub record UeStands (ue : UeView) (s : SetupView) (rank : ℕ) (events : List Ev
   pub hands : RankHoldsNone s rank events
 
 -- how UEs conduct themselves in a run
-abbrev pub ue_conduct : Conduct UeView
-ue_conduct = record { seen = λ s rank ue. ue_seen ue; tied = UeStands; moves = UeMoved; stays = UeStayed }
+abbrev pub ue_behaviour : Behaviour UeView
+ue_behaviour = record { seen = λ s rank ue. ue_seen ue; tied = UeStands; moves = UeMoved; stays = UeStayed }

@@ -10,7 +10,7 @@ impl<'s, V: Evict> Ue<'s, V> {
     ghost use Rattle.std.specs.Prelude.{◌≡◌, ◌||◌, true, false};
     ghost use Rattle.rcce_ue.specs.Standing.{Tied};
     ghost use Rattle.scc_proto.specs.Ports.{Sight};
-    ghost use Rattle.rcce_ue.specs.Stretches.{StretchMoves, UeMoves, makes_no_try, reads_line_next, writes_line_next};
+    ghost use Rattle.rcce_ue.specs.Batches.{BatchMoves, UeMoves, makes_no_try, reads_line_next, writes_line_next};
     ghost use Rattle.rcce_ue.specs.Ues.{UeView};
 
     /// Takes the turns that write or read the lines of a chunk which are left, where one stands next; tells whether it did.
@@ -18,7 +18,7 @@ impl<'s, V: Evict> Ue<'s, V> {
     pub fn move_lines<P: Port>(&mut self, port: &mut P) -> bool
         requires tied { Tied self.old (P.sight port.old) }
         ensures tells { result ≡ writes_line_next self.old.op || reads_line_next self.old.op }
-        ensures moves { result ≡ true → StretchMoves self.old (P.sight port.old) self.new (P.sight port.new) }
+        ensures moves { result ≡ true → BatchMoves self.old (P.sight port.old) self.new (P.sight port.new) }
         ensures stays { result ≡ false → (self.new ≡ self.old) × (P.sight port.new ≡ P.sight port.old) }
     {
         match &mut self.op {

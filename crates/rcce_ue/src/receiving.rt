@@ -35,7 +35,7 @@ impl OpenReceive {
     ghost use Rattle.send_recv.specs.Ops.{new_receive};
     ghost use Rattle.send_recv.specs.Receiving.{RecvStands, RecvTurned, recv_spot, recv_waits};
     ghost use Rattle.send_recv.specs.Ranks.{receiving};
-    ghost use Rattle.send_recv.specs.Stretches.{ReadLines, is_reading};
+    ghost use Rattle.send_recv.specs.Batches.{ReadLines, is_reading};
 
     /// A receive at the start of a message with this head.
     pub fn new(from: Rank, head: Head) -> OpenReceive

@@ -11,7 +11,7 @@ use line_cache::Evict;
 use put_get::Core;
 use scc_base::{Call, Head, Rank, Setup, Turn};
 use scc_proto::Port;
-use script_machine::{Machine, OnItsWay, PrintedItem, UeEnd};
+use script_machine::{Machine, InFlight, PrintedItem, UeEnd};
 use script_rules::Scripts;
 use send_recv::{RecvTurn, Slot};
 use std::alloc::{AllocError, Global};
@@ -27,7 +27,7 @@ pub struct Ue<'s, V: Evict> {
     pub(crate) op: Open,
     /// The bytes that a receive has so far stand in front.
     pub(crate) inbox: Vec<u8>,
-    posted: Option<OnItsWay>,
+    posted: Option<InFlight>,
     sent: u64,
     sent_bytes: u64,
 }
@@ -51,11 +51,11 @@ impl<'s, V: Evict> Model for Ue<'s, V> {
 }
 
 // The message that the call leaves behind, where it is a post of this line, and the earlier one where it is none.
-fn post_left(call: &Option<Call>, line: u32, earlier: Option<OnItsWay>) -> Option<OnItsWay>
+fn post_left(call: &Option<Call>, line: u32, earlier: Option<InFlight>) -> Option<InFlight>
     ensures { result ≡ post_left call.now line earlier }
 {
     match call {
-        Some(Call::Post { to, head }) => Some(OnItsWay {
+        Some(Call::Post { to, head }) => Some(InFlight {
             line,
             to: *to,
             head: *head,
@@ -263,7 +263,7 @@ impl<'s, V: Evict> Ue<'s, V> {
     ghost use Rattle.std.specs.Prelude.{◌≡◌, ◌<◌, false, not, length, slice_get, Option, Some};
     ghost use Rattle.std.specs.Option.{option_map};
     ghost use Rattle.script_machine.specs.Local.{end_of};
-    ghost use Rattle.script_machine.specs.Machine.{on_its_way};
+    ghost use Rattle.script_machine.specs.Machine.{in_flight};
     ghost use Rattle.script_machine.specs.Moves.{is_stopped};
     ghost use Rattle.script_machine.specs.Next.{is_going};
     ghost use Rattle.script_machine.specs.declared.posts.Posted.{Posted};
@@ -286,7 +286,7 @@ impl<'s, V: Evict> Ue<'s, V> {
     /// How the rank's run stands: finished, stopped by a mismatch, or at what it waits.
     pub fn end(&self) -> UeEnd
         requires rests { is_going (local_next self.now.machine.local) ≡ false }
-        ensures gives { (last : Option Posted) → self.now.posted ≡ option_map on_its_way last
+        ensures gives { (last : Option Posted) → self.now.posted ≡ option_map in_flight last
             → result ≡ end_of (in_slot self.now.slot last) self.now.machine.local }
     {
         match self.slot.holds() {

@@ -7,9 +7,9 @@ use scc_base::Turn;
 use scc_proto::Port;
 
 impl<'s, V: Evict> Worker for Ue<'s, V> {
-    ghost use Rattle.rcce_ue.specs.Workers.{ue_conduct};
+    ghost use Rattle.rcce_ue.specs.Workers.{ue_behaviour};
 
-    ghost conduct = { ue_conduct };
+    ghost behaviour = { ue_behaviour };
 
     fn turn<P: Port>(&mut self, port: P) -> (Turn, P) {
         let mut port = port;
@@ -18,7 +18,7 @@ impl<'s, V: Evict> Worker for Ue<'s, V> {
     }
 
     #[inline(always)]
-    fn stretch<P: Port>(&mut self, port: P) -> (Turn, P) {
+    fn batch<P: Port>(&mut self, port: P) -> (Turn, P) {
         let mut port = port;
         if self.move_lines(&mut port) {
             self.go_on(&mut port);

@@ -67,26 +67,26 @@ no_value : parse_command (codes "-nue" ∷ []) ≡ Err (fault.NoValue 0)
 unfolding number_in
 no_value = refl
 
-behind_the_script : parse_command (codes "-nue" ∷ codes "2" ∷ codes "s.rcce" ∷ codes "-bits" ∷ []) ≡ Err (fault.Extra 3)
+after_the_script : parse_command (codes "-nue" ∷ codes "2" ∷ codes "s.rcce" ∷ codes "-bits" ∷ []) ≡ Err (fault.Extra 3)
 unfolding number_in
-behind_the_script = refl
+after_the_script = refl
 
 -- behind the script's name the other checks come first
-twice_behind : parse_command (codes "-nue" ∷ codes "2" ∷ codes "s" ∷ codes "-nue" ∷ []) ≡ Err (fault.Twice 3)
+twice_after : parse_command (codes "-nue" ∷ codes "2" ∷ codes "s" ∷ codes "-nue" ∷ []) ≡ Err (fault.Twice 3)
 unfolding number_in
-twice_behind = refl
+twice_after = refl
 
-no_value_behind : parse_command (codes "-nue" ∷ codes "2" ∷ codes "s" ∷ codes "-evict" ∷ []) ≡ Err (fault.NoValue 3)
+no_value_after : parse_command (codes "-nue" ∷ codes "2" ∷ codes "s" ∷ codes "-evict" ∷ []) ≡ Err (fault.NoValue 3)
 unfolding number_in
-no_value_behind = refl
+no_value_after = refl
 
-bad_number_behind : parse_command (codes "-nue" ∷ codes "2" ∷ codes "s" ∷ codes "-evict" ∷ codes "x" ∷ []) ≡ Err (fault.BadNumber 3)
+bad_number_after : parse_command (codes "-nue" ∷ codes "2" ∷ codes "s" ∷ codes "-evict" ∷ codes "x" ∷ []) ≡ Err (fault.BadNumber 3)
 unfolding number_in
-bad_number_behind = refl
+bad_number_after = refl
 
-extra_behind : parse_command (codes "-nue" ∷ codes "2" ∷ codes "s" ∷ codes "-evict" ∷ codes "3" ∷ []) ≡ Err (fault.Extra 3)
+extra_after : parse_command (codes "-nue" ∷ codes "2" ∷ codes "s" ∷ codes "-evict" ∷ codes "3" ∷ []) ≡ Err (fault.Extra 3)
 unfolding number_in
-extra_behind = refl
+extra_after = refl
 
 -- beside `-gen`
 before_its_value : parse_command (codes "-evict" ∷ codes "1" ∷ codes "-gen" ∷ []) ≡ Err (fault.Extra 2)

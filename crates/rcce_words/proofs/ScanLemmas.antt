@@ -23,25 +23,25 @@ module _ {A : Type 0} (bytes : A → List ℕ) where
       ∙ ap (λ o. take_word at said (bytes w) o) (ahead ∙ ap (λ ws. first_of (map bytes ws)) (rest_is w words))
 
   -- a value is passed over
-  pub scan_value : (at : ℕ) (is_value behind_value : Bool) (said next : Said) (words : List A) (all : Result Said WordFault) →
-      1 ≤ length words → is_value ≡ true → next ≡ said → behind_value ≡ false → scan at is_value said (map bytes words) ≡ all →
-      scan (at + 1) behind_value next (map bytes (take (length words - 1) (drop 1 words))) ≡ all
-  scan_value at is_value behind_value said next [] all some now same low before = absurd (omega (arith, some))
-  scan_value at is_value behind_value said next (w ∷ words) all some now same low before =
-      ap (λ ws. scan (at + 1) behind_value next (map bytes ws)) (rest_is w words)
-      ∙ ap (λ s. scan (at + 1) behind_value s (map bytes words)) same ∙ ap (λ b. scan (at + 1) b said (map bytes words)) low
+  pub scan_value : (at : ℕ) (is_value after_value : Bool) (said next : Said) (words : List A) (all : Result Said WordFault) →
+      1 ≤ length words → is_value ≡ true → next ≡ said → after_value ≡ false → scan at is_value said (map bytes words) ≡ all →
+      scan (at + 1) after_value next (map bytes (take (length words - 1) (drop 1 words))) ≡ all
+  scan_value at is_value after_value said next [] all some now same low before = absurd (omega (arith, some))
+  scan_value at is_value after_value said next (w ∷ words) all some now same low before =
+      ap (λ ws. scan (at + 1) after_value next (map bytes ws)) (rest_is w words)
+      ∙ ap (λ s. scan (at + 1) after_value s (map bytes words)) same ∙ ap (λ b. scan (at + 1) b said (map bytes words)) low
       ∙ ap (λ b. scan at b said (map bytes (w ∷ words))) (sym now) ∙ before
 
   -- a word that is no value is taken
-  pub scan_word : (at : ℕ) (is_value behind_value : Bool) (said taken next : Said) (words : List A) (word : A) (text : List ℕ) (front : Option (List ℕ))
+  pub scan_word : (at : ℕ) (is_value after_value : Bool) (said taken next : Said) (words : List A) (word : A) (text : List ℕ) (front : Option (List ℕ))
       (all : Result Said WordFault) → 1 ≤ length words → is_value ≡ false → word ≡ get_or words 0 word → text ≡ bytes word →
       front ≡ first_of (map bytes (take (length words - 1) (drop 1 words))) → Ok taken ≡ take_word at said text front → next ≡ taken →
-      behind_value ≡ takes_value (option_named (bytes word)) → scan at is_value said (map bytes words) ≡ all →
-      scan (at + 1) behind_value next (map bytes (take (length words - 1) (drop 1 words))) ≡ all
-  scan_word at is_value behind_value said taken next [] word text front all some now is named ahead gives same value before = absurd (omega (arith, some))
-  scan_word at is_value behind_value said taken next (w ∷ words) word text front all some now is named ahead gives same value before =
-      ap (λ ws. scan (at + 1) behind_value next (map bytes ws)) (rest_is w words)
-      ∙ ap (λ s. scan (at + 1) behind_value s (map bytes words)) same
+      after_value ≡ takes_value (option_named (bytes word)) → scan at is_value said (map bytes words) ≡ all →
+      scan (at + 1) after_value next (map bytes (take (length words - 1) (drop 1 words))) ≡ all
+  scan_word at is_value after_value said taken next [] word text front all some now is named ahead gives same value before = absurd (omega (arith, some))
+  scan_word at is_value after_value said taken next (w ∷ words) word text front all some now is named ahead gives same value before =
+      ap (λ ws. scan (at + 1) after_value next (map bytes ws)) (rest_is w words)
+      ∙ ap (λ s. scan (at + 1) after_value s (map bytes words)) same
       ∙ ap (λ b. scan (at + 1) b taken (map bytes words)) (value ∙ ap (λ x. takes_value (option_named (bytes x))) is)
       ∙ ap (λ r. r >>= λ n. scan (at + 1) (takes_value (option_named (bytes w))) n (map bytes words)) (gives ∙ take_is at said w words word text front named is ahead)
       ∙ ap (λ b. scan at b said (map bytes (w ∷ words))) (sym now) ∙ before

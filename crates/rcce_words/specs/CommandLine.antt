@@ -58,9 +58,9 @@ is_against flag.Bits said = has flag.Gen said
 is_against flag.Gen said = has flag.Hosts said || has flag.Evict said || has flag.Serial said || has flag.Bits said
 
 -- the number behind the option at a word: 1 to 10 decimal digits, from its range
-abbrev pub number_behind : ℕ → ℕ → ℕ → Option (List ℕ) → Result ℕ WordFault
-number_behind at least most None = Err (fault.NoValue at)
-number_behind at least most (Some word) = ok_or (number_in least most word) (fault.BadNumber at)
+abbrev pub number_after : ℕ → ℕ → ℕ → Option (List ℕ) → Result ℕ WordFault
+number_after at least most None = Err (fault.NoValue at)
+number_after at least most (Some word) = ok_or (number_in least most word) (fault.BadNumber at)
 
 -- the host file: the word behind the option, taken as it stands
 abbrev pub with_hosts : ℕ → Option (List ℕ) → Said → Result Said WordFault
@@ -70,19 +70,19 @@ with_hosts at (Some word) said = Ok (record said { hosts = Some (at + 1) })
 -- each option with what stands behind it: `-nue` a number from 1 to 48, `-f` a word, `-evict` and `-serial` any number,
 -- `-bits` nothing, `-gen` a number up to 65,535
 abbrev pub with_flag : ℕ → Flag → Option (List ℕ) → Said → Result Said WordFault
-with_flag at flag.Nue behind said = number_behind at 1 48 behind >>= λ n. Ok (record said { nue = Some n })
-with_flag at flag.Hosts behind said = with_hosts at behind said
-with_flag at flag.Evict behind said = number_behind at 0 4294967295 behind >>= λ n. Ok (record said { evict = Some n })
-with_flag at flag.Serial behind said = number_behind at 0 4294967295 behind >>= λ n. Ok (record said { serial = Some n })
-with_flag at flag.Bits behind said = Ok (record said { bits = true })
-with_flag at flag.Gen behind said = number_behind at 0 65535 behind >>= λ n. Ok (record said { seed = Some n })
+with_flag at flag.Nue afterwards said = number_after at 1 48 afterwards >>= λ n. Ok (record said { nue = Some n })
+with_flag at flag.Hosts afterwards said = with_hosts at afterwards said
+with_flag at flag.Evict afterwards said = number_after at 0 4294967295 afterwards >>= λ n. Ok (record said { evict = Some n })
+with_flag at flag.Serial afterwards said = number_after at 0 4294967295 afterwards >>= λ n. Ok (record said { serial = Some n })
+with_flag at flag.Bits afterwards said = Ok (record said { bits = true })
+with_flag at flag.Gen afterwards said = number_after at 0 65535 afterwards >>= λ n. Ok (record said { seed = Some n })
 
 -- an option: not twice, not beside one that it cannot stand with, with its value, and not behind the script's name
 abbrev pub take_flag : ℕ → Said → Flag → Option (List ℕ) → Result Said WordFault
-take_flag at said flag behind =
+take_flag at said flag afterwards =
     if has flag said then Err (fault.Twice at)
     else if is_against flag said then Err (fault.Extra at)
-    else with_flag at flag behind said >>= λ next. if is_some said.script then Err (fault.Extra at) else Ok next
+    else with_flag at flag afterwards said >>= λ next. if is_some said.script then Err (fault.Extra at) else Ok next
 
 -- the script's name: not behind another one, nor beside `-gen`
 abbrev pub take_name : ℕ → Said → Result Said WordFault
@@ -90,12 +90,12 @@ take_name at said = if is_some said.script || is_some said.seed then Err (fault.
 
 -- a word that begins with `-`: one that names no option is unknown
 abbrev pub take_option : ℕ → Said → Option Flag → Option (List ℕ) → Result Said WordFault
-take_option at said None behind = Err (fault.Unknown at)
-take_option at said (Some flag) behind = take_flag at said flag behind
+take_option at said None afterwards = Err (fault.Unknown at)
+take_option at said (Some flag) afterwards = take_flag at said flag afterwards
 
 -- a word that is no value: what begins with `-` is an option, and what does not is the script's name
 abbrev pub take : ℕ → Said → List ℕ → Option (List ℕ) → Result Said WordFault
-take at said word behind = if is_option word then take_option at said (option_named word) behind else take_name at said
+take at said word afterwards = if is_option word then take_option at said (option_named word) afterwards else take_name at said
 
 -- the first of the words, if there is one
 abbrev pub first_of : List (List ℕ) → Option (List ℕ)

@@ -71,15 +71,15 @@ fn scan(words: &[String]) -> Result<Said, WordFault>
     let mut at: usize = 0;
     let mut is_value = false;
     let mut left = words;
-    'words: while let [word, behind @ ..] = left {
+    'words: while let [word, afterwards @ ..] = left {
         if is_value {
             is_value = false;
         } else {
-            said = said.take(at, word.as_str(), first_of(behind))?;
+            said = said.take(at, word.as_str(), first_of(afterwards))?;
             is_value = takes_value(word.as_str());
         }
         at += 1;
-        left = behind;
+        left = afterwards;
     }
     Ok(said)
 }
@@ -134,7 +134,7 @@ pub fn word_at(words: &[String], at: usize) -> &str
 }
 
 /// The word behind one, and nothing behind the last one.
-fn word_behind(words: &[String], at: usize) -> &str
+fn word_after(words: &[String], at: usize) -> &str
     ensures { result.now ≡ word_numbered (map string_bytes words.now) (at + 1) }
 {
     match at.checked_add(1) {
@@ -155,8 +155,8 @@ pub fn complaint(words: &[String], fault: WordFault) -> Complaint<'_>
             return Complaint::Words {
                 fault: "bad number after ",
                 word: word_at(words, at),
-                behind: ": ",
-                value: word_behind(words, at),
+                afterwards: ": ",
+                value: word_after(words, at),
             };
         }
         WordFault::Unknown { at } => ("unknown word: ", at),
@@ -167,7 +167,7 @@ pub fn complaint(words: &[String], fault: WordFault) -> Complaint<'_>
     Complaint::Words {
         fault: text,
         word: word_at(words, at),
-        behind: "",
+        afterwards: "",
         value: "",
     }
 }

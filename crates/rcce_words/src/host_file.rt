@@ -129,12 +129,12 @@ fn read_lines(bytes: &[u8]) -> Result<Entries, HostFault>
     let mut cores = Cores::new();
     let mut lines: u32 = 0;
     let mut rest = bytes;
-    'lines: while let Some((line, behind)) = first_line(rest) {
+    'lines: while let Some((line, afterwards)) = first_line(rest) {
         lines += 1;
         if let Err(kind) = read_line(&mut cores, line) {
             return Err(HostFault { line: lines, kind });
         }
-        rest = behind;
+        rest = afterwards;
     }
     Ok(Entries { cores, lines })
 }

@@ -1,7 +1,7 @@
 //! What the words have said so far.
 
 ghost use Rattle.std.specs.Prelude.{◌≡◌, ◌<◌, ◌≤◌, IfOk, option_map};
-ghost use Rattle.rcce_words.specs.CommandLine.{IsSaidInRange, has, is_against, nothing, number_behind, take, take_flag, take_name, with_flag};
+ghost use Rattle.rcce_words.specs.CommandLine.{IsSaidInRange, has, is_against, nothing, number_after, take, take_flag, take_name, with_flag};
 
 use crate::command::WordFault;
 use crate::flags::{Flag, flag_of};
@@ -21,12 +21,12 @@ pub(crate) struct Said {
 }
 
 /// The number that stands behind the option at a word.
-fn number_behind(at: usize, least: u32, most: u32, behind: Option<&str>) -> Result<u32, WordFault>
-    ensures gives { result ≡ number_behind at least most (option_map (λ word. word.now) behind.entry) }
+fn number_after(at: usize, least: u32, most: u32, afterwards: Option<&str>) -> Result<u32, WordFault>
+    ensures gives { result ≡ number_after at least most (option_map (λ word. word.now) afterwards.entry) }
     ensures least { IfOk result (λ n. least ≤ n) }
     ensures most { IfOk result (λ n. n ≤ most) }
 {
-    match behind {
+    match afterwards {
         Some(word) => match number_in(word.as_bytes(), least, most) {
             Some(n) => Ok(n),
             None => Err(WordFault::BadNumber { at }),
@@ -79,33 +79,33 @@ impl Said {
     }
 
     /// The same with an option, at the word `at`, whose value stands behind it.
-    fn with_flag(self, at: usize, flag: Flag, behind: Option<&str>) -> Result<Said, WordFault>
+    fn with_flag(self, at: usize, flag: Flag, afterwards: Option<&str>) -> Result<Said, WordFault>
         requires small { at < usize.MAX }
         requires within { IsSaidInRange self }
-        ensures gives { result ≡ with_flag at flag (option_map (λ word. word.now) behind.entry) self }
+        ensures gives { result ≡ with_flag at flag (option_map (λ word. word.now) afterwards.entry) self }
         ensures within { IfOk result IsSaidInRange }
     {
         let mut said = self;
         match flag {
-            Flag::Nue => said.nue = Some(number_behind(at, 1, 48, behind)?),
+            Flag::Nue => said.nue = Some(number_after(at, 1, 48, afterwards)?),
             Flag::Hosts => {
-                if behind.is_none() {
+                if afterwards.is_none() {
                     return Err(WordFault::NoValue { at });
                 }
                 said.hosts = Some(at + 1);
             }
-            Flag::Evict => said.evict = Some(number_behind(at, 0, u32::MAX, behind)?),
-            Flag::Serial => said.serial = Some(number_behind(at, 0, u32::MAX, behind)?),
+            Flag::Evict => said.evict = Some(number_after(at, 0, u32::MAX, afterwards)?),
+            Flag::Serial => said.serial = Some(number_after(at, 0, u32::MAX, afterwards)?),
             Flag::Bits => said.bits = true,
-            Flag::Gen => said.seed = Some(number_behind(at, 0, 65_535, behind)?),
+            Flag::Gen => said.seed = Some(number_after(at, 0, 65_535, afterwards)?),
         }
         Ok(said)
     }
 
-    fn take_flag(self, at: usize, flag: Flag, behind: Option<&str>) -> Result<Said, WordFault>
+    fn take_flag(self, at: usize, flag: Flag, afterwards: Option<&str>) -> Result<Said, WordFault>
         requires small { at < usize.MAX }
         requires within { IsSaidInRange self }
-        ensures gives { result ≡ take_flag at self flag (option_map (λ word. word.now) behind.entry) }
+        ensures gives { result ≡ take_flag at self flag (option_map (λ word. word.now) afterwards.entry) }
         ensures within { IfOk result IsSaidInRange }
     {
         if self.has(flag) {
@@ -114,7 +114,7 @@ impl Said {
         if self.is_against(flag) {
             return Err(WordFault::Extra { at });
         }
-        let said = self.with_flag(at, flag, behind)?;
+        let said = self.with_flag(at, flag, afterwards)?;
         if self.script.is_some() {
             return Err(WordFault::Extra { at });
         }
@@ -136,17 +136,17 @@ impl Said {
     }
 
     /// The same with the word `at`, which is no value, and the word behind it.
-    pub(crate) fn take(self, at: usize, word: &str, behind: Option<&str>) -> Result<Said, WordFault>
+    pub(crate) fn take(self, at: usize, word: &str, afterwards: Option<&str>) -> Result<Said, WordFault>
         requires small { at < usize.MAX }
         requires within { IsSaidInRange self }
-        ensures gives { result ≡ take at self word.now (option_map (λ word. word.now) behind.entry) }
+        ensures gives { result ≡ take at self word.now (option_map (λ word. word.now) afterwards.entry) }
         ensures within { IfOk result IsSaidInRange }
     {
         if !is_option(word) {
             return self.take_name(at);
         }
         match flag_of(word) {
-            Some(flag) => self.take_flag(at, flag, behind),
+            Some(flag) => self.take_flag(at, flag, afterwards),
             None => Err(WordFault::Unknown { at }),
         }
     }

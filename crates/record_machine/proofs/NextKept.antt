@@ -3,7 +3,7 @@ use Rattle.std.proofs.Common.{◌≡◌, ℕ, Bool, if◌then◌else◌, List, O
 use Rattle.scc_base.specs.Heads.{MessageHead}
 use Rattle.scc_proto.specs.Messages.{Notes, Progress}
 use Rattle.scc_proto.specs.Permission.{may_raise}
-use Rattle.scc_proto.specs.Stages.{Filling, Raised, Answered, Stage, Idle, Drafting, Sending, Between, Taking, Barrier, OnItsWay}
+use Rattle.scc_proto.specs.Stages.{Filling, Raised, Answered, Stage, Idle, Drafting, Sending, Between, Taking, Barrier, InFlight}
 use Rattle.record_machine.specs.Next.{store_allowed}
 use Rattle.record_machine.specs.Noted.{IsChunkOf}
 use Rattle.record_machine.specs.Standing.{IsInHand, KeepsStage}
@@ -42,7 +42,7 @@ module _ (size : ℕ) (header : NotedLine) (chunk : NotedChunk) (bytes : List �
 
 -- a draft, which may be raised where it is whole
 pub draft_at : (size to : ℕ) (header : NotedLine) (chunk : NotedChunk) (bytes : List ℕ) (st : Stage) → KeepsStage size header chunk bytes standing.Drafting st → (whole : Bool) → whole ≡ may_raise size to st
-    → (post : Option OnItsWay) (notes : ℕ → Option Notes) → (if whole then may.Raise else may.Draft) ≡ store_allowed size st post notes
+    → (post : Option InFlight) (notes : ℕ → Option Notes) → (if whole then may.Raise else may.Draft) ≡ store_allowed size st post notes
 draft_at size to header chunk bytes st keeps whole is post notes =
     at_draft size header chunk bytes (λ (x : Stage). whole ≡ may_raise size to x → (if whole then may.Raise else may.Draft) ≡ store_allowed size x post notes) st keeps
     (λ h c e. ap (λ (b : Bool). if b then may.Raise else may.Draft) e) is

@@ -5,7 +5,7 @@ use Rattle.std.proofs.lemmas.List.{get_or-replicate}
 use Rattle.scc_proto.specs.Messages.{Notes, note_word}
 use Rattle.scc_proto.specs.Moves.{post_answered}
 use Rattle.scc_proto.specs.Permission.{is_answered_by}
-use Rattle.scc_proto.specs.Stages.{OnItsWay}
+use Rattle.scc_proto.specs.Stages.{InFlight}
 use Rattle.scc_proto.specs.Tables.{table_with}
 use Rattle.scc_proto.proofs.Tests.{same_or_other, same_by_eqb, put_here, put_there}
 use Rattle.record_machine.specs.Noted.{IsLineOf}
@@ -118,48 +118,48 @@ flags_flipped flags flips comm value below within may are c c_below = same_or_ot
 
 -- ---- posts
 
-pub post_none : (posted : Option Posted) (post : Option OnItsWay) → KeepsPost posted post → is_none posted ≡ is_none post
+pub post_none : (posted : Option Posted) (post : Option InFlight) → KeepsPost posted post → is_none posted ≡ is_none post
 post_none None None keeps = refl
 post_none None (Some p) keeps = absurd keeps
 post_none (Some q) None keeps = absurd keeps
 post_none (Some q) (Some p) keeps = refl
 
-pub post_answers : (posted : Option Posted) (q : Posted) (post : Option OnItsWay) → posted ≡ Some q → KeepsPost posted post → (by : ℕ) → ((q.to == by) && q.is_answered) ≡ is_answered_by by post
+pub post_answers : (posted : Option Posted) (q : Posted) (post : Option InFlight) → posted ≡ Some q → KeepsPost posted post → (by : ℕ) → ((q.to == by) && q.is_answered) ≡ is_answered_by by post
 post_answers posted q post some keeps by = of post (subst (λ (x : Option Posted). KeepsPost x post) some keeps)
   where
-    of : (p : Option OnItsWay) → KeepsPost (Some q) p → ((q.to == by) && q.is_answered) ≡ is_answered_by by p
+    of : (p : Option InFlight) → KeepsPost (Some q) p → ((q.to == by) && q.is_answered) ≡ is_answered_by by p
     of None k = absurd k
     of (Some p) k = λ i. (k.0 i == by) && k.1 i
 
-pub no_post_answers : (posted : Option Posted) (post : Option OnItsWay) → posted ≡ None → KeepsPost posted post → (by : ℕ) → false ≡ is_answered_by by post
+pub no_post_answers : (posted : Option Posted) (post : Option InFlight) → posted ≡ None → KeepsPost posted post → (by : ℕ) → false ≡ is_answered_by by post
 no_post_answers posted post none keeps by = of post (subst (λ (x : Option Posted). KeepsPost x post) none keeps)
   where
-    of : (p : Option OnItsWay) → KeepsPost None p → false ≡ is_answered_by by p
+    of : (p : Option InFlight) → KeepsPost None p → false ≡ is_answered_by by p
     of None k = refl
     of (Some p) k = absurd k
 
 -- a post after a look at `ready`
-pub post_kept_none : (posted : Option Posted) (post : Option OnItsWay) (is_set : ℕ → Bool) → posted ≡ None → KeepsPost posted post → KeepsPost posted (option_map (post_answered is_set) post)
+pub post_kept_none : (posted : Option Posted) (post : Option InFlight) (is_set : ℕ → Bool) → posted ≡ None → KeepsPost posted post → KeepsPost posted (option_map (post_answered is_set) post)
 post_kept_none posted post is_set none keeps = subst (λ (x : Option Posted). KeepsPost x (option_map (post_answered is_set) post)) (sym none) (of post (subst (λ (x : Option Posted). KeepsPost x post) none keeps))
   where
-    of : (p : Option OnItsWay) → KeepsPost None p → KeepsPost None (option_map (post_answered is_set) p)
+    of : (p : Option InFlight) → KeepsPost None p → KeepsPost None (option_map (post_answered is_set) p)
     of None k = tt
     of (Some p) k = absurd k
 
-pub post_seen : (posted : Option Posted) (q : Posted) (post : Option OnItsWay) (is_set : ℕ → Bool) → posted ≡ Some q → is_set q.to ≡ true → KeepsPost posted post
+pub post_seen : (posted : Option Posted) (q : Posted) (post : Option InFlight) (is_set : ℕ → Bool) → posted ≡ Some q → is_set q.to ≡ true → KeepsPost posted post
     → KeepsPost (Some (record { to = q.to; is_answered = true })) (option_map (post_answered is_set) post)
 post_seen posted q post is_set some so keeps = of post (subst (λ (x : Option Posted). KeepsPost x post) some keeps)
   where
-    of : (p : Option OnItsWay) → KeepsPost (Some q) p → KeepsPost (Some (record { to = q.to; is_answered = true })) (option_map (post_answered is_set) p)
+    of : (p : Option InFlight) → KeepsPost (Some q) p → KeepsPost (Some (record { to = q.to; is_answered = true })) (option_map (post_answered is_set) p)
     of None k = absurd k
     of (Some p) k = (k.0, sym (ap (λ (b : Bool). if b then true else p.is_answered) (ap is_set (sym k.0) ∙ so)))
 
-pub post_unseen : (posted : Option Posted) (q : Posted) (post : Option OnItsWay) (is_set : ℕ → Bool) → posted ≡ Some q → is_set q.to ≡ false → KeepsPost posted post
+pub post_unseen : (posted : Option Posted) (q : Posted) (post : Option InFlight) (is_set : ℕ → Bool) → posted ≡ Some q → is_set q.to ≡ false → KeepsPost posted post
     → KeepsPost posted (option_map (post_answered is_set) post)
 post_unseen posted q post is_set some not_so keeps =
     subst (λ (x : Option Posted). KeepsPost x (option_map (post_answered is_set) post)) (sym some) (of post (subst (λ (x : Option Posted). KeepsPost x post) some keeps))
   where
-    of : (p : Option OnItsWay) → KeepsPost (Some q) p → KeepsPost (Some q) (option_map (post_answered is_set) p)
+    of : (p : Option InFlight) → KeepsPost (Some q) p → KeepsPost (Some q) (option_map (post_answered is_set) p)
     of None k = absurd k
     of (Some p) k = (k.0, k.1 ∙ sym (ap (λ (b : Bool). if b then true else p.is_answered) (ap is_set (sym k.0) ∙ not_so)))
 

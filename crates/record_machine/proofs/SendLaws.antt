@@ -6,7 +6,7 @@ use Rattle.scc_base.specs.declared.calls.Call.TheVariants as call
 use Rattle.scc_proto.specs.Messages.{Notes, note_word, head_of, Progress, fresh_message, is_last, is_whole, is_padded, with_chunk, message_of, post_to, send_to}
 use Rattle.scc_proto.specs.Moves.{is_posted, draft_header, draft_chunk, raise_sent, look_ready, lower_ready, calls_raised, calls_sent, post_raised}
 use Rattle.scc_proto.specs.Permission.{drafts_header, drafts_chunk, is_drafted, is_idle, is_whole_header, may_go_on, may_raise}
-use Rattle.scc_proto.specs.Stages.{Filling, Raised, Answered, Stage, Idle, Drafting, Sending, Between, Taking, Barrier, OnItsWay}
+use Rattle.scc_proto.specs.Stages.{Filling, Raised, Answered, Stage, Idle, Drafting, Sending, Between, Taking, Barrier, InFlight}
 use Rattle.scc_proto.proofs.Tests.{same_by_eqb, both_first, both_second}
 use Rattle.record_machine.specs.Following.{Adds, with_draft_open}
 use Rattle.record_machine.specs.Noted.{IsChunkOf, IsLineOf, TellsHead}
@@ -144,7 +144,7 @@ module _ (size : ℕ) (header : NotedLine) (chunk : NotedChunk) (bytes : List �
       let drafted : may_raise size to (Drafting x.0 x.1) ≡ true = subst (λ (s : Stage). may_raise size to s ≡ true) x.2 may in
       (x.0, x.3, both_first (is_whole_header x.0) (is_drafted size (fresh_message (head_of x.0)) x.1) drafted)
 
-  plain_raised : (h c : Notes) (to : ℕ) → may_raise size to (Drafting h c) ≡ true → (calls : List DataCall) (post : Option OnItsWay) (head : MessageHead) → TellsHead h (Some head) → is_posted h ≡ false → IsChunkOf chunk c
+  plain_raised : (h c : Notes) (to : ℕ) → may_raise size to (Drafting h c) ≡ true → (calls : List DataCall) (post : Option InFlight) (head : MessageHead) → TellsHead h (Some head) → is_posted h ≡ false → IsChunkOf chunk c
       → KeepsStage size header chunk [] (standing.Raised to head) (raise_sent to (Drafting h c)) × (calls_raised size to (Drafting h c) calls ≡ calls) × (post_raised to (Drafting h c) post ≡ post)
   plain_raised h c to may calls post head says not_so b = (
     subst (λ (x : Stage). KeepsStage size header chunk [] (standing.Raised to head) x) (sym (if_false (is_posted h) Idle (Sending to Raised (fresh_message (head_of h)) c) not_so))
@@ -153,7 +153,7 @@ module _ (size : ℕ) (header : NotedLine) (chunk : NotedChunk) (bytes : List �
     if_false (is_posted h) (Some (record { to = to; head = head_of h; chunk = c; is_answered = false })) post not_so,
   )
 
-  post_raised_so : (h c : Notes) (to : ℕ) → (calls : List DataCall) (post : Option OnItsWay) (head : MessageHead) → TellsHead h (Some head) → is_posted h ≡ true → IsChunkOf chunk c → (now : List ℕ)
+  post_raised_so : (h c : Notes) (to : ℕ) → (calls : List DataCall) (post : Option InFlight) (head : MessageHead) → TellsHead h (Some head) → is_posted h ≡ true → IsChunkOf chunk c → (now : List ℕ)
       → ((m : Progress) (c : Notes) → IsInHand size head [] m → IsChunkOf chunk c → IsThrough size head m c now)
       → KeepsStage size header chunk now standing.Idle (raise_sent to (Drafting h c)) × Adds (Some (call.Post to head)) now calls (calls_raised size to (Drafting h c) calls)
       × KeepsPost (Some (record { to = to; is_answered = false })) (post_raised to (Drafting h c) post)
@@ -166,12 +166,12 @@ module _ (size : ℕ) (header : NotedLine) (chunk : NotedChunk) (bytes : List �
           t.bytes_are,
           if_true (is_posted h) (calls ++ post_to to (message_of (with_chunk size (fresh_message (head_of h)) c)) ∷ []) calls so,
         ),
-        subst (λ (x : Option OnItsWay). KeepsPost (Some (record { to = to; is_answered = false })) x) (sym (if_true (is_posted h) (Some (record { to = to; head = head_of h; chunk = c; is_answered = false })) post so)) (refl, refl),
+        subst (λ (x : Option InFlight). KeepsPost (Some (record { to = to; is_answered = false })) x) (sym (if_true (is_posted h) (Some (record { to = to; head = head_of h; chunk = c; is_answered = false })) post so)) (refl, refl),
       )
 
   -- a send begins: it stays in the stage, and finishes no call
   pub send_begins : (mid : Standing) (st : Stage) → KeepsStage size header chunk bytes mid st → ((j : ℕ) (head : MessageHead) → mid ≢ standing.Filling j head) → (to : ℕ) → may_raise size to st ≡ true
-      → (calls : List DataCall) (post : Option OnItsWay) (head : MessageHead) → ((words : Notes) → IsLineOf header words → TellsHead words (Some head)) → ((words : Notes) → IsLineOf header words → is_posted words ≡ false)
+      → (calls : List DataCall) (post : Option InFlight) (head : MessageHead) → ((words : Notes) → IsLineOf header words → TellsHead words (Some head)) → ((words : Notes) → IsLineOf header words → is_posted words ≡ false)
       → KeepsStage size header chunk [] (standing.Raised to head) (raise_sent to st) × (calls_raised size to st calls ≡ calls) × (post_raised to st post ≡ post)
   send_begins mid st keeps other to may calls post head says plain =
       let x = raises_draft mid st keeps other to may in
@@ -181,7 +181,7 @@ module _ (size : ℕ) (header : NotedLine) (chunk : NotedChunk) (bytes : List �
 
   -- a message is posted: its call is finished, and it is in flight
   pub post_goes : (mid : Standing) (st : Stage) → KeepsStage size header chunk bytes mid st → ((j : ℕ) (head : MessageHead) → mid ≢ standing.Filling j head) → (to : ℕ) → may_raise size to st ≡ true
-      → (calls : List DataCall) (post : Option OnItsWay) (head : MessageHead) → ((words : Notes) → IsLineOf header words → TellsHead words (Some head)) → ((words : Notes) → IsLineOf header words → is_posted words ≡ true)
+      → (calls : List DataCall) (post : Option InFlight) (head : MessageHead) → ((words : Notes) → IsLineOf header words → TellsHead words (Some head)) → ((words : Notes) → IsLineOf header words → is_posted words ≡ true)
       → (now : List ℕ) → ((m : Progress) (c : Notes) → IsInHand size head [] m → IsChunkOf chunk c → IsThrough size head m c now)
       → KeepsStage size header chunk now standing.Idle (raise_sent to st) × Adds (Some (call.Post to head)) now calls (calls_raised size to st calls)
       × KeepsPost (Some (record { to = to; is_answered = false })) (post_raised to st post)
@@ -192,7 +192,7 @@ module _ (size : ℕ) (header : NotedLine) (chunk : NotedChunk) (bytes : List �
       (post_raised_so x.0 x.1 to calls post head (says x.0 x.3) (posted x.0 x.3) x.4 now through)
 
   -- a later chunk is raised
-  pub raised_again : (j : ℕ) (head : MessageHead) (st : Stage) → KeepsStage size header chunk bytes (standing.Filling j head) st → (to : ℕ) → may_raise size to st ≡ true → (calls : List DataCall) (post : Option OnItsWay)
+  pub raised_again : (j : ℕ) (head : MessageHead) (st : Stage) → KeepsStage size header chunk bytes (standing.Filling j head) st → (to : ℕ) → may_raise size to st ≡ true → (calls : List DataCall) (post : Option InFlight)
       → KeepsStage size header chunk bytes (standing.Raised j head) (raise_sent to st) × (calls_raised size to st calls ≡ calls) × (post_raised to st post ≡ post)
   raised_again j head st (AtFill i asked m c o w) to may calls post = (
     subst (λ (r : ℕ). KeepsStage size header chunk bytes (standing.Raised i asked) (Sending r Raised m c)) (same_by_eqb i to (both_first (i == to) (is_drafted size m c) may))
@@ -252,7 +252,7 @@ module _ (size : ℕ) (header : NotedLine) (chunk : NotedChunk) (bytes : List �
       )
 
   -- a lowered `ready` of a posted message leaves the stage
-  pub lowered_other : (mid : Standing) (st : Stage) → KeepsStage size header chunk bytes mid st → ((j : ℕ) (head : MessageHead) → mid ≢ standing.Answered j head) → (by : ℕ) (post : Option OnItsWay) → may_go_on by st post ≡ true
+  pub lowered_other : (mid : Standing) (st : Stage) → KeepsStage size header chunk bytes mid st → ((j : ℕ) (head : MessageHead) → mid ≢ standing.Answered j head) → (by : ℕ) (post : Option InFlight) → may_go_on by st post ≡ true
       → (calls : List DataCall) → KeepsStage size header chunk bytes mid (lower_ready size st) × (calls_sent size st calls ≡ calls)
   lowered_other mid st AtIdle other by post may calls = (AtIdle, refl)
   lowered_other mid st (AtDraft h c a b) other by post may calls = (AtDraft h c a b, refl)

@@ -4,7 +4,7 @@ use Rattle.std.proofs.Math.Nat.{mul-suc}
 use Rattle.scc_base.specs.Heads.{MessageHead, IsHead}
 use Rattle.scc_proto.specs.Messages.{Notes, bytes_from, head_of, has_all, is_head, Progress, fresh_message, chunk_bytes, is_last, is_whole, with_chunk}
 use Rattle.scc_proto.specs.Permission.{drafts_header, drafts_chunk, is_answered_by, is_drafted, is_empty, is_idle, is_whole_header, leaves_heap, has_taken, may_go_on, may_raise, may_release, may_take, says_head}
-use Rattle.scc_proto.specs.Stages.{Stage, OnItsWay}
+use Rattle.scc_proto.specs.Stages.{Stage, InFlight}
 use Rattle.scc_proto.proofs.Words.NoteFacts.{length-bytes_from}
 use Rattle.scc_proto.proofs.Layouts.Roles.{le_is, le_not}
 use Rattle.scc_proto.proofs.Tests.{both_second}
@@ -151,7 +151,7 @@ module _ (size : ℕ) (header : NotedLine) (chunk : NotedChunk) (bytes : List �
       → ((m : Progress) (c : Notes) → IsInHand size head bytes m → IsChunkOf chunk c → drafted ≡ is_drafted size m c) → ((j == to) && drafted) ≡ may_raise size to st
   raise_later j head st (AtFill i asked m c o w) to drafted chunks = ap (λ (x : Bool). (i == to) && x) (chunks m c o w)
 
-  pub goes_answered : (j : ℕ) (head : MessageHead) (st : Stage) → KeepsStage size header chunk bytes (standing.Answered j head) st → (by : ℕ) (post : Option OnItsWay) → (j == by) ≡ may_go_on by st post
+  pub goes_answered : (j : ℕ) (head : MessageHead) (st : Stage) → KeepsStage size header chunk bytes (standing.Answered j head) st → (by : ℕ) (post : Option InFlight) → (j == by) ≡ may_go_on by st post
   goes_answered j head st (AtAnswered i asked m c o w u) by post = refl
 
   pub takes_first : (st : Stage) → KeepsStage size header chunk bytes standing.Idle st → (from : ℕ) (words : Notes) → says_head words ≡ may_take from (Some words) st
@@ -186,7 +186,7 @@ module _ (size : ℕ) (header : NotedLine) (chunk : NotedChunk) (bytes : List �
   raise_other mid st (AtTake i head m c o w) draft fill to = refl
   raise_other mid st (AtMeet comm seen released) draft fill to = refl
 
-  pub goes_sending : (mid : Standing) (st : Stage) → KeepsStage size header chunk bytes mid st → ((j : ℕ) (head : MessageHead) → mid ≢ standing.Answered j head) → is_sending mid ≡ true → (by : ℕ) (post : Option OnItsWay) → false ≡ may_go_on by st post
+  pub goes_sending : (mid : Standing) (st : Stage) → KeepsStage size header chunk bytes mid st → ((j : ℕ) (head : MessageHead) → mid ≢ standing.Answered j head) → is_sending mid ≡ true → (by : ℕ) (post : Option InFlight) → false ≡ may_go_on by st post
   goes_sending mid st AtIdle other so by post = absurd (cc)
   goes_sending mid st (AtDraft h c a b) other so by post = absurd (cc)
   goes_sending mid st (AtFill j head m c o w) other so by post = refl
@@ -196,7 +196,7 @@ module _ (size : ℕ) (header : NotedLine) (chunk : NotedChunk) (bytes : List �
   goes_sending mid st (AtTake i head m c o w) other so by post = absurd (cc)
   goes_sending mid st (AtMeet comm seen released) other so by post = absurd (cc)
 
-  pub goes_posted : (mid : Standing) (st : Stage) → KeepsStage size header chunk bytes mid st → is_sending mid ≡ false → (by : ℕ) (post : Option OnItsWay) → is_answered_by by post ≡ may_go_on by st post
+  pub goes_posted : (mid : Standing) (st : Stage) → KeepsStage size header chunk bytes mid st → is_sending mid ≡ false → (by : ℕ) (post : Option InFlight) → is_answered_by by post ≡ may_go_on by st post
   goes_posted mid st AtIdle not_so by post = refl
   goes_posted mid st (AtDraft h c a b) not_so by post = refl
   goes_posted mid st (AtFill j head m c o w) not_so by post = absurd (cc)

@@ -11,7 +11,7 @@ use Rattle.scc_proto.specs.Messages.{Notes, fresh_message, head_of, is_whole}
 use Rattle.scc_proto.specs.Moves.{Move, DraftHeader, DraftChunk, RaiseSignal, LookSignal, ReadHeader, ReadChunk, LowerSignal, FlipGather, LookGather, WriteRelease, LookRelease, StoreHeap, NoMove, Misplaced}
 use Rattle.scc_proto.specs.Permission.{is_drafted, is_empty, is_whole_header}
 use Rattle.scc_proto.specs.Records.{chunk_of, flags_noted}
-use Rattle.scc_proto.specs.Stages.{Filling, Raised, Answered, Stage, Idle, Drafting, Sending, Between, Taking, Barrier, OnItsWay, Record}
+use Rattle.scc_proto.specs.Stages.{Filling, Raised, Answered, Stage, Idle, Drafting, Sending, Between, Taking, Barrier, InFlight, Record}
 use Rattle.scc_proto.specs.Tables.{put_signal}
 use Rattle.scc_proto.specs.Words.{Role, HeaderWord, ChunkWord, SignalFlag, SignalFlags, GatherFlag, ReleaseFlag, HeapWord, IdleWord, role_of}
 use Rattle.record_machine.specs.declared.next.NextEvent.{NextEvent}
@@ -20,7 +20,7 @@ use Rattle.record_machine.specs.declared.next.NextStore.{NextStore}
 use Rattle.record_machine.specs.declared.next.NextStore.TheVariants as may
 
 -- the stores that messages and barriers allow next, if a full chunk has `size` bytes
-abbrev pub store_allowed : ℕ → Stage → Option OnItsWay → (ℕ → Option Notes) → NextStore
+abbrev pub store_allowed : ℕ → Stage → Option InFlight → (ℕ → Option Notes) → NextStore
 store_allowed size Idle None notes = may.Begin
 store_allowed size Idle (Some post) notes = may.BesidePost post.to
 store_allowed size (Drafting header chunk) post notes =
@@ -34,12 +34,12 @@ store_allowed size (Taking from message chunk) post notes = if is_whole size mes
 store_allowed size (Barrier comm seen released) post notes = may.Meet comm
 
 -- the rank that has taken the post in flight, if one has
-abbrev pub taker_of : Option OnItsWay → Option ℕ
+abbrev pub taker_of : Option InFlight → Option ℕ
 taker_of None = None
 taker_of (Some post) = if post.is_answered then Some post.to else None
 
 -- whose `ready` may be lowered beside these, for a post that is taken
-abbrev pub ready_allowed : Stage → Option OnItsWay → Option ℕ
+abbrev pub ready_allowed : Stage → Option InFlight → Option ℕ
 ready_allowed Idle post = taker_of post
 ready_allowed (Drafting header chunk) post = taker_of post
 ready_allowed (Sending to part message chunk) post = None

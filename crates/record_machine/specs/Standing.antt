@@ -2,7 +2,7 @@
 use Rattle.std.specs.Prelude.{◌≡◌, Bool, true, false, ℕ, ◌*◌, ◌<◌, ◌≤◌, ◌%◌, List, length, Option, None, Some, slice_index, slice_index_or}
 use Rattle.scc_base.specs.Heads.{MessageHead, IsHead}
 use Rattle.scc_proto.specs.Messages.{Notes, Progress, is_whole}
-use Rattle.scc_proto.specs.Stages.{Filling, Raised, Answered, Stage, Idle, Drafting, Sending, Between, Taking, Barrier, OnItsWay, Record}
+use Rattle.scc_proto.specs.Stages.{Filling, Raised, Answered, Stage, Idle, Drafting, Sending, Between, Taking, Barrier, InFlight, Record}
 use Rattle.record_machine.specs.Noted.{IsChunkOf, IsLineOf}
 use Rattle.record_machine.specs.declared.chunks.NotedChunk.{NotedChunk}
 use Rattle.record_machine.specs.declared.lines.NotedLine.{NotedLine}
@@ -74,7 +74,7 @@ pub data KeepsStage (size : ℕ) (header : NotedLine) (chunk : NotedChunk) (byte
   AtMeet : (comm seen released : ℕ) → KeepsStage size header chunk bytes (standing.Meeting comm seen released) (Barrier comm seen released)
 
 -- what is kept of a post in flight
-abbrev pub KeepsPost : Option Posted → Option OnItsWay → Type 0
+abbrev pub KeepsPost : Option Posted → Option InFlight → Type 0
 KeepsPost None None = Unit {0}
 KeepsPost (Some posted) (Some post) = (posted.to ≡ post.to) × (posted.is_answered ≡ post.is_answered)
 KeepsPost posted post = ⊥

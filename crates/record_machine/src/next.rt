@@ -64,14 +64,14 @@ pub enum NextEvent {
 impl Work {
     ghost use Rattle.std.specs.Prelude.{◌≡◌, ℕ, Option};
     ghost use Rattle.scc_proto.specs.Messages.{Notes, Progress};
-    ghost use Rattle.scc_proto.specs.Stages.{Filling, Idle, Between, OnItsWay, Record, Sending, Taking};
+    ghost use Rattle.scc_proto.specs.Stages.{Filling, Idle, Between, InFlight, Record, Sending, Taking};
     ghost use Rattle.record_machine.specs.Next.{ready_allowed, store_allowed};
     ghost use Rattle.record_machine.specs.Noted.{IsChunkOf};
     ghost use Rattle.record_machine.specs.Standing.{IsInHand, KeepsPost, KeepsSaid, StandsFor};
 
     /// If no call is unfinished.
     fn idle_allowed(&self) -> NextStore
-        ensures gives { (size : ℕ) (post : Option OnItsWay) (notes : ℕ → Option Notes) → KeepsPost self.now.post post
+        ensures gives { (size : ℕ) (post : Option InFlight) (notes : ℕ → Option Notes) → KeepsPost self.now.post post
             → result ≡ store_allowed size Idle post notes }
     {
         match self.post {
@@ -82,7 +82,7 @@ impl Work {
 
     /// While a later chunk is half written.
     fn filling_allowed(&self, to: Rank, head: Head) -> NextStore
-        ensures gives { (message : Progress) (chunk : Notes) (post : Option OnItsWay) (notes : ℕ → Option Notes)
+        ensures gives { (message : Progress) (chunk : Notes) (post : Option InFlight) (notes : ℕ → Option Notes)
             → IsInHand self.now.size head self.now.bytes.items message → IsChunkOf self.now.chunk chunk
             → result ≡ store_allowed self.now.size (Sending to Filling message chunk) post notes }
     {
@@ -98,7 +98,7 @@ impl Work {
 
     /// Between two chunks that are taken.
     fn pause_allowed(&self, from: Rank) -> NextStore
-        ensures gives { (size : ℕ) (message : Progress) (post : Option OnItsWay) (notes : ℕ → Option Notes) → KeepsSaid self.now.said notes
+        ensures gives { (size : ℕ) (message : Progress) (post : Option InFlight) (notes : ℕ → Option Notes) → KeepsSaid self.now.said notes
             → result ≡ store_allowed size (Between from message) post notes }
     {
         let line = self.said[from.number() as usize];
@@ -111,7 +111,7 @@ impl Work {
 
     /// While a chunk is being taken.
     fn taking_allowed(&self, from: Rank, head: Head) -> NextStore
-        ensures gives { (message : Progress) (chunk : Notes) (post : Option OnItsWay) (notes : ℕ → Option Notes)
+        ensures gives { (message : Progress) (chunk : Notes) (post : Option InFlight) (notes : ℕ → Option Notes)
             → IsInHand self.now.size head self.now.bytes.items message → IsChunkOf self.now.chunk chunk
             → result ≡ store_allowed self.now.size (Taking from message chunk) post notes }
     {

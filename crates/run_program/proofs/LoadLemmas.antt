@@ -22,8 +22,8 @@ use Rattle.rcce_words.specs.declared.command.WordFault.{WordFault}
 use Rattle.rcce_words.specs.declared.host_file.HostFault.{HostFault}
 use Rattle.run_program.specs.Asking.{AreHosts, AsksFor, IsScript, hosts_asked, seed_of, setup_by}
 use Rattle.run_program.specs.History.{Asked}
-use Rattle.run_program.specs.Loading.{AsksBehind, AsksListed, AsksMade, AsksOn, LoadsBy, LoadsPlan, LoadsWords, asked_by}
-use Rattle.run_program.specs.Program.{file_plan, hosts_plan, listed_plan, made_plan, plan_behind, run_plan, work_plan}
+use Rattle.run_program.specs.Loading.{AsksAfter, AsksListed, AsksMade, AsksOn, LoadsBy, LoadsPlan, LoadsWords, asked_by}
+use Rattle.run_program.specs.Program.{file_plan, hosts_plan, listed_plan, made_plan, plan_after, run_plan, work_plan}
 use Rattle.run_program.specs.Reports.{made_ran, ran_by}
 use Rattle.run_program.specs.Runs.{IsMadeOf}
 use Rattle.run_program.specs.declared.loaded.Loaded.{Loaded}
@@ -98,29 +98,29 @@ comes_unlisted list next bytes nue fault files o gives is =
 
 -- the host file that the words name, or none
 pub loads_named : (words : List (List ℕ)) (told : Option (List NamedFile)) (job : Job) (hosts : Option ℕ) (at : ℕ) (file : List ℕ) (before after : FilesView) (answer : Result Loaded Complaint)
-    → hosts ≡ Some at → LoadsPlan (plan_behind words job.nue (file_plan file job.nue) (Some at)) (AsksListed (word_numbered words at) file told job) before after answer
-    → LoadsPlan (plan_behind words job.nue (file_plan file job.nue) hosts) (AsksBehind words told job hosts file) before after answer
+    → hosts ≡ Some at → LoadsPlan (plan_after words job.nue (file_plan file job.nue) (Some at)) (AsksListed (word_numbered words at) file told job) before after answer
+    → LoadsPlan (plan_after words job.nue (file_plan file job.nue) hosts) (AsksAfter words told job hosts file) before after answer
 loads_named words told job hosts at file before after answer is leads =
-    subst (λ (h : Option ℕ). LoadsPlan (plan_behind words job.nue (file_plan file job.nue) h) (AsksBehind words told job h file) before after answer) (sym is)
-    (loads_less _ (AsksListed (word_numbered words at) file told job) (AsksBehind words told job (Some at) file) before after answer
+    subst (λ (h : Option ℕ). LoadsPlan (plan_after words job.nue (file_plan file job.nue) h) (AsksAfter words told job h file) before after answer) (sym is)
+    (loads_less _ (AsksListed (word_numbered words at) file told job) (AsksAfter words told job (Some at) file) before after answer
     (λ asked all. record { hosts = all.hosts; are_hosts = all.listed; on = all.on }) leads)
 
 pub loads_unnamed : (words : List (List ℕ)) (told : Option (List NamedFile)) (job : Job) (hosts : Option ℕ) (cores file : List ℕ) (before after : FilesView) (answer : Result Loaded Complaint)
     → hosts ≡ None → cores ≡ default_hosts → LoadsPlan (file_plan file job.nue) (AsksOn file told job cores) before after answer
-    → LoadsPlan (plan_behind words job.nue (file_plan file job.nue) hosts) (AsksBehind words told job hosts file) before after answer
+    → LoadsPlan (plan_after words job.nue (file_plan file job.nue) hosts) (AsksAfter words told job hosts file) before after answer
 loads_unnamed words told job hosts cores file before after answer is own leads =
-    subst (λ (h : Option ℕ). LoadsPlan (plan_behind words job.nue (file_plan file job.nue) h) (AsksBehind words told job h file) before after answer) (sym is)
-    (loads_less _ (AsksOn file told job cores) (AsksBehind words told job None file) before after answer
+    subst (λ (h : Option ℕ). LoadsPlan (plan_after words job.nue (file_plan file job.nue) h) (AsksAfter words told job h file) before after answer) (sym is)
+    (loads_less _ (AsksOn file told job cores) (AsksAfter words told job None file) before after answer
     (λ asked on. record { hosts = cores; are_hosts = own; on = on }) leads)
 
 -- what a job asks for
 pub loads_work : (words : List (List ℕ)) (told : Option (List NamedFile)) (job : Job) (work : Work) (at : ℕ) (before after : FilesView) (answer : Result Loaded Complaint)
-    → job.work ≡ work → work ≡ works.Script at → LoadsPlan (plan_behind words job.nue (file_plan (word_numbered words at) job.nue) job.hosts) (AsksBehind words told job job.hosts (word_numbered words at)) before after answer
+    → job.work ≡ work → work ≡ works.Script at → LoadsPlan (plan_after words job.nue (file_plan (word_numbered words at) job.nue) job.hosts) (AsksAfter words told job job.hosts (word_numbered words at)) before after answer
     → LoadsBy (work_plan words job job.work) (AsksFor words told job) before after answer
 loads_work words told job work at before after answer same is leads =
     let here : job.work ≡ works.Script at = same ∙ is in
     subst (λ (x : Work). LoadsBy (work_plan words job x) (AsksFor words told job) before after answer) (sym here)
-    (loads_less _ (AsksBehind words told job job.hosts (word_numbered words at)) (AsksFor words told job) before after answer
+    (loads_less _ (AsksAfter words told job job.hosts (word_numbered words at)) (AsksFor words told job) before after answer
     (λ asked all. record {
       job_is = all.on.job_is;
       hosts = all.hosts;

@@ -62,7 +62,7 @@ pub record AsksListed (list file : List ℕ) (told : Option (List NamedFile)) (j
   pub on : AsksOn file told job hosts asked
 
 -- a run of the script in a file on the hosts that words ask for
-pub record AsksBehind (words : List (List ℕ)) (told : Option (List NamedFile)) (job : Job) (at : Option ℕ) (file : List ℕ)
+pub record AsksAfter (words : List (List ℕ)) (told : Option (List NamedFile)) (job : Job) (at : Option ℕ) (file : List ℕ)
     (asked : Asked) : Type 0 where
   pub hosts : List ℕ
   pub are_hosts : AreHosts words told job.nue at hosts

@@ -33,9 +33,9 @@ abbrev pub hosts_plan : List ℕ → ℕ → Plan → List ℕ → Plan
 hosts_plan file nue next bytes = listed_plan file next (parse_hosts bytes nue)
 
 -- the host file comes first, if there is one, and has at most 64 KiB
-abbrev pub plan_behind : List (List ℕ) → ℕ → Plan → Option ℕ → Plan
-plan_behind words nue next None = next
-plan_behind words nue next (Some at) = Reads (word_numbered words at) most_host_bytes (hosts_plan (word_numbered words at) nue next)
+abbrev pub plan_after : List (List ℕ) → ℕ → Plan → Option ℕ → Plan
+plan_after words nue next None = next
+plan_after words nue next (Some at) = Reads (word_numbered words at) most_host_bytes (hosts_plan (word_numbered words at) nue next)
 
 -- the run of the script that is made of a number: no file is asked for
 abbrev pub made_plan : ℕ → ℕ → Plan
@@ -43,7 +43,7 @@ made_plan nue seed = Runs (made_ran seed (gen_script_of nue seed))
 
 -- the script of a file, after the host file; or one that is made of a number
 abbrev pub work_plan : List (List ℕ) → Job → Work → Result Plan (List ℕ)
-work_plan words job (work.Script at) = Ok (plan_behind words job.nue (file_plan (word_numbered words at) job.nue) job.hosts)
+work_plan words job (work.Script at) = Ok (plan_after words job.nue (file_plan (word_numbered words at) job.nue) job.hosts)
 work_plan words job (work.Gen seed) = Ok (made_plan job.nue seed)
 
 -- the words: refused, or a job

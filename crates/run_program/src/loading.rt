@@ -12,8 +12,8 @@ ghost use Rattle.rcce_words.specs.CommandLine.{IsSeedInRange, parse_command};
 ghost use Rattle.rcce_words.specs.HostFile.{host_kind_name, most_host_bytes};
 ghost use Rattle.run_program.specs.Asking.{AsksFor, layout_by, setup_by};
 ghost use Rattle.script_gen.specs.Texts.{gen_text};
-ghost use Rattle.run_program.specs.Loading.{AsksBehind, AsksListed, AsksMade, AsksOn, LoadsBy, LoadsPlan, LoadsWords};
-ghost use Rattle.run_program.specs.Program.{file_plan, hosts_plan, made_plan, plan_behind, work_plan};
+ghost use Rattle.run_program.specs.Loading.{AsksAfter, AsksListed, AsksMade, AsksOn, LoadsBy, LoadsPlan, LoadsWords};
+ghost use Rattle.run_program.specs.Program.{file_plan, hosts_plan, made_plan, plan_after, work_plan};
 
 use crate::loaded::Loaded;
 use outcomes::{Complaint, read_file};
@@ -58,7 +58,7 @@ fn load_job<'a, F: Files>(
         (F.seen files.old) (F.seen files.new) result }
 {
     match job.work {
-        Work::Script(at) => load_behind(alloc, words, files, job, word_at(words, at)),
+        Work::Script(at) => load_after(alloc, words, files, job, word_at(words, at)),
         Work::Gen(seed) => load_made(alloc, job, seed),
     }
 }
@@ -92,7 +92,7 @@ fn read_made<'a>(alloc: Global, job: Job, seed: u32, text: &[u8]) -> Result<Load
 }
 
 // Reads the host file, if there is one, and goes on with the hosts.
-fn load_behind<'a, F: Files>(
+fn load_after<'a, F: Files>(
     alloc: Global,
     words: &'a [String],
     files: &mut F,
@@ -101,8 +101,8 @@ fn load_behind<'a, F: Files>(
 ) -> Result<Loaded, Complaint<'a>>
     requires some { 1 ≤ job.nue }
     requires most { job.nue ≤ 48 }
-    ensures { LoadsPlan (plan_behind (map string_bytes words.now) job.nue (file_plan script.now job.nue) job.hosts)
-        (AsksBehind (map string_bytes words.now) (F.seen files.old).told job job.hosts script.now) (F.seen files.old)
+    ensures { LoadsPlan (plan_after (map string_bytes words.now) job.nue (file_plan script.now job.nue) job.hosts)
+        (AsksAfter (map string_bytes words.now) (F.seen files.old).told job job.hosts script.now) (F.seen files.old)
         (F.seen files.new) result }
 {
     match job.hosts {

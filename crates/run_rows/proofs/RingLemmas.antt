@@ -31,10 +31,10 @@ use Rattle.waiting_laws.proofs.Messages.{receives_here, sends_here}
 use Rattle.waiting_laws.proofs.Waited.{turn_waited}
 use Rattle.chip_teams.specs.Teams.{sight_alone}
 use Rattle.scc_mesh.specs.Scenes.{ChipView, IsNew, about_in, events_in}
-use Rattle.chip_run.specs.Away.{IsAtHome, conduct_of_members}
+use Rattle.chip_run.specs.Away.{IsAtHome, behaviour_of_members}
 use Rattle.chip_run.specs.Crews.{IsCrew}
 use Rattle.chip_run.specs.declared.members.Member.{Member}
-use Rattle.run_rows.specs.Rings.{IsAtMessage, IsPassing, IsSeated, message_to_begin, after_receiving, after_sending, ring_left, left_of_receive, left_of_send, passer_conduct, passer_seen}
+use Rattle.run_rows.specs.Rings.{IsAtMessage, IsPassing, IsSeated, message_to_begin, after_receiving, after_sending, ring_left, left_of_receive, left_of_send, passer_behaviour, passer_seen}
 use Rattle.run_rows.specs.declared.rings.Message.{Message}
 use Rattle.run_rows.specs.declared.rings.Message.TheVariants.{Sending, Receiving, Over}
 use Rattle.run_rows.specs.declared.rings.Passer.{Passer}
@@ -121,7 +121,7 @@ module _ (s : SetupView) (head : MessageHead) (from to : ℕ) where
 -- a turn, after which the rank's state agrees with its events
 pub record Passes (stepped : Seat → List Event → Event → Type 0) (p : Passer) (s : Sight) (now : Passer) (t : Sight) (answer : Turn) : Type 0 where
   pub ties : IsPassing now t.seat.setup t.seat.rank t.events
-  pub turned : Turned passer_conduct (stepped s.seat) p s now t answer
+  pub turned : Turned passer_behaviour (stepped s.seat) p s now t answer
 
 -- after the turn the state may be replaced by an equal one
 pub passes_to : (stepped : Seat → List Event → Event → Type 0) (p : Passer) (s : Sight) (now spelled : Passer) (t : Sight) (answer : Turn) → now ≡ spelled → Passes stepped p s now t answer → Passes stepped p s spelled t answer
@@ -180,7 +180,7 @@ module _ (stepped : Seat → List Event → Event → Type 0) (p : Passer) (op n
       events = turned.events;
       did = turned.did;
       means = turn_waited (stepped s.seat) (aim_at s.seat.setup.layout (send_spot s.seat op p.slot)) s t turned.events spot turned.did (made turned.events turned.did) turned.tried (turned.rests spot refl)
-          turned.means.2 passer_conduct before_send sent_on (Want.Send op.to op.head) refl (record { from = refl; to = refl; is_first = refl })
+          turned.means.2 passer_behaviour before_send sent_on (Want.Send op.to op.head) refl (record { from = refl; to = refl; is_first = refl })
           (λ i. passer_seen s.seat.setup s.seat.rank (record p { slot = turned.means.1 i; message = Sending (turned.means.0 i) }))
           (λ memory records aim look is. sends_here s.seat memory records (record_in s) aim look p.core op p.slot p.number (shown before_send s ties) is);
     };
@@ -253,7 +253,7 @@ module _ (stepped : Seat → List Event → Event → Type 0) (p : Passer) (op n
       events = turned.events;
       did = turned.did;
       means = turn_waited (stepped s.seat) (aim_at s.seat.setup.layout (recv_spot s.seat op)) s t turned.events spot turned.did (made turned.events turned.did) turned.tried (turned.rests spot refl)
-          turned.means.2 passer_conduct before_receive got_on (Want.Recv op.from) refl (record { from = refl; to = refl; is_first = refl })
+          turned.means.2 passer_behaviour before_receive got_on (Want.Recv op.from) refl (record { from = refl; to = refl; is_first = refl })
           (λ i. passer_seen s.seat.setup s.seat.rank (record p { message = Receiving (turned.means.0 i) }))
           (λ memory records aim look is. receives_here s.seat memory records (record_in s) aim look p.core op p.number at_before.0 is);
     };
@@ -284,7 +284,7 @@ peers_of : (s : SetupView) (i j : ℕ) → s.nue ≡ 4 → (nat_lt i 4 && (nat_l
 peers_of s i j four both = ap (λ (n : ℕ). nat_lt i n && (nat_lt j n && not (i == j))) four ∙ both
 
 pub four_seated : (chip : ChipView) (a b c e : Member Passer) → IsNew (about_in chip) chip → (about_in chip).nue ≡ 4 → IsSeated a 3 1 → IsSeated b 0 2 → IsSeated c 1 3 → IsSeated e 2 0
-    → IsCrew (conduct_of_members passer_conduct) chip (a ∷ b ∷ c ∷ e ∷ [])
+    → IsCrew (behaviour_of_members passer_behaviour) chip (a ∷ b ∷ c ∷ e ∷ [])
 four_seated chip a b c e new four one two three last = record { whole = new.whole; each = sym four; ties = ties }
   where
     at : (m : Member Passer) (from to k : ℕ) → IsSeated m from to → are_peers (about_in chip) k from ≡ true → are_peers (about_in chip) k to ≡ true → IsAtHome (IsPassing m.worker) m.token (about_in chip) k (events_in chip k)

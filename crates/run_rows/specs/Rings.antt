@@ -11,7 +11,7 @@ use Rattle.send_recv.specs.Calling.{IsBetweenMessages}
 use Rattle.send_recv.specs.Ops.{SlotAt, new_receive, new_send}
 use Rattle.send_recv.specs.Receiving.{RecvStands, recv_left}
 use Rattle.send_recv.specs.Sending.{SendStands, SlotStands, send_left}
-use Rattle.chip_run.specs.Conducts.{Conduct, WorkerView}
+use Rattle.chip_run.specs.Behaves.{Behaviour, WorkerView}
 use Rattle.chip_run.specs.Turns.{RankHoldsNone}
 use Rattle.chip_run.specs.declared.members.Member.{Member}
 use Rattle.chip_run.specs.Wants.{Want}
@@ -88,8 +88,8 @@ pub record KeepsPlace (old new : Passer) : Type 0 where
   pub is_first : new.is_first ≡ old.is_first
 
 -- the protocol of the ring's ranks in a run
-abbrev pub passer_conduct : Conduct Passer
-passer_conduct = record { seen = passer_seen; tied = IsPassing; moves = KeepsPlace; stays = KeepsPlace }
+abbrev pub passer_behaviour : Behaviour Passer
+passer_behaviour = record { seen = passer_seen; tied = IsPassing; moves = KeepsPlace; stays = KeepsPlace }
 
 -- a rank of the ring before its first turn; its port is with the chip, and its neighbours are these two
 pub record IsSeated (m : Member Passer) (from to : ℕ) : Type 0 where

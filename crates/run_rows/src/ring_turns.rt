@@ -3,7 +3,7 @@
 ghost use Rattle.std.specs.Prelude.{◌≡◌, ◌<◌};
 ghost use Rattle.scc_base.specs.Heads.{plain_head};
 ghost use Rattle.chip_run.specs.Turns.{Turned};
-ghost use Rattle.run_rows.specs.Rings.{IsPassing, IsSeated, message_to_begin, passer_conduct};
+ghost use Rattle.run_rows.specs.Rings.{IsPassing, IsSeated, message_to_begin, passer_behaviour};
 
 use crate::rings::{Message, Passer};
 use chip_run::{Member, Worker};
@@ -17,7 +17,7 @@ use send_recv::{RecvOp, RecvTurn, SendOp, Slot};
 fn go_on<P: Port>(rank: &mut Passer, port: &mut P) -> Turn
     requires ties { IsPassing rank.old (P.sight port.old).seat.setup (P.sight port.old).seat.rank (P.sight port.old).events }
     ensures ties { IsPassing rank.new (P.sight port.new).seat.setup (P.sight port.new).seat.rank (P.sight port.new).events }
-    ensures turned { Turned passer_conduct (P.stepped (P.sight port.old).seat) rank.old (P.sight port.old) rank.new
+    ensures turned { Turned passer_behaviour (P.stepped (P.sight port.old).seat) rank.old (P.sight port.old) rank.new
         (P.sight port.new) result }
 {
     match &mut rank.message {
@@ -50,9 +50,9 @@ fn go_on<P: Port>(rank: &mut Passer, port: &mut P) -> Turn
 }
 
 impl Worker for Passer {
-    ghost use Rattle.run_rows.specs.Rings.{passer_conduct};
+    ghost use Rattle.run_rows.specs.Rings.{passer_behaviour};
 
-    ghost conduct = { passer_conduct };
+    ghost behaviour = { passer_behaviour };
 
     fn turn<P: Port>(&mut self, port: P) -> (Turn, P) {
         let mut port = port;
@@ -60,7 +60,7 @@ impl Worker for Passer {
         (answer, port)
     }
 
-    fn stretch<P: Port>(&mut self, port: P) -> (Turn, P) {
+    fn batch<P: Port>(&mut self, port: P) -> (Turn, P) {
         self.turn(port)
     }
 

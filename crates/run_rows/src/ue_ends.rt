@@ -183,6 +183,6 @@ const COUNTED: &[Row<'static>] = &[(
 )];
 
 #[test]
-fn a_message_on_its_way_is_counted_once(rt: HostRuntime) -> Result<(), Fail> {
+fn a_message_in_flight_is_counted_once(rt: HostRuntime) -> Result<(), Fail> {
     always_come_to(&rt, rt.alloc(), COUNTED)
 }

@@ -7,7 +7,7 @@ use Rattle.scc_base.specs.Setups.{SetupView}
 use Rattle.scc_base.specs.declared.signals.Signal.{Signal}
 use Rattle.scc_base.specs.declared.signals.Signal.TheVariants.{Sent, Ready}
 use Rattle.scc_proto.specs.Messages.{Notes, Progress, fresh_message, head_of, is_whole}
-use Rattle.scc_proto.specs.Stages.{Part, Filling, Raised, Answered, Stage, Idle, Drafting, Sending, Between, Taking, Barrier, OnItsWay, Record}
+use Rattle.scc_proto.specs.Stages.{Part, Filling, Raised, Answered, Stage, Idle, Drafting, Sending, Between, Taking, Barrier, InFlight, Record}
 use Rattle.scc_proto.specs.Moves.{Move, DraftHeader, DraftChunk, RaiseSignal, LowerSignal, FlipGather, WriteRelease, Misplaced}
 use Rattle.scc_proto.specs.Permission.{drafts_header, drafts_chunk, is_whole_header, says_head, is_drafted, may_raise, may_take, has_taken, is_answered_by, may_go_on, is_idle, may_release, leaves_heap, permits}
 use Rattle.scc_proto.specs.Words.{Role, HeapWord, IdleWord, SignalFlags, role_of}
@@ -148,7 +148,7 @@ chunk_may stage (inr (inl x)) = ap drafts_chunk x.2
 chunk_may stage (inr (inr x)) = ap drafts_chunk x.3
 
 -- no post is on its way, and a test of the stage holds
-with_no_post : (post : Option OnItsWay) (test : Bool) (P : Type 0) → ((test ≡ true) ↔ P) → ((is_none post && test) ≡ true) ↔ ((post ≡ None) × P)
+with_no_post : (post : Option InFlight) (test : Bool) (P : Type 0) → ((test ≡ true) ↔ P) → ((is_none post && test) ≡ true) ↔ ((post ≡ None) × P)
 with_no_post post test P is = (
   λ t. (none_is post (both_first (is_none post) test t), is.0 (both_second (is_none post) test t)),
   λ x. both (is_none post) test (is_none_of post x.0) (is.1 x.1),
@@ -244,20 +244,20 @@ ready_where size to rec = (
 abbrev IsInNoSend : Stage → Type 0
 IsInNoSend stage = (to : ℕ) (part : Part) (message : Progress) (chunk : Notes) → stage ≢ Sending to part message chunk
 
-abbrev IsAnswered : ℕ → Option OnItsWay → Type 0
-IsAnswered by o = (post : OnItsWay) × (o ≡ Some post) × (post.to ≡ by) × (post.is_answered ≡ true)
+abbrev IsAnswered : ℕ → Option InFlight → Type 0
+IsAnswered by o = (post : InFlight) × (o ≡ Some post) × (post.to ≡ by) × (post.is_answered ≡ true)
 
-abbrev LowersReady : ℕ → Stage → Option OnItsWay → Type 0
-LowersReady by stage o = ((message : Progress) × (chunk : Notes) × (stage ≡ Sending by Answered message chunk)) ⊎ (IsInNoSend stage × (post : OnItsWay) × (o ≡ Some post) × (post.to ≡ by) × (post.is_answered ≡ true))
+abbrev LowersReady : ℕ → Stage → Option InFlight → Type 0
+LowersReady by stage o = ((message : Progress) × (chunk : Notes) × (stage ≡ Sending by Answered message chunk)) ⊎ (IsInNoSend stage × (post : InFlight) × (o ≡ Some post) × (post.to ≡ by) × (post.is_answered ≡ true))
 
-answered : (by : ℕ) (o : Option OnItsWay) → is_answered_by by o ≡ true → IsAnswered by o
+answered : (by : ℕ) (o : Option InFlight) → is_answered_by by o ≡ true → IsAnswered by o
 answered by None t = absurd (cc)
 answered by (Some post) t = (post, refl, same_by_eqb post.to by (both_first (post.to == by) post.is_answered t), both_second (post.to == by) post.is_answered t)
 
-is_answered_of : (by : ℕ) (o : Option OnItsWay) → IsAnswered by o → is_answered_by by o ≡ true
+is_answered_of : (by : ℕ) (o : Option InFlight) → IsAnswered by o → is_answered_by by o ≡ true
 is_answered_of by o x = ap (is_answered_by by) x.1 ∙ both (x.0.to == by) x.0.is_answered (ap (λ (i : ℕ). i == by) x.2 ∙ eqb_same by) x.3
 
-goes_on : (by : ℕ) (stage : Stage) (o : Option OnItsWay) → may_go_on by stage o ≡ true → LowersReady by stage o
+goes_on : (by : ℕ) (stage : Stage) (o : Option InFlight) → may_go_on by stage o ≡ true → LowersReady by stage o
 goes_on by (Sending to Answered message chunk) o t = inl (message, chunk, ap (λ (i : ℕ). Sending i Answered message chunk) (same_by_eqb to by t))
 goes_on by (Sending to Filling message chunk) o t = absurd (cc)
 goes_on by (Sending to Raised message chunk) o t = absurd (cc)
@@ -267,7 +267,7 @@ goes_on by (Between from m) o t = let a = answered by o t in inr (λ to part mes
 goes_on by (Taking from m c) o t = let a = answered by o t in inr (λ to part message chunk e. absurd (cc), a.0, a.1, a.2, a.3)
 goes_on by (Barrier comm seen released) o t = let a = answered by o t in inr (λ to part message chunk e. absurd (cc), a.0, a.1, a.2, a.3)
 
-goes_in_no_send : (by : ℕ) (stage : Stage) (o : Option OnItsWay) → IsInNoSend stage → is_answered_by by o ≡ true → may_go_on by stage o ≡ true
+goes_in_no_send : (by : ℕ) (stage : Stage) (o : Option InFlight) → IsInNoSend stage → is_answered_by by o ≡ true → may_go_on by stage o ≡ true
 goes_in_no_send by (Sending to part message chunk) o other t = absurd (other to part message chunk refl)
 goes_in_no_send by Idle o other t = t
 goes_in_no_send by (Drafting header chunk) o other t = t
@@ -275,7 +275,7 @@ goes_in_no_send by (Between from m) o other t = t
 goes_in_no_send by (Taking from m c) o other t = t
 goes_in_no_send by (Barrier comm seen released) o other t = t
 
-may_lower : (by : ℕ) (stage : Stage) (o : Option OnItsWay) → LowersReady by stage o → may_go_on by stage o ≡ true
+may_lower : (by : ℕ) (stage : Stage) (o : Option InFlight) → LowersReady by stage o → may_go_on by stage o ≡ true
 may_lower by stage o (inl x) = ap (λ (st : Stage). may_go_on by st o) x.2 ∙ eqb_same by
 may_lower by stage o (inr x) = goes_in_no_send by stage o x.0 (is_answered_of by o (x.1, x.2, x.3, x.4))
 

@@ -7,7 +7,7 @@ use Rattle.scc_base.specs.declared.signals.Signal.{Signal}
 use Rattle.scc_base.specs.declared.signals.Signal.TheVariants.{Sent, Ready}
 use Rattle.scc_proto.specs.Tables.{table_with}
 use Rattle.scc_proto.specs.Messages.{Notes, noted_word, note_word, head_of, fresh_message, is_last, with_chunk, message_of, send_to, recv_from, post_to}
-use Rattle.scc_proto.specs.Stages.{Filling, Raised, Answered, Stage, Idle, Drafting, Sending, Between, Taking, Barrier, OnItsWay, HeapStore, Record}
+use Rattle.scc_proto.specs.Stages.{Filling, Raised, Answered, Stage, Idle, Drafting, Sending, Between, Taking, Barrier, InFlight, HeapStore, Record}
 
 -- what one event is to the messages, the barriers and the heap. `last` is the place of the last member in
 -- the own group, where the root has place 0. A look tells of each rank whether its flag was seen set.
@@ -118,17 +118,17 @@ stage_after size (LookRelease comm value) rec = look_release comm value (rec.fli
 stage_after size move rec = rec.stage
 
 -- a posted message is on its way from its raise to the lowering of its `ready`
-abbrev pub post_raised : ℕ → Stage → Option OnItsWay → Option OnItsWay
+abbrev pub post_raised : ℕ → Stage → Option InFlight → Option InFlight
 post_raised to (Drafting header chunk) post =
     if is_posted header then Some (record { to = to; head = head_of header; chunk = chunk; is_answered = false }) else post
 post_raised to stage post = post
 
 -- the sender of a posted message sees that it was taken
-abbrev pub post_answered : (ℕ → Bool) → OnItsWay → OnItsWay
+abbrev pub post_answered : (ℕ → Bool) → InFlight → InFlight
 post_answered is_set post = record post { is_answered = if is_set post.to then true else post.is_answered }
 
 -- the posted message on its way after a move
-abbrev pub post_after : Move → Record → Option OnItsWay
+abbrev pub post_after : Move → Record → Option InFlight
 post_after (RaiseSignal Sent to) rec = post_raised to rec.stage rec.post
 post_after (LookSignal Ready is_set) rec = option_map (post_answered is_set) rec.post
 post_after (LowerSignal Ready by) rec = None

@@ -5,7 +5,7 @@ use Rattle.scc_base.specs.Calls.{Message}
 use Rattle.scc_base.specs.declared.signals.Signal.TheVariants.{Sent, Ready}
 use Rattle.scc_base.specs.Heads.{MessageHead}
 use Rattle.scc_proto.specs.Messages.{Notes, StandsIn, header_word, Progress, fresh_message, is_last, with_chunk, message_of, sent_messages, received_messages}
-use Rattle.scc_proto.specs.Stages.{Part, Filling, Raised, Answered, Stage, Drafting, Sending, Between, Taking, OnItsWay, Record}
+use Rattle.scc_proto.specs.Stages.{Part, Filling, Raised, Answered, Stage, Drafting, Sending, Between, Taking, InFlight, Record}
 use Rattle.scc_proto.specs.Views.{View}
 
 -- the sender's side of a pair: no chunk is raised to the receiver, or one is, whether its `ready` was seen
@@ -26,12 +26,12 @@ side_of_part Raised message chunk = Offering false false message chunk
 side_of_part Answered message chunk = Offering true false message chunk
 
 -- the sender's side of a pair, by the message that it posted
-abbrev pub side_of_post : ℕ → Option OnItsWay → SendingSide
+abbrev pub side_of_post : ℕ → Option InFlight → SendingSide
 side_of_post r None = Resting None
 side_of_post r (Some post) = if post.to == r then Offering post.is_answered true (fresh_message post.head) post.chunk else Resting None
 
 -- a rank's side toward a receiver
-abbrev pub sending_side : ℕ → Stage → Option OnItsWay → SendingSide
+abbrev pub sending_side : ℕ → Stage → Option InFlight → SendingSide
 sending_side r (Sending to part message chunk) post = if to == r then side_of_part part message chunk else Resting None
 sending_side r stage post = side_of_post r post
 
@@ -156,7 +156,7 @@ DraftStands (Sending to part message noted_chunk) header chunk = HeaderStands me
 DraftStands stage header chunk = Unit {0}
 
 -- the header of a posted message on its way and its chunk stand in the sender's buffer
-abbrev pub PostStands : Option OnItsWay → (ℕ → ℕ) → (ℕ → ℕ) → Type 0
+abbrev pub PostStands : Option InFlight → (ℕ → ℕ) → (ℕ → ℕ) → Type 0
 PostStands None header chunk = Unit {0}
 PostStands (Some post) header chunk = HeaderStands post.head true header × StandsIn post.chunk chunk
 

@@ -4,7 +4,7 @@ use Rattle.std.specs.Prelude.{◌≡◌, ◌⊎◌, ℕ, suc, ◌-◌, Bool, fal
 use Rattle.scc_base.specs.Calls.{DataCall, Bar}
 use Rattle.scc_base.specs.Setups.{SetupView, root_of}
 use Rattle.scc_proto.specs.Messages.{Notes, Progress, fresh_message, with_chunk, message_of, send_to, recv_from, sent_messages, received_messages}
-use Rattle.scc_proto.specs.Stages.{Part, Filling, Raised, Answered, Stage, Sending, Between, Taking, Barrier, OnItsWay, Record}
+use Rattle.scc_proto.specs.Stages.{Part, Filling, Raised, Answered, Stage, Sending, Between, Taking, Barrier, InFlight, Record}
 use Rattle.scc_proto.specs.Records.{chunk_of, last_of}
 use Rattle.scc_proto.specs.Legality.{Outgoing}
 
@@ -60,7 +60,7 @@ abbrev pub IsPassed : List DataCall → Option DataCall → List DataCall → Ty
 IsPassed finished current passed = (passed ≡ finished) ⊎ ((call : DataCall) × (current ≡ Some call) × (passed ≡ finished ++ call ∷ []))
 
 -- the message in a rank's slot, by its post on its way: none once the receiver has received as many messages as it was sent
-abbrev pub slot_by : ℕ → ℕ → Option OnItsWay → (ℕ → Record) → Option Outgoing
+abbrev pub slot_by : ℕ → ℕ → Option InFlight → (ℕ → Record) → Option Outgoing
 slot_by size me None records = None
 slot_by size me (Some post) records =
     if length (received_messages me (records post.to).calls) == length (sent_messages post.to (records me).calls)

@@ -2,7 +2,7 @@
 use Rattle.std.specs.Prelude.{ℕ, suc, ◌-◌, ◌%◌, Bool, true, false, ◌&&◌, ◌==◌, if◌then◌else◌, [], ◌∷◌, Option, Some, None, unwrap_or, is_none}
 use Rattle.scc_base.specs.declared.signals.Signal.TheVariants.{Sent, Ready}
 use Rattle.scc_proto.specs.Messages.{Notes, noted_word, has_all, head_of, is_head, is_post_head, Progress, fresh_message, is_whole, is_padded}
-use Rattle.scc_proto.specs.Stages.{Filling, Answered, Stage, Idle, Drafting, Sending, Between, Taking, Barrier, OnItsWay, Record}
+use Rattle.scc_proto.specs.Stages.{Filling, Answered, Stage, Idle, Drafting, Sending, Between, Taking, Barrier, InFlight, Record}
 use Rattle.scc_proto.specs.Moves.{Move, DraftHeader, DraftChunk, RaiseSignal, LowerSignal, FlipGather, WriteRelease, StoreHeap, Misplaced, is_posted}
 
 -- a header word is drafted only before the first chunk is raised
@@ -54,12 +54,12 @@ has_taken size to (Taking from message chunk) = (from == to) && is_whole size me
 has_taken size to stage = false
 
 -- a posted message to that rank is on its way, and its `ready` was seen
-abbrev pub is_answered_by : ℕ → Option OnItsWay → Bool
+abbrev pub is_answered_by : ℕ → Option InFlight → Bool
 is_answered_by by None = false
 is_answered_by by (Some post) = (post.to == by) && post.is_answered
 
 -- `ready` is lowered once it was seen: of the message that is being sent, or in no send of the posted one
-abbrev pub may_go_on : ℕ → Stage → Option OnItsWay → Bool
+abbrev pub may_go_on : ℕ → Stage → Option InFlight → Bool
 may_go_on by (Sending to Answered message chunk) post = to == by
 may_go_on by (Sending to part message chunk) post = false
 may_go_on by stage post = is_answered_by by post

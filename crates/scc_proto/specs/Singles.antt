@@ -4,7 +4,7 @@ use Rattle.scc_base.specs.Calls.{DataCall, Send, Recv, Post, Bar}
 use Rattle.scc_base.specs.Heads.{MessageHead}
 use Rattle.scc_base.specs.Setups.{SetupView, place_of}
 use Rattle.scc_proto.specs.Messages.{Notes, Progress, fresh_message, is_whole, is_head, is_post_head, barriers_of}
-use Rattle.scc_proto.specs.Stages.{Part, Filling, Raised, Answered, Stage, Drafting, Sending, Between, Taking, Barrier, OnItsWay, Record}
+use Rattle.scc_proto.specs.Stages.{Part, Filling, Raised, Answered, Stage, Drafting, Sending, Between, Taking, Barrier, InFlight, Record}
 use Rattle.scc_proto.specs.Words.{are_peers, is_present}
 use Rattle.scc_proto.specs.Records.{chunk_of, last_of}
 
@@ -64,16 +64,16 @@ is_free (Sending to part message chunk) = false
 is_free stage = true
 
 -- a posted message on its way is raised whole, and no other message is drafted or open beside it
-pub record IsOnItsWay (s : SetupView) (me : ℕ) (stage : Stage) (post : OnItsWay) : Type 0 where
+pub record IsInFlight (s : SetupView) (me : ℕ) (stage : Stage) (post : InFlight) : Type 0 where
   pub peers : are_peers s me post.to ≡ true
   pub head : is_post_head post.head ≡ true
   pub whole : is_whole (chunk_of s) (fresh_message post.head) post.chunk ≡ true
   pub free : is_free stage ≡ true
 
 -- a posted message, if there is one, can be on its way beside this stage
-abbrev pub IsPosted : SetupView → ℕ → Stage → Option OnItsWay → Type 0
+abbrev pub IsPosted : SetupView → ℕ → Stage → Option InFlight → Type 0
 IsPosted s me stage None = Unit {0}
-IsPosted s me stage (Some post) = IsOnItsWay s me stage post
+IsPosted s me stage (Some post) = IsInFlight s me stage post
 
 -- how many barriers of a communicator are open at a stage: one, or none
 abbrev pub open_barriers : ℕ → Stage → ℕ

@@ -5,7 +5,7 @@ use Rattle.scc_base.specs.Heads.{MessageHead}
 use Rattle.scc_base.specs.Setups.{SetupView, host_of}
 use Rattle.scc_base.specs.declared.signals.Signal.TheVariants.{Sent, Ready}
 use Rattle.scc_proto.specs.Messages.{Notes, noted_word, header_word, is_head, is_post_head}
-use Rattle.scc_proto.specs.Stages.{Filling, Answered, Stage, Sending, Taking, OnItsWay, Record}
+use Rattle.scc_proto.specs.Stages.{Filling, Answered, Stage, Sending, Taking, InFlight, Record}
 use Rattle.scc_proto.specs.Permission.{is_answered_by}
 use Rattle.scc_proto.specs.Words.{are_peers}
 use Rattle.scc_proto.specs.Records.{flags_noted}
@@ -19,7 +19,7 @@ pub record AreOfHead (header : Notes) : Type 0 where
   pub words : (k v : ℕ) → k < 4 → noted_word header k ≡ Some v → v ≡ header_word head is_post k
 
 -- no chunk of this rank is raised
-abbrev pub is_drafting : Stage → Option OnItsWay → Bool
+abbrev pub is_drafting : Stage → Option InFlight → Bool
 is_drafting (Sending to Filling message chunk) post = true
 is_drafting (Sending to part message chunk) post = false
 is_drafting stage None = true
@@ -31,7 +31,7 @@ is_taking_from j (Taking from message chunk) = from == j
 is_taking_from j stage = false
 
 -- the `ready` of the raised chunk was seen
-abbrev pub is_answered : ℕ → Stage → Option OnItsWay → Bool
+abbrev pub is_answered : ℕ → Stage → Option InFlight → Bool
 is_answered j (Sending to Answered message chunk) post = to == j
 is_answered j stage post = is_answered_by j post
 

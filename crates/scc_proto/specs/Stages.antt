@@ -27,7 +27,7 @@ pub data Stage : Type 0 where
   Barrier : (comm : ℕ) → (seen : ℕ) → (released : ℕ) → Stage
 
 -- a posted message on its way: raised, and its `ready` not lowered
-pub record OnItsWay : Type 0 where
+pub record InFlight : Type 0 where
   pub to : ℕ
   pub head : MessageHead
   pub chunk : Notes
@@ -49,7 +49,7 @@ pub record FlagWords : Type 0 where
 -- bytes
 pub record Record : Type 0 where
   pub stage : Stage
-  pub post : Option OnItsWay
+  pub post : Option InFlight
   -- by rank: None where its `sent` was not seen; else the header words loaded since then
   pub notes : ℕ → Option Notes
   -- by communicator: how often the own gather flag was flipped

@@ -84,7 +84,7 @@ pub fn post_arrives()
     ensures is_run { IsRun zeros (posts_four ++ takes_four) }
     ensures permitted { IsPermittedRun two_ranks (λ r. blank) (posts_four ++ takes_four) }
     ensures posted { (records_of two_ranks posts_four 0).calls ≡ Post 1 (plain_head 4) (1 ∷ 2 ∷ 3 ∷ 4 ∷ []) ∷ [] }
-    ensures on_its_way { slot_of two_ranks (records_of two_ranks posts_four) 0
+    ensures in_flight { slot_of two_ranks (records_of two_ranks posts_four) 0
         ≡ Some (record { to = 1; head = plain_head 4; bytes = 1 ∷ 2 ∷ 3 ∷ 4 ∷ [] }) }
     ensures received { (records_of two_ranks (posts_four ++ takes_four) 1).calls ≡ Recv 0 (plain_head 4) (1 ∷ 2 ∷ 3 ∷ 4 ∷ []) ∷ [] }
     ensures taken { slot_of two_ranks (records_of two_ranks (posts_four ++ takes_four)) 0 ≡ None }

@@ -7,7 +7,7 @@ ghost use Rattle.scc_base.specs.Setups.{SetupView};
 ghost use Rattle.scc_base.specs.declared.signals.Signal.{Signal};
 ghost use Rattle.scc_base.specs.declared.signals.Signal.TheVariants.{Sent, Ready};
 ghost use Rattle.scc_proto.specs.Messages.{Notes, Progress, fresh_message, head_of};
-ghost use Rattle.scc_proto.specs.Stages.{Part, Filling, Answered, Stage, Idle, Drafting, Sending, Between, Taking, Barrier, OnItsWay, Record};
+ghost use Rattle.scc_proto.specs.Stages.{Part, Filling, Answered, Stage, Idle, Drafting, Sending, Between, Taking, Barrier, InFlight, Record};
 ghost use Rattle.scc_proto.specs.Moves.{DraftHeader, DraftChunk, RaiseSignal, LowerSignal, FlipGather, WriteRelease};
 ghost use Rattle.scc_proto.specs.Permission.{is_whole_header, says_head, is_drafted, permits};
 ghost use Rattle.scc_proto.specs.Messages.{is_whole};
@@ -87,7 +87,7 @@ pub fn lower_ready_law()
     ensures law { (size by : ℕ) (rec : Record) → (permits size (LowerSignal Ready by) rec ≡ true) ↔
         (((message : Progress) × (chunk : Notes) × (rec.stage ≡ Sending by Answered message chunk))
         ⊎ (((to : ℕ) (part : Part) (message : Progress) (chunk : Notes) → rec.stage ≢ Sending to part message chunk)
-        × (post : OnItsWay) × (rec.post ≡ Some post) × (post.to ≡ by) × (post.is_answered ≡ true))) }
+        × (post : InFlight) × (rec.post ≡ Some post) × (post.to ≡ by) × (post.is_answered ≡ true))) }
 {}
 
 /// A barrier is entered exactly where nothing is open, by the flip of the gather flag.

@@ -234,17 +234,17 @@ pub fn heap_waits()
 /// A register is taken only where this rank does not hold it, and freed only where it does.
 pub fn register_is_held()
     ensures twice { RefusesEvent two_ranks 0 (takes_register 0 1 ∷ []) (takes_register 0 1) }
-    ensures twice_in_vain { RefusesEvent two_ranks 0 (takes_register 0 1 ∷ []) (misses 0 1) }
+    ensures failed_twice { RefusesEvent two_ranks 0 (takes_register 0 1 ∷ []) (misses 0 1) }
     ensures free { RefusesEvent two_ranks 0 [] (frees 0 1) }
     ensures freed { RefusesEvent two_ranks 0 (takes_register 0 1 ∷ frees 0 1 ∷ []) (frees 0 1) }
-    ensures in_vain { RefusesEvent two_ranks 0 (misses 0 1 ∷ []) (frees 0 1) }
+    ensures failed { RefusesEvent two_ranks 0 (misses 0 1 ∷ []) (frees 0 1) }
     ensures other { RefusesEvent two_ranks 0 (takes_register 0 1 ∷ []) (frees 0 0) }
 {}
 
 /// A word of bit flags is stored only under the register of its core, and only once it was loaded there.
 pub fn bits_are_held()
     ensures no_register { RefusesEvent two_ranks_bits 1 (drafts_empty 1 1 ++ loads 1 0 1 0 0 ∷ []) (stores 1 0 1 0 2) }
-    ensures in_vain { RefusesEvent two_ranks_bits 1 (drafts_empty 1 1 ++ misses 1 0 ∷ loads 1 0 1 0 0 ∷ []) (stores 1 0 1 0 2) }
+    ensures failed { RefusesEvent two_ranks_bits 1 (drafts_empty 1 1 ++ misses 1 0 ∷ loads 1 0 1 0 0 ∷ []) (stores 1 0 1 0 2) }
     ensures not_loaded { RefusesEvent two_ranks_bits 1 holds_draft (stores 1 0 1 0 2) }
     ensures before { RefusesEvent two_ranks_bits 1 (drafts_empty 1 1 ++ loads 1 0 1 0 0 ∷ takes_register 1 0 ∷ []) (stores 1 0 1 0 2) }
     ensures freed { RefusesEvent two_ranks_bits 1

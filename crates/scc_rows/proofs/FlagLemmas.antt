@@ -13,7 +13,7 @@ use Rattle.scc_proto.proofs.Layouts.PlaceMoves.{heap_stored}
 use Rattle.put_get.specs.Cores.{Private}
 use Rattle.tas_lock.specs.Holds.{IsNotHolding}
 use Rattle.sync_flags.specs.Flags.{flag_of, flag_value}
-use Rattle.sync_flags.specs.Writes.{MayWrite, WritesFlag, vain_takes, change_events}
+use Rattle.sync_flags.specs.Writes.{MayWrite, WritesFlag, failed_takes, change_events}
 use Rattle.sync_flags.proofs.HeapStores.{heap_store_may, heap_bit_may}
 use Rattle.sync_flags.proofs.WriteLemmas.{written_seat}
 use Rattle.scc_rows.specs.Rests.{IsPortAtRest}
@@ -34,9 +34,9 @@ module _ (seat : Seat) (rec : Record) (core : ℕ) (idle : rec.stage ≡ Idle) w
   unfolding record_next act_of
   free_keeps = either_rec (is_some (rec.held core)) _ rec idle idle
 
-vain_keep : (seat : Seat) (rec : Record) (core n : ℕ) → rec.stage ≡ Idle → (record_on seat rec (vain_takes core n)).stage ≡ Idle
-vain_keep seat rec core zero idle = idle
-vain_keep seat rec core (suc n) idle = vain_keep seat (record_next seat rec (take_of core false)) core n (take_keeps seat rec core idle false)
+failed_keep : (seat : Seat) (rec : Record) (core n : ℕ) → rec.stage ≡ Idle → (record_on seat rec (failed_takes core n)).stage ≡ Idle
+failed_keep seat rec core zero idle = idle
+failed_keep seat rec core (suc n) idle = failed_keep seat (record_next seat rec (take_of core false)) core n (take_keeps seat rec core idle false)
 
 module _ (seat : Seat) (valid : IsSetup seat.setup) (r : ℕ) (lt : r < seat.setup.nue) (f : FlagPlace) (high : 225 ≤ f.line) where
   store_keeps : (rec : Record) (value : ℕ) → rec.stage ≡ Idle → (record_next seat rec (store_of (flag_of seat.setup r f) value)).stage ≡ Idle
@@ -48,10 +48,10 @@ module _ (seat : Seat) (valid : IsSetup seat.setup) (r : ℕ) (lt : r < seat.set
       (load_keeps seat _ _ _ (load_keeps seat _ _ _ (load_keeps seat _ _ _ (load_keeps seat _ _ _ (take_keeps seat rec (host_of seat.setup.hosts r) idle true))))))
 
   tries_keep : (rec : Record) (n b : ℕ) (set : Bool) (words : List ℕ) → rec.stage ≡ Idle
-      → (record_on seat rec (vain_takes (host_of seat.setup.hosts r) n ++ change_events (flag_of seat.setup r f) b set words)).stage ≡ Idle
+      → (record_on seat rec (failed_takes (host_of seat.setup.hosts r) n ++ change_events (flag_of seat.setup r f) b set words)).stage ≡ Idle
   tries_keep rec n b set words idle =
-      ap (λ (x : Record). x.stage) (record_on-append seat rec (vain_takes (host_of seat.setup.hosts r) n) (change_events (flag_of seat.setup r f) b set words))
-      ∙ change_keeps (record_on seat rec (vain_takes (host_of seat.setup.hosts r) n)) b set words (vain_keep seat rec (host_of seat.setup.hosts r) n idle)
+      ap (λ (x : Record). x.stage) (record_on-append seat rec (failed_takes (host_of seat.setup.hosts r) n) (change_events (flag_of seat.setup r f) b set words))
+      ∙ change_keeps (record_on seat rec (failed_takes (host_of seat.setup.hosts r) n)) b set words (failed_keep seat rec (host_of seat.setup.hosts r) n idle)
 
 pub flag_rests : (s t : Sight) (c d : Private) (r : ℕ) (f : FlagPlace) (set : Bool) (polls : ℕ) (result : Result Unit Stalled) → WritesFlag s c (flag_of s.seat.setup r f) f.bit set polls t d result
     → IsPortAtRest s → r < 2 → 225 ≤ f.line → IsPortAtRest t
@@ -63,8 +63,8 @@ flag_rests s t c d r f set polls result writes rest lt high = by f.bit result wr
     by : (bit : Option ℕ) (x : Result Unit Stalled) → WritesFlag s c (flag_of s.seat.setup r f) bit set polls t d x → IsPortAtRest t
     by None (Ok done) w = store_rests s (flag_of s.seat.setup r f) r (flag_value set) t w.did rest lt refl high
     by None (Err stalled) w = absurd w
-    by (Some b) (Ok done) w = did_keeps s _ t w.did rest (tries_keep s.seat rest.valid r below f high (record_in s) w.vain b set w.words rest.idle)
-    by (Some b) (Err stalled) w = did_keeps s _ t w.0.did rest (vain_keep s.seat (record_in s) (host_of s.seat.setup.hosts r) polls rest.idle)
+    by (Some b) (Ok done) w = did_keeps s _ t w.did rest (tries_keep s.seat rest.valid r below f high (record_in s) w.failed b set w.words rest.idle)
+    by (Some b) (Err stalled) w = did_keeps s _ t w.0.did rest (failed_keep s.seat (record_in s) (host_of s.seat.setup.hosts r) polls rest.idle)
 
 pub may_write_flag : (s : Sight) (r : ℕ) (f : FlagPlace) (set : Bool) → IsPortAtRest s → r < 2 → 225 ≤ f.line → MayTake s r f → MayWrite s.seat (record_in s) (flag_of s.seat.setup r f) f.bit set
 may_write_flag s r f set rest lt high free = by f.bit free

@@ -27,17 +27,17 @@ shows_value ty reg value = record { reg = reg; form = form.Decimal ty; bytes = b
 
 -- a rank that did all its statements, and printed these registers
 abbrev pub finishes : List Printed → Ended
-finishes printed = record { end = ue_end.Finished; printed = printed; on_its_way = None }
+finishes printed = record { end = ue_end.Finished; printed = printed; in_flight = None }
 
 -- a rank that waits in the call of a line, and printed these registers before
 abbrev pub waits : ℕ → Call → List Printed → Ended
-waits line call printed = record { end = ue_end.Waits line call; printed = printed; on_its_way = None }
+waits line call printed = record { end = ue_end.Waits line call; printed = printed; in_flight = None }
 
 -- a rank that printed nothing and was stopped at the receive of a line: by the sender's rank, the head of its message, and
 -- the head that the receive asks for
 abbrev pub stops : ℕ → ℕ → MessageHead → MessageHead → Ended
-stops line from sent asked = record { end = ue_end.Mismatch line from sent asked; printed = []; on_its_way = None }
+stops line from sent asked = record { end = ue_end.Mismatch line from sent asked; printed = []; in_flight = None }
 
 -- a rank whose posted message to another was not taken
 abbrev pub posted_to : ℕ → Ended → Ended
-posted_to to end = record end { on_its_way = Some to }
+posted_to to end = record end { in_flight = Some to }

@@ -89,17 +89,17 @@ quiet_copies (suc n) prims quiet = quiet_both prims (copies n prims) quiet (quie
 -- what items make has no post
 record IsQuietRun (u : Unrolled Prim) : Type 0 where
   here : AreQuiet u.here
-  behind : AllQuiet u.behind
+  afterwards : AllQuiet u.afterwards
 
-quiet_repeated : (times : ℕ) (body : List Prim) (behind : List (List Prim)) → AreQuiet body → AllQuiet behind → IsQuietRun (unrolled_repeat times body behind)
-quiet_repeated times body [] quiet all = record { here = quiet; behind = tt }
-quiet_repeated times body (next ∷ behind) quiet all =
-    record { here = quiet_both body (copies (times - 1) body ++ next) quiet (quiet_both (copies (times - 1) body) next (quiet_copies (times - 1) body quiet) all.0); behind = all.1 }
+quiet_repeated : (times : ℕ) (body : List Prim) (afterwards : List (List Prim)) → AreQuiet body → AllQuiet afterwards → IsQuietRun (unrolled_repeat times body afterwards)
+quiet_repeated times body [] quiet all = record { here = quiet; afterwards = tt }
+quiet_repeated times body (next ∷ afterwards) quiet all =
+    record { here = quiet_both body (copies (times - 1) body ++ next) quiet (quiet_both (copies (times - 1) body) next (quiet_copies (times - 1) body quiet) all.0); afterwards = all.1 }
 
 quiet_front : (n : Nesting) (prims : List Prim) (u : Unrolled Prim) → AreQuiet prims → IsQuietRun u → IsQuietRun (in_front n prims u)
-quiet_front (nesting.Opens times) prims u quiet run = quiet_repeated times u.here u.behind run.here run.behind
-quiet_front (nesting.Closes start) prims u quiet run = record { here = quiet; behind = (run.here, run.behind) }
-quiet_front nesting.Stays prims u quiet run = record { here = quiet_both prims u.here quiet run.here; behind = run.behind }
+quiet_front (nesting.Opens times) prims u quiet run = quiet_repeated times u.here u.afterwards run.here run.afterwards
+quiet_front (nesting.Closes start) prims u quiet run = record { here = quiet; afterwards = (run.here, run.afterwards) }
+quiet_front nesting.Stays prims u quiet run = record { here = quiet_both prims u.here quiet run.here; afterwards = run.afterwards }
 
 quiet_part : (o : Operands) (b : Bool) (st : Step) → IsQuiet (part_of o b st)
 quiet_part o b step.Begin = tt
@@ -147,7 +147,7 @@ quiet_prims s rank item usual = by (has_rank item.who rank)
 
 quiet_items : (s : SetupView) (rank : ℕ) (items : List Item) → AreUsual items → IsQuietRun (unrolled_items s rank items)
 unfolding unrolled_items
-quiet_items s rank [] usual = record { here = tt; behind = tt }
+quiet_items s rank [] usual = record { here = tt; afterwards = tt }
 quiet_items s rank (item ∷ items) usual =
     quiet_front (nesting_at rank item) (prims_of s rank item) (unrolled_items s rank items) (quiet_prims s rank item usual.0) (quiet_items s rank items usual.1)
 
@@ -164,7 +164,7 @@ long (prims ∷ more) = length prims + long more
 
 -- how many items make in all
 abbrev made : Unrolled Prim → ℕ
-made u = length u.here + long u.behind
+made u = length u.here + long u.afterwards
 
 -- at most how many they make
 abbrev most_by : Stmt → ℕ → ℕ
@@ -183,9 +183,9 @@ copies_long (suc n) prims =
     let more = suc-mul n (length prims) in
     omega (arith, rest, both, more)
 
-repeated_short : (times : ℕ) (body : List Prim) (behind : List (List Prim)) → times ≤ 10 → made (unrolled_repeat times body behind) ≤ 10 * (length body + long behind)
+repeated_short : (times : ℕ) (body : List Prim) (afterwards : List (List Prim)) → times ≤ 10 → made (unrolled_repeat times body afterwards) ≤ 10 * (length body + long afterwards)
 repeated_short times body [] few = omega arith
-repeated_short times body (next ∷ behind) few =
+repeated_short times body (next ∷ afterwards) few =
     let many = copies_long (times - 1) body in
     let within = mul-le (times - 1) (length body) 9 (length body) (omega (arith, few)) (omega arith) in
     let all = length-append body (copies (times - 1) body ++ next) in
@@ -224,7 +224,7 @@ acts_short s rank _ few usual = absurd usual
 
 -- an item in front of others
 item_short : (b : Bool) (statement : Stmt) (prims : List Prim) (u : Unrolled Prim) (n : ℕ) → IsUsual statement → length prims ≤ 150 → made u ≤ n → made (in_front (cond b (effect_of statement).nesting nesting.Stays) (cond b prims []) u) ≤ most_by statement n
-item_short true (stmt.Repeat times end) prims u n usual short within = let one = repeated_short times u.here u.behind usual in omega (arith, one, within)
+item_short true (stmt.Repeat times end) prims u n usual short within = let one = repeated_short times u.here u.afterwards usual in omega (arith, one, within)
 item_short true (stmt.End start) prims u n usual short within = let one = closes_short start prims u short in omega (arith, one, within)
 item_short true _ prims u n usual short within = let one = stays_short prims u short in omega (arith, one, within)
 item_short false (stmt.Repeat times end) prims u n usual short within = omega (arith, within)

@@ -2,7 +2,7 @@
 pub mod LengthLemmas
 pub mod NextLengths
 pub mod RoomLaws
-pub mod StretchLaws
+pub mod BatchLaws
 pub mod HoldLaws
 pub mod AimLemmas
 pub mod BegunLaws

@@ -3,7 +3,7 @@ use Rattle.std.specs.Prelude.{ℕ}
 use Rattle.scc_base.specs.Setups.{SetupView}
 use Rattle.script_rules.specs.Script.{Script}
 use Rattle.script_machine.specs.Local.{Local}
-use Rattle.script_machine.specs.declared.posts.OnItsWay.{OnItsWay}
+use Rattle.script_machine.specs.declared.posts.InFlight.{InFlight}
 use Rattle.script_machine.specs.declared.posts.Posted.{Posted}
 
 -- the script, the setup and the rank of a machine, and the rank's state
@@ -14,5 +14,5 @@ pub record MachineView : Type 0 where
   pub local : Local
 
 -- a posted message, without its bytes
-abbrev pub on_its_way : Posted → OnItsWay
-on_its_way message = record { line = message.line; to = message.to; head = message.head }
+abbrev pub in_flight : Posted → InFlight
+in_flight message = record { line = message.line; to = message.to; head = message.head }

@@ -4,9 +4,9 @@ use Rattle.std.specs.Prelude.{ℕ, Bool, true, false, List, [], Option, Some, No
 use Rattle.scc_base.specs.Heads.{MessageHead}
 use Rattle.script_machine.specs.declared.prims.Standing.{Standing}
 use Rattle.script_machine.specs.declared.prims.Standing.TheVariants as standing
-use Rattle.script_machine.specs.declared.posts.OnItsWay.{OnItsWay}
+use Rattle.script_machine.specs.declared.posts.InFlight.{InFlight}
 use Rattle.script_machine.specs.Local.{Local}
-use Rattle.script_machine.specs.Machine.{on_its_way}
+use Rattle.script_machine.specs.Machine.{in_flight}
 use Rattle.script_machine.specs.Next.{Next}
 use Rattle.script_machine.specs.Next.Next.{Ends, Goes, Posts, Sends, Recvs, Bars}
 
@@ -83,10 +83,10 @@ bytes_out (Recvs from head take refuse) = []
 bytes_out (Bars comm after) = []
 
 -- the message of a post, without its bytes
-abbrev pub post_of : {U : Type 0} → Next U → Option OnItsWay
+abbrev pub post_of : {U : Type 0} → Next U → Option InFlight
 post_of Ends = None
 post_of (Goes after) = None
-post_of (Posts message after) = Some (on_its_way message)
+post_of (Posts message after) = Some (in_flight message)
 post_of (Sends to head bytes after) = None
 post_of (Recvs from head take refuse) = None
 post_of (Bars comm after) = None

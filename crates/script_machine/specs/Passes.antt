@@ -53,7 +53,7 @@ HoldsBefore most l before m after = (room : Rooms) → IsWider most room → Are
 
 -- between two points of a course there are primitives only, and any capacities of at least `most` that suffice after them
 -- suffice before them
-pub record IsStretch (most : Rooms) (l m : Lengths) (left after : List (Option Prim)) : Type 0 where
+pub record IsBatch (most : Rooms) (l m : Lengths) (left after : List (Option Prim)) : Type 0 where
   pub prims : List Prim
   pub same : left ≡ map Some prims ++ after
   pub holds : (rest : List Prim) → HoldsBefore most l (prims ++ rest) m rest

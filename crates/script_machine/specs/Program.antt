@@ -156,11 +156,11 @@ prims_of s rank item = if has_rank item.who rank then map (λ act. record { line
 abbrev pub nesting_at : ℕ → Item → Nesting
 nesting_at rank item = if has_rank item.who rank then (effect_of item.stmt).nesting else nesting.Stays
 
--- what items make, in pieces: `here` is up to the end of the innermost repeat that is open before them, and `behind` has a
+-- what items make, in pieces: `here` is up to the end of the innermost repeat that is open before them, and `afterwards` has a
 -- piece for each such repeat, from its end to the next one's end
 pub record Unrolled (A : Type 0) : Type 0 where
   pub here : List A
-  pub behind : List (List A)
+  pub afterwards : List (List A)
 
 -- a list that many times
 abbrev pub copies : {A : Type 0} → ℕ → List A → List A
@@ -170,18 +170,18 @@ copies (suc n) list = list ++ copies n list
 -- a repeat's body as often as the repeat states, and then what comes after its end. (An accepted script has an end for each
 -- repeat, which runs at least once.)
 abbrev pub unrolled_repeat : {A : Type 0} → ℕ → List A → List (List A) → Unrolled A
-unrolled_repeat times body [] = record { here = body; behind = [] }
-unrolled_repeat times body (next ∷ behind) = record { here = body ++ (copies (times - 1) body ++ next); behind = behind }
+unrolled_repeat times body [] = record { here = body; afterwards = [] }
+unrolled_repeat times body (next ∷ afterwards) = record { here = body ++ (copies (times - 1) body ++ next); afterwards = afterwards }
 
 -- what items make, with one more item before them
 abbrev pub in_front : {A : Type 0} → Nesting → List A → Unrolled A → Unrolled A
-in_front (nesting.Opens times) own u = unrolled_repeat times u.here u.behind
-in_front (nesting.Closes start) own u = record { here = own; behind = u.here ∷ u.behind }
-in_front nesting.Stays own u = record { here = own ++ u.here; behind = u.behind }
+in_front (nesting.Opens times) own u = unrolled_repeat times u.here u.afterwards
+in_front (nesting.Closes start) own u = record { here = own; afterwards = u.here ∷ u.afterwards }
+in_front nesting.Stays own u = record { here = own ++ u.here; afterwards = u.afterwards }
 
 -- what items make for a rank: the primitives up to the end of the open repeat, and those after it
 unfoldable pub unrolled_items : SetupView → ℕ → List Item → Unrolled Prim
-unrolled_items s rank [] = record { here = []; behind = [] }
+unrolled_items s rank [] = record { here = []; afterwards = [] }
 unrolled_items s rank (item ∷ items) = in_front (nesting_at rank item) (prims_of s rank item) (unrolled_items s rank items)
 
 -- the setup for the collective calls of a script: neither its layout nor its hosts matter
@@ -204,7 +204,7 @@ marks_of s rank item = marks_by (nesting_at rank item) (prims_of s rank item)
 
 -- what items make for a rank, as marks
 unfoldable pub unrolled_marks : SetupView → ℕ → List Item → Unrolled (Option Prim)
-unrolled_marks s rank [] = record { here = []; behind = [] }
+unrolled_marks s rank [] = record { here = []; afterwards = [] }
 unrolled_marks s rank (item ∷ items) = in_front (nesting_at rank item) (marks_of s rank item) (unrolled_marks s rank items)
 
 -- the primitives and the ends of passes of a rank, in order; each is one operation

@@ -118,12 +118,12 @@ again s rank items o = copies o.left (unrolled_marks s rank (drop o.start items)
 -- what is left: up to the end of the innermost open repeat, its further passes, then up to the next one's end, and so on
 abbrev pub woven : {A : Type 0} → List A → List (List A) → List (List A) → List A
 woven here [] more = here
-woven here (next ∷ behind) [] = here
-woven here (next ∷ behind) (passes ∷ more) = here ++ (passes ++ woven next behind more)
+woven here (next ∷ afterwards) [] = here
+woven here (next ∷ afterwards) (passes ∷ more) = here ++ (passes ++ woven next afterwards more)
 
 -- what is left of the items, if `more` has the further passes of each repeat that is open before them
 abbrev pub left_of : {A : Type 0} → Unrolled A → List (List A) → List A
-left_of u more = woven u.here u.behind more
+left_of u more = woven u.here u.afterwards more
 
 -- what is left from a place on, with these repeats open, the innermost one first
 abbrev pub left_at : SetupView → ℕ → List Item → ℕ → List Open → List (Option Prim)
@@ -133,13 +133,13 @@ left_at s rank items place open_repeats =
 -- each open repeat is the one whose end comes next: the same marks follow both ends
 abbrev pub AreOpen : SetupView → ℕ → List Item → List (List (Option Prim)) → List Open → Type 0
 AreOpen s rank items [] open_repeats = Unit {0}
-AreOpen s rank items (next ∷ behind) [] = Unit {0}
-AreOpen s rank items (next ∷ behind) (o ∷ open_repeats) =
-    ((unrolled_marks s rank (drop o.start items)).behind ≡ next ∷ behind) × AreOpen s rank items behind open_repeats
+AreOpen s rank items (next ∷ afterwards) [] = Unit {0}
+AreOpen s rank items (next ∷ afterwards) (o ∷ open_repeats) =
+    ((unrolled_marks s rank (drop o.start items)).afterwards ≡ next ∷ afterwards) × AreOpen s rank items afterwards open_repeats
 
 -- these repeats are open at a place: the same marks follow their ends as in the script
 abbrev pub AreOpenAt : SetupView → ℕ → List Item → ℕ → List Open → Type 0
-AreOpenAt s rank items place open_repeats = AreOpen s rank items (unrolled_marks s rank (drop place items)).behind open_repeats
+AreOpenAt s rank items place open_repeats = AreOpen s rank items (unrolled_marks s rank (drop place items)).afterwards open_repeats
 
 -- an item, if there is one, has more than `step` marks
 abbrev pub HasMore : SetupView → ℕ → Option Item → ℕ → Type 0
@@ -172,10 +172,10 @@ pub record IsStand (s : SetupView) (rank : ℕ) (here : Option Item) (count : �
   pub closes_is : closes ≡ is_pass_end rank here
 
 -- the repeats that are open after an item that may begin one
-abbrev pub repeats_behind_begin : Nesting → ℕ → List Open → List Open
-repeats_behind_begin (nesting.Opens times) at repeats = record { start = at + 1; left = times - 1 } ∷ repeats
-repeats_behind_begin (nesting.Closes start) at repeats = repeats
-repeats_behind_begin nesting.Stays at repeats = repeats
+abbrev pub repeats_after_begin : Nesting → ℕ → List Open → List Open
+repeats_after_begin (nesting.Opens times) at repeats = record { start = at + 1; left = times - 1 } ∷ repeats
+repeats_after_begin (nesting.Closes start) at repeats = repeats
+repeats_after_begin nesting.Stays at repeats = repeats
 
 -- the place after the end of a pass: the repeat's start if a pass is left, otherwise the next place
 abbrev pub next_pass : ℕ → ℕ → ℕ → ℕ
@@ -193,9 +193,9 @@ closed_by start zero repeats = repeats
 closed_by start (suc left) repeats = record { start = start; left = left } ∷ repeats
 
 -- the open repeats after the end of a pass of the innermost one
-abbrev pub repeats_behind_pass : List Open → List Open
-repeats_behind_pass [] = []
-repeats_behind_pass (o ∷ repeats) = closed_by o.start o.left repeats
+abbrev pub repeats_after_pass : List Open → List Open
+repeats_after_pass [] = []
+repeats_after_pass (o ∷ repeats) = closed_by o.start o.left repeats
 
 -- the place after an item that has marks
 abbrev pub passed_to : Nesting → ℕ → ℕ → List Open → ℕ
@@ -204,7 +204,7 @@ passed_to (nesting.Closes start) at end repeats = closed_to at end repeats
 passed_to nesting.Stays at end repeats = at + 1
 
 -- the open repeats after an item that has marks
-abbrev pub repeats_behind_marks : Nesting → List Open → List Open
-repeats_behind_marks (nesting.Opens times) repeats = repeats
-repeats_behind_marks (nesting.Closes start) repeats = repeats_behind_pass repeats
-repeats_behind_marks nesting.Stays repeats = repeats
+abbrev pub repeats_after_marks : Nesting → List Open → List Open
+repeats_after_marks (nesting.Opens times) repeats = repeats
+repeats_after_marks (nesting.Closes start) repeats = repeats_after_pass repeats
+repeats_after_marks nesting.Stays repeats = repeats

@@ -6,7 +6,7 @@ ghost use Rattle.script_machine.specs.Walk.{is_own};
 
 use crate::facing::Facing;
 use crate::machines::{Machine, with_length};
-use crate::posts::OnItsWay;
+use crate::posts::InFlight;
 use crate::prims::{Action, Primitive, Source};
 use crate::reckoning::Lengths;
 use crate::rooms::Length;
@@ -127,14 +127,14 @@ impl<'s> Machine<'s> {
     }
 
     /// The message of the next post, without its bytes.
-    pub fn post(&self) -> Option<OnItsWay>
+    pub fn post(&self) -> Option<InFlight>
         ensures { result ≡ post_of (local_next self.now.local) }
     {
         let Some(prim) = self.prim() else {
             return None;
         };
         match &prim.action {
-            Action::Post { to, reg } => Some(OnItsWay {
+            Action::Post { to, reg } => Some(InFlight {
                 line: prim.line,
                 to: *to,
                 head: self.post_head(*reg),

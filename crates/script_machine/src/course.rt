@@ -6,9 +6,9 @@ ghost use Rattle.script_rules.specs.Script.{IsSized};
 ghost use Rattle.script_machine.specs.Depths.{HasRoom, IsDeep, IsIdleFrom, IsIdleTo};
 ghost use Rattle.script_machine.specs.Program.{marks_of, nesting_at, prims_of};
 ghost use Rattle.script_rules.specs.declared.effect.Nesting.{Nesting};
-ghost use Rattle.script_machine.specs.Walk.{AreOpenAt, HasMoreMarks, IsStand, is_closing, repeats_behind_pass, closed_to, left_at, repeats_behind_begin, repeats_behind_marks, passed_to};
+ghost use Rattle.script_machine.specs.Walk.{AreOpenAt, HasMoreMarks, IsStand, is_closing, repeats_after_pass, closed_to, left_at, repeats_after_begin, repeats_after_marks, passed_to};
 
-use crate::nestings::{depth_behind, end_passes, ends_pass, flat_passes, nesting_at};
+use crate::nestings::{depth_afterwards, end_passes, ends_pass, flat_passes, nesting_at};
 use crate::prims::Primitive;
 use crate::statements::{action_of, count};
 use scc_base::{Rank, Setup};
@@ -287,7 +287,7 @@ fn reach_of(scripts: &Scripts, rank: Rank) -> Reach
         if item.who.has(rank.number()) {
             end = at + 1;
         }
-        depth = depth_behind(nesting_at(rank, item), depth);
+        depth = depth_afterwards(nesting_at(rank, item), depth);
         if most < depth {
             most = depth;
         }
@@ -298,8 +298,8 @@ fn reach_of(scripts: &Scripts, rank: Rank) -> Reach
 /// Enters the repeat that an item opens, if it opens one.
 fn enter(rank: Rank, item: &Item, at: usize, repeats: &mut VecDeque<Open>)
     requires below { at < usize.MAX }
-    requires room { length (repeats_behind_begin (nesting_at rank item.now) at repeats.old.items) ≤ deque_capacity repeats.old }
-    ensures same { repeats.new.items ≡ repeats_behind_begin (nesting_at rank item.now) at repeats.old.items }
+    requires room { length (repeats_after_begin (nesting_at rank item.now) at repeats.old.items) ≤ deque_capacity repeats.old }
+    ensures same { repeats.new.items ≡ repeats_after_begin (nesting_at rank item.now) at repeats.old.items }
     ensures room { deque_capacity repeats.new ≡ deque_capacity repeats.old }
 {
     match nesting_at(rank, item) {
@@ -360,7 +360,7 @@ fn close(at: usize, end: usize, repeats: &mut VecDeque<Open>) -> usize
     requires below { at < usize.MAX }
     requires room { length repeats.old.items ≤ deque_capacity repeats.old }
     ensures to { result ≡ closed_to at end repeats.old.items }
-    ensures left { repeats.new.items ≡ repeats_behind_pass repeats.old.items }
+    ensures left { repeats.new.items ≡ repeats_after_pass repeats.old.items }
     ensures room { deque_capacity repeats.new ≡ deque_capacity repeats.old }
 {
     match repeats.pop_front() {
@@ -384,7 +384,7 @@ fn pass_marks(closes: bool, at: usize, end: usize, repeats: &mut VecDeque<Open>)
     requires below { at < usize.MAX }
     requires room { length repeats.old.items ≤ deque_capacity repeats.old }
     ensures to { (n : Nesting) → closes ≡ is_closing n → result ≡ passed_to n at end repeats.old.items }
-    ensures left { (n : Nesting) → closes ≡ is_closing n → repeats.new.items ≡ repeats_behind_marks n repeats.old.items }
+    ensures left { (n : Nesting) → closes ≡ is_closing n → repeats.new.items ≡ repeats_after_marks n repeats.old.items }
     ensures room { deque_capacity repeats.new ≡ deque_capacity repeats.old }
 {
     if closes {

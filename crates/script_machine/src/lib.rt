@@ -21,7 +21,7 @@ mod walk;
 pub use ends::UeEnd;
 pub use facing::Facing;
 pub use machines::Machine;
-pub use posts::{OnItsWay, Posted};
+pub use posts::{InFlight, Posted};
 pub use prims::{Action, Content, Primitive, Source, Standing};
 pub use prints::{PrintedItem, Prints};
 pub use reckoning::Lengths;

@@ -4,13 +4,13 @@
 ghost use Rattle.std.specs.Prelude.{◌≡◌, ◌≤◌, Option};
 ghost use Rattle.std.specs.Option.{option_map};
 ghost use Rattle.script_machine.specs.Local.{end_by_slot, head_with_length};
-ghost use Rattle.script_machine.specs.Machine.{on_its_way};
+ghost use Rattle.script_machine.specs.Machine.{in_flight};
 ghost use Rattle.script_machine.specs.declared.posts.Posted.{Posted};
 ghost use Rattle.scc_base.specs.Heads.{most_message};
 
 use crate::ends::UeEnd;
 use crate::held::Held;
-use crate::posts::OnItsWay;
+use crate::posts::InFlight;
 use crate::prims::{Action, Primitive, Source, Standing};
 use crate::prints::{PrintedItem, Prints};
 use crate::trials::{Reckoned, reckon};
@@ -56,7 +56,7 @@ impl<'s> Machine<'s> {
     ghost use Rattle.script_rules.specs.Script.{rules_of};
     ghost use Rattle.script_machine.specs.Local.{asked_head, end_of, local_next, local_start, next_prim, register_at, source_bytes, stopped_at, statement_line};
     ghost use Rattle.script_machine.specs.Holds.{empty, local_with};
-    ghost use Rattle.script_machine.specs.Machine.{on_its_way};
+    ghost use Rattle.script_machine.specs.Machine.{in_flight};
     ghost use Rattle.script_machine.specs.Rooms.{AreWithin, nothing_held, rooms_of};
     ghost use Rattle.script_machine.specs.declared.prims.Standing.TheVariants as standing;
     ghost use Rattle.script_machine.specs.Moves.{bytes_out, is_passable, is_receiving, is_stopped, length_asked, line_out, after_pass, post_of, after_refusal, after_take, went};
@@ -239,9 +239,9 @@ impl<'s> Machine<'s> {
     }
 
     /// How the rank's run ended, if this message of its is in flight.
-    pub fn end(&self, post: Option<OnItsWay>) -> UeEnd
+    pub fn end(&self, post: Option<InFlight>) -> UeEnd
         requires { is_going (local_next self.now.local) ≡ false }
-        ensures { (slot : Option Posted) → option_map on_its_way slot ≡ post → result ≡ end_of slot self.now.local }
+        ensures { (slot : Option Posted) → option_map in_flight slot ≡ post → result ≡ end_of slot self.now.local }
     {
         if let Standing::Mismatched {
             line,
@@ -306,8 +306,8 @@ pub(crate) fn with_length(head: Head, len: u32) -> Head
 }
 
 /// How the run of a rank ended whose program has ended.
-fn end_by_slot(post: Option<OnItsWay>) -> UeEnd
-    ensures { (slot : Option Posted) → option_map on_its_way slot ≡ post → result ≡ end_by_slot slot }
+fn end_by_slot(post: Option<InFlight>) -> UeEnd
+    ensures { (slot : Option Posted) → option_map in_flight slot ≡ post → result ≡ end_by_slot slot }
 {
     match post {
         None => UeEnd::Finished,

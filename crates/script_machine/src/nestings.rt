@@ -52,7 +52,7 @@ fn stays(rank: Rank, item: &Item) -> bool
 }
 
 /// How many repeats are open after an item.
-pub(crate) fn depth_behind(nesting: Nesting, depth: usize) -> usize
+pub(crate) fn depth_afterwards(nesting: Nesting, depth: usize) -> usize
     requires { depth < usize.MAX }
     ensures { result ≡ depth_after nesting depth }
 {

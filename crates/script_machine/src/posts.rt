@@ -15,7 +15,7 @@ pub struct Posted {
 
 /// A message that was posted and not taken yet, without its bytes.
 #[derive(Clone, Copy)]
-pub struct OnItsWay {
+pub struct InFlight {
     pub line: u32,
     pub to: Rank,
     pub head: PostHead,

@@ -3,7 +3,7 @@
 
 ghost use Rattle.std.specs.Prelude.{◌≡◌, ◌<◌, length, slice_get, true, IfOk, OnOk, None, []};
 ghost use Rattle.script_rules.specs.Script.{rules_of};
-ghost use Rattle.script_machine.specs.Passes.{HoldsBefore, IsStretch, KeepsRegisters};
+ghost use Rattle.script_machine.specs.Passes.{HoldsBefore, IsBatch, KeepsRegisters};
 ghost use Rattle.script_machine.specs.Program.{prims_in, program_of};
 ghost use Rattle.script_machine.specs.Rooms.{AreWithin, IsWider, nothing_held, rooms_of};
 ghost use Rattle.script_machine.specs.Walk.{is_end, prim_of};
@@ -99,7 +99,7 @@ fn is_quiet(passes: u32, kept: bool, lengths: &Lengths, folded: Length, taken: L
 /// Computes the needs up to the next end of a pass, or to the end. Returns whether the lengths of the registers stayed and
 /// nothing was printed.
 fn reckon_prims(course: &mut Course, reckoning: &mut Reckoning) -> Result<bool, AllocError>
-    ensures stretch { OnOk result (IsStretch reckoning.new.most reckoning.old.lengths reckoning.new.lengths
+    ensures batch { OnOk result (IsBatch reckoning.new.most reckoning.old.lengths reckoning.new.lengths
         course.old.left course.new.left) }
     ensures wider { OnOk result (IsWider reckoning.old.most reckoning.new.most) }
     ensures kept { IfOk result (λ kept. kept ≡ true → KeepsRegisters reckoning.old.lengths reckoning.new.lengths) }

@@ -73,7 +73,7 @@ pub record StandsAtStatement (script : Script) (rank : ℕ) (statement : Stmt) (
   pub listed : IsOfRank script.items rank item
   pub says : item.stmt ≡ statement
   pub rest : List Prim
-  pub behind : MadeByItems (setup_of script) rank script.items rest
+  pub afterwards : MadeByItems (setup_of script) rank script.items rest
   pub running : u.local.standing ≡ standing.Running
   pub next : u.local.left ≡ map (λ act. record { line = item.line; act = act }) (acts_of (setup_of script) rank statement) ++ rest
 
@@ -101,7 +101,7 @@ pub record HasStatement (script : Script) (rank : ℕ) (statement : Stmt) (rest 
   pub listed : IsOfRank script.items rank item
   pub says : item.stmt ≡ statement
   pub front : List Prim
-  pub behind : MadeByItems (setup_of script) rank script.items rest
+  pub afterwards : MadeByItems (setup_of script) rank script.items rest
   pub whole : program_of script rank ≡ front ++ (made_by (setup_of script) rank item ++ rest)
 
 -- a statement of which a rank has no primitive left is done: what is left now is what was to come after it

@@ -12,11 +12,11 @@ use Rattle.script_machine.specs.Local.{Local, end_of, local_at, nobody}
 pub record Ended : Type 0 where
   pub end : UeEnd
   pub printed : List Printed
-  pub on_its_way : Option ℕ
+  pub in_flight : Option ℕ
 
 -- the result of a rank's run: how its program ended, what it printed, and for whom its slot holds a message
 abbrev pub end_of_rank : Option Posted → Local → Ended
-end_of_rank slot u = record { end = end_of slot u; printed = u.printed; on_its_way = option_map (λ message. message.to) slot }
+end_of_rank slot u = record { end = end_of slot u; printed = u.printed; in_flight = option_map (λ message. message.to) slot }
 
 -- the result of no rank, as a default
 abbrev pub nothing_ended : Ended

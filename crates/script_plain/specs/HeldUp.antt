@@ -45,4 +45,4 @@ HasCause keys ends rank (ue_end.Mismatch line from sent asked) = IsPeer (length 
 -- how a rank ended has its cause, and a message of the rank that nobody took is for another rank
 pub record IsExplained (keys : ℕ → ℕ → ℕ) (ends : List Ended) (rank : ℕ) : Type 0 where
   pub cause : HasCause keys ends rank (ended_at ends rank).end
-  pub on_its_way : IfSome (ended_at ends rank).on_its_way (λ to. IsPeer (length ends) rank to)
+  pub in_flight : IfSome (ended_at ends rank).in_flight (λ to. IsPeer (length ends) rank to)

@@ -35,7 +35,7 @@ use Rattle.script_rules.specs.Settled.{NamesCommsTo}
 use Rattle.texts.specs.Cuts.{is_text, line_count, lines_of, words_of}
 use Rattle.script_rules.proofs.EndLemmas.{comms-with_ends}
 use Rattle.script_reader.proofs.FaultLemmas.{no-fault}
-use Rattle.script_reader.proofs.VersionLemmas.{behind, either, then}
+use Rattle.script_reader.proofs.VersionLemmas.{afterwards, either, then}
 
 -- a communicator that is known is none past the last one
 low-split : (a b : Bool) → (a || b) ≡ false → a ≡ false
@@ -121,7 +121,7 @@ module _ (v : Version) where
   lines-low : (before : ℕ) (p : ReadingSoFar) (lines : List (List ℕ)) → IsLow p → IfOk (read_lines before p lines) IsLow
   lines-low before p [] low = low
   lines-low before p (line ∷ lines) low =
-      behind IsLow IsLow (at_line (before + 1) (read_line (before + 1) p line)) _ (at_line-low (before + 1) (read_line (before + 1) p line) (line-low (before + 1) p line low))
+      afterwards IsLow IsLow (at_line (before + 1) (read_line (before + 1) p line)) _ (at_line-low (before + 1) (read_line (before + 1) p line) (line-low (before + 1) p line low))
       (λ q is. lines-low (before + 1) q lines is)
 
   end-low : (count : ℕ) (p : ReadingSoFar) → IsLow p → IfOk (at_end count p) (NamesCommsTo (last_comm v))
@@ -129,7 +129,7 @@ module _ (v : Version) where
       either (NamesCommsTo (last_comm v)) (length (open_of (past p)) == 0) (Ok (script_of p)) _ (comms-with_ends (last_comm v) (length p.items) p.items low.1) tt
 
   all-low : (lines : List (List ℕ)) (nue : ℕ) → IfOk (read_all_lines v lines nue) (NamesCommsTo (last_comm v))
-  all-low lines nue = behind IsLow (NamesCommsTo (last_comm v)) (read_lines 0 (start v nue) lines) _ (lines-low 0 (start v nue) lines (refl, All-nil IsLowItem)) (λ p low. end-low (line_count lines) p low)
+  all-low lines nue = afterwards IsLow (NamesCommsTo (last_comm v)) (read_lines 0 (start v nue) lines) _ (lines-low 0 (start v nue) lines (refl, All-nil IsLowItem)) (λ p low. end-low (line_count lines) p low)
 
   as-low : (bytes : List ℕ) (nue : ℕ) → IfOk (read_as v bytes nue) (NamesCommsTo (last_comm v))
   as-low bytes nue = either (NamesCommsTo (last_comm v)) (nat_lt most_script_bytes (length bytes)) _ _ tt (all-low (lines_of bytes) nue)

@@ -52,9 +52,9 @@ pub then : {A B E : Type 0} (P : B → Type 0) (r : Result A E) (next : A → Re
 then P (Ok x) next has = has x
 then P (Err e) next has = tt
 
-pub behind : {A B E : Type 0} (Q : A → Type 0) (P : B → Type 0) (r : Result A E) (next : A → Result B E) → IfOk r Q → ((x : A) → Q x → IfOk (next x) P) → IfOk (r >>= next) P
-behind Q P (Ok x) next is has = has x is
-behind Q P (Err e) next is has = tt
+pub afterwards : {A B E : Type 0} (Q : A → Type 0) (P : B → Type 0) (r : Result A E) (next : A → Result B E) → IfOk r Q → ((x : A) → Q x → IfOk (next x) P) → IfOk (r >>= next) P
+afterwards Q P (Ok x) next is has = has x is
+afterwards Q P (Err e) next is has = tt
 
 pub either : {B E : Type 0} (P : B → Type 0) (b : Bool) (x y : Result B E) → IfOk x P → IfOk y P → IfOk (cond b x y) P
 either P true x y one other = one
@@ -143,7 +143,7 @@ module _ (v : Version) where
 
   repeat-plain : (words : List (List ℕ)) → IfOk (repeat_said words) (IsPlain v)
   repeat-plain [] = tt
-  repeat-plain (a ∷ []) = behind (λ n. 1 ≤ n) (IsPlain v) (range_said 1 most_operations a) _ (then (λ n. 1 ≤ n) (number_said a) _ (λ n. ranged 1 most_operations n (nat_le 1 n && nat_le n most_operations) refl)) (λ n is. is)
+  repeat-plain (a ∷ []) = afterwards (λ n. 1 ≤ n) (IsPlain v) (range_said 1 most_operations a) _ (then (λ n. 1 ≤ n) (number_said a) _ (λ n. ranged 1 most_operations n (nat_le 1 n && nat_le n most_operations) refl)) (λ n is. is)
   repeat-plain (a ∷ b ∷ rest) = tt
 
   rcce-plain : (words : List (List ℕ)) → IfOk (rcce_said v words) (IsPlain v)
@@ -246,7 +246,7 @@ after-flat line p said.End is flat = place-flat line p (stmt.End (innermost (ope
 words-flat : (number : ℕ) (p : ReadingSoFar) (words : List (List ℕ)) → IsFlat p → IfOk (read_words number p words) IsFlat
 words-flat number p [] flat = flat
 words-flat number p (first ∷ words) flat =
-    behind (IsPlain version.One) IsFlat (said_of p.version p.opening first words) _
+    afterwards (IsPlain version.One) IsFlat (said_of p.version p.opening first words) _
     (subst (λ (v : Version). IfOk (said_of v p.opening first words) (IsPlain version.One)) (sym flat.0) (said-plain version.One p.opening first words))
     (λ s is. after-flat number (past_opening p) s is flat)
 
@@ -260,7 +260,7 @@ at_line-flat number (Err kind) flat = tt
 lines-flat : (before : ℕ) (p : ReadingSoFar) (lines : List (List ℕ)) → IsFlat p → IfOk (read_lines before p lines) IsFlat
 lines-flat before p [] flat = flat
 lines-flat before p (line ∷ lines) flat =
-    behind IsFlat IsFlat (at_line (before + 1) (read_line (before + 1) p line)) _ (at_line-flat (before + 1) (read_line (before + 1) p line) (line-flat (before + 1) p line flat))
+    afterwards IsFlat IsFlat (at_line (before + 1) (read_line (before + 1) p line)) _ (at_line-flat (before + 1) (read_line (before + 1) p line) (line-flat (before + 1) p line flat))
     (λ q is. lines-flat (before + 1) q lines is)
 
 rule-flat : (items : List Item) (comm : ℕ) → ((comm : ℕ) → parent_of (first_split items comm) ≡ 0) → parent_of (rule_of (rules_of items) comm) ≡ 0
@@ -276,7 +276,7 @@ end-flat count p flat =
     either SplitsWorldAlone (length (open_of (past p)) == 0) (Ok (script_of p)) _ (λ comm. ap (λ (rules : List CommRule). parent_of (rule_of rules comm)) (rules-with_ends (length p.items) p.items) ∙ rule-flat p.items comm flat.1) tt
 
 all-flat : (lines : List (List ℕ)) (nue : ℕ) → IfOk (read_all_lines version.One lines nue) SplitsWorldAlone
-all-flat lines nue = behind IsFlat SplitsWorldAlone (read_lines 0 (start version.One nue) lines) _ (lines-flat 0 (start version.One nue) lines (refl, λ comm. refl)) (λ p flat. end-flat (line_count lines) p flat)
+all-flat lines nue = afterwards IsFlat SplitsWorldAlone (read_lines 0 (start version.One nue) lines) _ (lines-flat 0 (start version.One nue) lines (refl, λ comm. refl)) (λ p flat. end-flat (line_count lines) p flat)
 
 -- a script of version 1 splits the world alone
 pub first-flat : (bytes : List ℕ) (nue : ℕ) → IfOk (read_as version.One bytes nue) SplitsWorldAlone

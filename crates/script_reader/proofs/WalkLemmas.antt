@@ -223,13 +223,13 @@ all_have : (version : Version) (lines : List (List ℕ)) (nue : ℕ) → Has (re
 all_have version lines nue =
     at_end_has (line_count lines) (read_lines 0 (start version nue) lines) (lines_keep 0 (start version nue) lines (record { few = lit≤ tt; laid = record { matched = tt; within = tt; once = tt; here = λ some. absurd (omega (arith, some)) } }))
 
-behind : (b : Bool) (fault : ReadFault) (r : Result Script ReadFault) → Has r → Has (if b then Err fault else r)
-behind true fault r has = tt
-behind false fault r has = has
+afterwards : (b : Bool) (fault : ReadFault) (r : Result Script ReadFault) → Has r → Has (if b then Err fault else r)
+afterwards true fault r has = tt
+afterwards false fault r has = has
 
 parse_has : (bytes : List ℕ) (nue : ℕ) → Has (parse_script bytes nue)
 parse_has bytes nue =
-    behind (nat_lt most_script_bytes (length bytes)) (record { line = 0; kind = kind.TooLong }) (read_all_lines (version_of (lines_of bytes)) (lines_of bytes) nue)
+    afterwards (nat_lt most_script_bytes (length bytes)) (record { line = 0; kind = kind.TooLong }) (read_all_lines (version_of (lines_of bytes)) (lines_of bytes) nue)
     (all_have (version_of (lines_of bytes)) (lines_of bytes) nue)
 
 weaker : (P Q : Script → Type 0) (r : Result Script ReadFault) → ((script : Script) → P script → Q script) → IfOk r P → IfOk r Q

@@ -89,13 +89,13 @@ peer_said word =
     else number_said word >>= (λ rank. Ok (peer.Abs rank))
 
 -- the bytes `front`, and after them the bytes of the value that a word states
-abbrev pub value_behind : Ty → List ℕ → List ℕ → Result (List ℕ) FaultKind
-value_behind type front word = ok_or (value_of_word type word) kind.BadNumber >>= λ bytes. Ok (front ++ bytes)
+abbrev pub value_after : Ty → List ℕ → List ℕ → Result (List ℕ) FaultKind
+value_after type front word = ok_or (value_of_word type word) kind.BadNumber >>= λ bytes. Ok (front ++ bytes)
 
 -- the bytes `front`, and after them the bytes of the values that the words state
 abbrev pub values_said : Ty → List ℕ → List (List ℕ) → Result (List ℕ) FaultKind
 values_said type front [] = Ok front
-values_said type front (word ∷ words) = value_behind type front word >>= λ bytes. values_said type bytes words
+values_said type front (word ∷ words) = value_after type front word >>= λ bytes. values_said type bytes words
 
 -- a line of one word: `all`, `even`, `odd`, `end`
 abbrev pub one_word_said : Said → List (List ℕ) → Result Said FaultKind

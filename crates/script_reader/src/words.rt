@@ -4,7 +4,7 @@ ghost use Rattle.std.specs.Prelude.{◌≡◌, ◌+◌, ◌≤◌, map, IfOk, On
 ghost use Rattle.std.specs.List.{list_all};
 ghost use Rattle.std.specs.Str.{bytes_eq};
 ghost use Rattle.script_reader.specs.Faults.{LineGives};
-ghost use Rattle.script_reader.specs.Said.{colour_said, hex_said, name_said, number_said, of_said, operation_said, peer_said, range_said, type_said, value_behind, values_said};
+ghost use Rattle.script_reader.specs.Said.{colour_said, hex_said, name_said, number_said, of_said, operation_said, peer_said, range_said, type_said, value_after, values_said};
 ghost use Rattle.script_reader.specs.Words.{bytes_above, bytes_below, greatest, is_name, is_name_byte};
 
 use crate::fault::LineStop;
@@ -194,7 +194,7 @@ fn greatest(ty: Ty) -> u64
 
 /// Appends the bytes of the value that a word states.
 fn push_value(bytes: &mut Vec<u8>, ty: Ty, word: &[u8]) -> Result<(), LineStop>
-    ensures { LineGives (λ _. bytes.new.items) result (value_behind ty bytes.old.items word.now) }
+    ensures { LineGives (λ _. bytes.new.items) result (value_after ty bytes.old.items word.now) }
 {
     match word {
         [b'-', digits @ ..] => match decimal(digits, 20, greatest(ty) + 1) {

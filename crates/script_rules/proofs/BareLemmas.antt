@@ -99,37 +99,37 @@ split-bared (item ∷ past) rank comm =
     ap (λ (e : Effect). has_split (all_bared past) rank comm || (has_rank item.who rank && is_split_of e.group comm)) (effect-bare item.stmt)
     ∙ ap (λ (had : Bool). had || (has_rank item.who rank && is_split_of (effect_of item.stmt).group comm)) (split-bared past rank comm)
 
-abbrev length_behind : Item → ℕ → ℕ → SetupView → (ℕ → Option ℕ) → Effect → Option ℕ
-length_behind item rank reg run had e = option_or (had reg) (cond (has_rank item.who rank) (sets_to (set_by run had e rank) reg) None)
+abbrev length_after : Item → ℕ → ℕ → SetupView → (ℕ → Option ℕ) → Effect → Option ℕ
+length_after item rank reg run had e = option_or (had reg) (cond (has_rank item.who rank) (sets_to (set_by run had e rank) reg) None)
 
 length-bared : (nue : ℕ) (past : List Item) (rank reg : ℕ) → length_at nue (all_bared past) rank reg ≡ length_at nue past rank reg
 length-bared nue [] rank reg = refl
 length-bared nue (item ∷ past) rank reg =
-    ap (length_behind item rank reg (run_of nue (all_bared past)) (length_at nue (all_bared past) rank)) (effect-bare item.stmt)
-    ∙ ap (λ (run : SetupView). length_behind item rank reg run (length_at nue (all_bared past) rank) (effect_of item.stmt)) (run-bared nue past)
-    ∙ ap (λ (had : ℕ → Option ℕ). length_behind item rank reg (run_of nue past) had (effect_of item.stmt)) (fun_ext (λ r. length-bared nue past rank r))
+    ap (length_after item rank reg (run_of nue (all_bared past)) (length_at nue (all_bared past) rank)) (effect-bare item.stmt)
+    ∙ ap (λ (run : SetupView). length_after item rank reg run (length_at nue (all_bared past) rank) (effect_of item.stmt)) (run-bared nue past)
+    ∙ ap (λ (had : ℕ → Option ℕ). length_after item rank reg (run_of nue past) had (effect_of item.stmt)) (fun_ext (λ r. length-bared nue past rank r))
 
 lengths-bared : (nue : ℕ) (past : List Item) (rank : ℕ) → length_at nue (all_bared past) rank ≡ length_at nue past rank
 lengths-bared nue past rank = fun_ext (λ reg. length-bared nue past rank reg)
 
-abbrev done_behind : Item → ℕ → ℕ → List Open → ℕ → ℕ
-done_behind item rank done repeats cost = done + cond (has_rank item.who rank) (turns_in repeats * cost) 0
+abbrev done_after : Item → ℕ → ℕ → List Open → ℕ → ℕ
+done_after item rank done repeats cost = done + cond (has_rank item.who rank) (turns_in repeats * cost) 0
 
 operations-bared : (nue : ℕ) (past : List Item) (rank : ℕ) → operations nue (all_bared past) rank ≡ operations nue past rank
 operations-bared nue [] rank = refl
 operations-bared nue (item ∷ past) rank =
-    ap (done_behind item rank (operations nue (all_bared past) rank) (open_of (all_bared past)))
+    ap (done_after item rank (operations nue (all_bared past) rank) (open_of (all_bared past)))
     (ap (λ (e : Effect). cost_of (run_of nue (all_bared past)) e.cost rank) (effect-bare item.stmt) ∙ ap (λ (run : SetupView). cost_of run (effect_of item.stmt).cost rank) (run-bared nue past))
-    ∙ ap (λ (repeats : List Open). done_behind item rank (operations nue (all_bared past) rank) repeats (cost_of (run_of nue past) (effect_of item.stmt).cost rank)) (open-bared past)
-    ∙ ap (λ (done : ℕ). done_behind item rank done (open_of past) (cost_of (run_of nue past) (effect_of item.stmt).cost rank)) (operations-bared nue past rank)
+    ∙ ap (λ (repeats : List Open). done_after item rank (operations nue (all_bared past) rank) repeats (cost_of (run_of nue past) (effect_of item.stmt).cost rank)) (open-bared past)
+    ∙ ap (λ (done : ℕ). done_after item rank done (open_of past) (cost_of (run_of nue past) (effect_of item.stmt).cost rank)) (operations-bared nue past rank)
 
 printed-bared : (nue : ℕ) (past : List Item) (rank : ℕ) → bytes_printed nue (all_bared past) rank ≡ bytes_printed nue past rank
 printed-bared nue [] rank = refl
 printed-bared nue (item ∷ past) rank =
-    ap (done_behind item rank (bytes_printed nue (all_bared past) rank) (open_of (all_bared past)))
+    ap (done_after item rank (bytes_printed nue (all_bared past) rank) (open_of (all_bared past)))
     (ap (prints (length_at nue (all_bared past) rank)) (effect-bare item.stmt) ∙ ap (λ (had : ℕ → Option ℕ). prints had (effect_of item.stmt)) (lengths-bared nue past rank))
-    ∙ ap (λ (repeats : List Open). done_behind item rank (bytes_printed nue (all_bared past) rank) repeats (prints (length_at nue past rank) (effect_of item.stmt))) (open-bared past)
-    ∙ ap (λ (done : ℕ). done_behind item rank done (open_of past) (prints (length_at nue past rank) (effect_of item.stmt))) (printed-bared nue past rank)
+    ∙ ap (λ (repeats : List Open). done_after item rank (bytes_printed nue (all_bared past) rank) repeats (prints (length_at nue past rank) (effect_of item.stmt))) (open-bared past)
+    ∙ ap (λ (done : ℕ). done_after item rank done (open_of past) (prints (length_at nue past rank) (effect_of item.stmt))) (printed-bared nue past rank)
 
 abbrev too_long : Effect → ℕ → List Open → (ℕ → Option ℕ) → Bool
 too_long e done repeats had = posts_too_much had e || prints_too_much had done (turns_in repeats) e

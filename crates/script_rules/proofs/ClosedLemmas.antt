@@ -191,8 +191,8 @@ open-last new (repeat ∷ repeats) = inr (open-last new repeats)
 one_less : (n : ℕ) → suc n - 1 ≡ n
 one_less n = omega arith
 
-innermost-behind : (repeat second : Open) (repeats : List Open) → innermost (repeat ∷ second ∷ repeats) ≡ innermost (second ∷ repeats)
-innermost-behind repeat second repeats =
+innermost-afterwards : (repeat second : Open) (repeats : List Open) → innermost (repeat ∷ second ∷ repeats) ≡ innermost (second ∷ repeats)
+innermost-afterwards repeat second repeats =
     ap (λ (n : ℕ). option_map_or (λ (r : Open). r.start) (slice_get (repeat ∷ second ∷ repeats) n) 0) (one_less (suc (length repeats)))
     ∙ ap (λ (n : ℕ). option_map_or (λ (r : Open). r.start) (slice_get (second ∷ repeats) n) 0) (sym (one_less (length repeats)))
 
@@ -209,7 +209,7 @@ open-pop place (repeat ∷ second ∷ repeats) is other =
     subst (λ (rest : List Open). IsOpen place rest) (without_last repeat second repeats)
     (elim is [
       | inl here ↦ inl here
-      | inr there ↦ inr (open-pop place (second ∷ repeats) there (λ last. other (last ∙ sym (innermost-behind repeat second repeats))))
+      | inr there ↦ inr (open-pop place (second ∷ repeats) there (λ last. other (last ∙ sym (innermost-afterwards repeat second repeats))))
     ])
 
 -- each repeat among the first n statements is open, or has the place of its end

@@ -1,5 +1,5 @@
 -- Whole calls: loops over turns, from the start on and from line to line.
-pub mod StretchLoop
+pub mod BatchLoop
 pub mod RecvLoop
 pub mod TestLemmas
 pub mod SendLoop

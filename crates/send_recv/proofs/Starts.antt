@@ -8,7 +8,7 @@ use Rattle.scc_base.specs.declared.events.Turn.{Turn}
 use Rattle.scc_base.specs.declared.events.Turn.TheVariants as turn
 use Rattle.scc_base.specs.declared.layouts.Layout.{Layout}
 use Rattle.scc_base.specs.declared.layouts.Layout.TheVariants.{LineFlags, BitFlags}
-use Rattle.scc_proto.specs.Stages.{OnItsWay, Idle, Record, blank}
+use Rattle.scc_proto.specs.Stages.{InFlight, Idle, Record, blank}
 use Rattle.scc_proto.specs.Words.{are_peers}
 use Rattle.scc_proto.specs.Ports.{Seat, Sight, Did, record_in}
 use Rattle.scc_proto.proofs.PortLaws.{seat_kept}
@@ -53,11 +53,11 @@ send_starts {s} free to head posted bytes peers valid short long = record {
 
 -- ---- what stands afterwards
 
-same_target : (old new : Option OnItsWay) → IsSamePost old new → option_map (λ (post : OnItsWay). post.to) old ≡ option_map (λ (post : OnItsWay). post.to) new
-same_target None new same = ap (λ (o : Option OnItsWay). option_map (λ (post : OnItsWay). post.to) o) (sym same)
-same_target (Some post) new same = ap (λ (o : Option OnItsWay). option_map (λ (post : OnItsWay). post.to) o) (sym same.1)
+same_target : (old new : Option InFlight) → IsSamePost old new → option_map (λ (post : InFlight). post.to) old ≡ option_map (λ (post : InFlight). post.to) new
+same_target None new same = ap (λ (o : Option InFlight). option_map (λ (post : InFlight). post.to) o) (sym same)
+same_target (Some post) new same = ap (λ (o : Option InFlight). option_map (λ (post : InFlight). post.to) o) (sym same.1)
 
-still_answered : (old new : Option OnItsWay) → IsSamePost old new → was_answered old ≡ true → was_answered new ≡ true
+still_answered : (old new : Option InFlight) → IsSamePost old new → was_answered old ≡ true → was_answered new ≡ true
 still_answered None new same h = absurd (cc)
 still_answered (Some post) new same h = ap was_answered same.1 ∙ same.2 h
 
@@ -114,7 +114,7 @@ free_at_start s c fresh empty =
     record {
       between = between_at_start s c fresh empty;
       hands = holds_blank s.seat.setup.layout (record_in s) none;
-      slot_stands = record { to = sym (ap (λ (x : Record). option_map (λ (post : OnItsWay). post.to) x.post) none); seen = λ h. absurd (cc); peers = tt };
+      slot_stands = record { to = sym (ap (λ (x : Record). option_map (λ (post : InFlight). post.to) x.post) none); seen = λ h. absurd (cc); peers = tt };
     }
 
 sent_at : (seat : Seat) (rec : Record) (c : Private) (op : SendAt) (slot : SlotAt) (bytes : List ℕ) → op.stage ≡ stages.Finished → IsSending seat rec c op slot bytes → (rec.stage ≡ Idle) × (c.out ≡ None)

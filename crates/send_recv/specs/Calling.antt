@@ -12,7 +12,7 @@ use Rattle.scc_proto.specs.Stages.{Idle}
 use Rattle.scc_proto.specs.Ports.{Seat, Sight, Did, record_in}
 use Rattle.put_get.specs.Cores.{Private}
 use Rattle.put_get.specs.Transfers.{load_count}
-use Rattle.sync_flags.specs.Tries.{Aim, TriedInVain, tries_at, vain_tries, all_vain}
+use Rattle.sync_flags.specs.Tries.{Aim, TryFailed, tries_at, failed_tries, all_failed}
 use Rattle.sync_flags.specs.Turns.{IsBetweenCalls}
 use Rattle.send_recv.specs.declared.calls.RecvStop.{RecvStop}
 use Rattle.send_recv.specs.declared.calls.RecvStop.TheVariants.{Stalled, Mismatch}
@@ -33,7 +33,7 @@ sent_aim seat op = aim_of seat.setup.layout (flag_spot (own_core seat) (signal_f
 
 -- a receive has not stalled: at each spot where it tries, fewer than its last `polls` tries were vain
 abbrev pub HasNotStalled : Seat → RecvAt → ℕ → List Event → Type 0
-HasNotStalled seat op polls events = (spot : Spot) → IsRecvSpot seat op spot → TriedInVain (aim_of seat.setup.layout spot) polls events → ⊥
+HasNotStalled seat op polls events = (spot : Spot) → IsRecvSpot seat op spot → TryFailed (aim_of seat.setup.layout spot) polls events → ⊥
 
 -- a receive is at its end: the one call more is this one, with the bytes of the buffer
 pub record Received (old : Receiver) (polls : ℕ) (now : BufferHolder) : Type 0 where
@@ -54,14 +54,14 @@ pub record Received (old : Receiver) (polls : ℕ) (now : BufferHolder) : Type 0
 pub record RecvStalled (old : Receiver) (polls : ℕ) (now : Receiver) (spot : Spot) : Type 0 where
   pub events : List Event
   pub did : Did old.sight events now.sight
-  pub tried : TriedInVain (aim_of (layout_at old.sight) spot) polls events
+  pub tried : TryFailed (aim_of (layout_at old.sight) spot) polls events
   pub at : recv_spot old.sight.seat now.op ≡ Some spot
   pub stands : RecvStands now.sight now.core now.op now.bytes
   pub same : (now.op.from ≡ old.op.from) × (now.op.head ≡ old.op.head)
   pub calls : (record_in now.sight).calls ≡ (record_in old.sight).calls
   pub call_left : (x : List ℕ) → recv_call now.op x ≡ recv_call old.op x
   pub fuller : filled_to (chunk_at old.sight) old.op ≤ filled_to (chunk_at old.sight) now.op
-  pub behind : (k : ℕ) → filled_to (chunk_at old.sight) now.op ≤ k → slice_index now.bytes k ≡ slice_index old.bytes k
+  pub afterwards : (k : ℕ) → filled_to (chunk_at old.sight) now.op ≤ k → slice_index now.bytes k ≡ slice_index old.bytes k
   pub rest : KeepsAllButMessages (record_in old.sight) (record_in now.sight)
   pub post : IsSamePost (record_in old.sight).post (record_in now.sight).post
 
@@ -99,14 +99,14 @@ pub record FoundFirst (aim : Aim) (s t : Sight) : Type 0 where
   pub rest : List Event
   pub did : Did s (first ++ rest) t
   pub one : tries_at aim first ≡ 1
-  pub found : all_vain aim false first ≡ false
+  pub found : all_failed aim false first ≡ false
 
 -- the one look of a test found the flag unset, and nothing else was done
 pub record FoundUnset (aim : Aim) (old : Receiver) (now : BufferHolder) : Type 0 where
   pub events : List Event
   pub did : Did old.sight events now.sight
   pub one : tries_at aim events ≡ 1
-  pub unset : all_vain aim false events ≡ true
+  pub unset : all_failed aim false events ≡ true
   pub nothing : list_all is_resting events ≡ true
   -- the four loads of the flag's line, and no other
   pub only : IsOneTry aim events
@@ -135,13 +135,13 @@ pub record Sent (old : Sender) (now : SlotHolder) : Type 0 where
   pub plain : old.op.posted ≡ false → is_sent old.op.stage ≡ false → now.slot.to ≡ None
   pub rest : KeepsAllButMessages (record_in old.sight) (record_in now.sight)
   -- no row of vain tries is left, at any spot
-  pub no_row : is_sent old.op.stage ≡ false → (aim : Aim) → vain_tries aim events ≡ 0
+  pub no_row : is_sent old.op.stage ≡ false → (aim : Aim) → failed_tries aim events ≡ 0
 
 -- a send or a post gave up: the op that is handed back can go on
 pub record SendStalled (old : Sender) (polls : ℕ) (now : Sender) (spot : Spot) : Type 0 where
   pub events : List Event
   pub did : Did old.sight events now.sight
-  pub tried : TriedInVain (aim_of (layout_at old.sight) spot) polls events
+  pub tried : TryFailed (aim_of (layout_at old.sight) spot) polls events
   pub at : send_spot old.sight.seat now.op now.slot ≡ Some spot
   pub stands : SendStands now.sight now.core now.op now.slot now.bytes
   pub same : (now.op.to ≡ old.op.to) × (now.op.head ≡ old.op.head) × (now.op.posted ≡ old.op.posted)

@@ -10,4 +10,4 @@ pub mod Receiving
 pub mod Sending
 pub mod Calling
 pub mod Sights
-pub mod Stretches
+pub mod Batches

@@ -238,7 +238,7 @@ pub record RecvTurned (old now : Receiver) (answer : RecvTurn) : Type 0 where
   pub post : IsSamePost (record_in old.sight).post (record_in now.sight).post
   -- the buffer changes only where bytes of the line read stand
   pub before : (k : ℕ) → k < filled_to (chunk_at old.sight) old.op → slice_index now.bytes k ≡ slice_index old.bytes k
-  pub behind : (k : ℕ) → filled_to (chunk_at old.sight) now.op ≤ k → slice_index now.bytes k ≡ slice_index old.bytes k
+  pub afterwards : (k : ℕ) → filled_to (chunk_at old.sight) now.op ≤ k → slice_index now.bytes k ≡ slice_index old.bytes k
   -- the buffer is never filled less, and no more lines are left to load
   pub fuller : filled_to (chunk_at old.sight) old.op ≤ filled_to (chunk_at old.sight) now.op
   pub fewer : lines_left (layout_at old.sight) (chunk_at old.sight) now.op ≤ lines_left (layout_at old.sight) (chunk_at old.sight) old.op

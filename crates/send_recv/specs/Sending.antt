@@ -17,7 +17,7 @@ use Rattle.scc_base.specs.declared.events.Turn.{Turn}
 use Rattle.scc_base.specs.declared.events.Turn.TheVariants as turn
 use Rattle.scc_proto.specs.Messages.{Notes, noted_word, header_word}
 use Rattle.scc_proto.specs.Resting.{is_resting}
-use Rattle.scc_proto.specs.Stages.{Part, Filling, Raised, Answered, Stage, Idle, Drafting, Sending, OnItsWay, Record}
+use Rattle.scc_proto.specs.Stages.{Part, Filling, Raised, Answered, Stage, Idle, Drafting, Sending, InFlight, Record}
 use Rattle.scc_proto.specs.Words.{are_peers}
 use Rattle.scc_proto.specs.Records.{chunk_of}
 use Rattle.scc_proto.specs.Ports.{Seat, Sight, Did, record_in}
@@ -31,7 +31,7 @@ use Rattle.send_recv.specs.Chunks.{chunk_count, chunk_start, chunk_lines_of, lin
 use Rattle.send_recv.specs.Ops.{SendAt, SlotAt, is_sent, slot_left}
 use Rattle.send_recv.specs.Ranks.{Sender, SlotHolder, holding_slot}
 use Rattle.send_recv.specs.Receiving.{progress_at}
-use Rattle.sync_flags.specs.Tries.{Aim, Tried, vain_from, changing_after}
+use Rattle.sync_flags.specs.Tries.{Aim, Tried, failed_from, changing_after}
 use Rattle.sync_flags.specs.Turns.{waits_at}
 use Rattle.send_recv.specs.Sights.{chunk_at, layout_at, own_header_line, own_chunk_line, words_of_line, LooksFor, Raises, Lowers}
 use Rattle.send_recv.specs.Steps.{flag_spot, moves_on}
@@ -41,13 +41,13 @@ use Rattle.send_recv.specs.Turns.{HoldsNone, IsSamePost, KeepsAllButMessages, Is
 -- ---- the slot
 
 -- a posted message, if there is one, was answered: the sender has seen `ready`
-abbrev pub was_answered : Option OnItsWay → Bool
+abbrev pub was_answered : Option InFlight → Bool
 was_answered None = false
 was_answered (Some post) = post.is_answered
 
 -- the slot is the record's message on its way
 pub record SlotStands (seat : Seat) (rec : Record) (slot : SlotAt) : Type 0 where
-  pub to : slot.to ≡ option_map (λ (post : OnItsWay). post.to) rec.post
+  pub to : slot.to ≡ option_map (λ (post : InFlight). post.to) rec.post
   pub seen : slot.seen ≡ true → was_answered rec.post ≡ true
   pub peers : IfSome slot.to (λ j. are_peers seat.setup seat.rank j ≡ true)
 
@@ -297,7 +297,7 @@ pub record SendTurned (old now : Sender) (answer : Turn) : Type 0 where
   -- it has freed the register that it took
   pub freed : changing_after false events ≡ false
   -- its last turn ends with a store or a free: no row of vain tries is left, whatever was tried before
-  pub ends : answer ≡ turn.Done → is_sent old.op.stage ≡ false → (aim : Aim) (n : ℕ) → vain_from aim false n events ≡ 0
+  pub ends : answer ≡ turn.Done → is_sent old.op.stage ≡ false → (aim : Aim) (n : ℕ) → failed_from aim false n events ≡ 0
   -- where it waits, each of its events was a load or a vain take
   pub rests : (spot : Spot) → answer ≡ turn.Waiting spot → list_all is_resting events ≡ true
   -- where it waits, it made that one try and nothing else

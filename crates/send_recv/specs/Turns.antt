@@ -10,7 +10,7 @@ use Rattle.scc_base.specs.declared.events.Access.TheVariants.{Store}
 use Rattle.scc_base.specs.declared.events.Event.{Event}
 use Rattle.scc_base.specs.declared.events.Spot.{Spot}
 use Rattle.scc_base.specs.Setups.{SetupView}
-use Rattle.scc_proto.specs.Stages.{OnItsWay, FlagWords, Record}
+use Rattle.scc_proto.specs.Stages.{InFlight, FlagWords, Record}
 use Rattle.scc_proto.specs.Drafts.{is_draft}
 use Rattle.line_cache.specs.Lines.{cached_words}
 use Rattle.put_get.specs.Accesses.{loads_of, stores_of}
@@ -28,7 +28,7 @@ abbrev pub HoldsNone : Layout → Record → Type 0
 HoldsNone layout rec = HoldsNoneBy layout rec.held
 
 -- a posted message on its way is the same one, and its `ready` may have been seen since
-abbrev pub IsSamePost : Option OnItsWay → Option OnItsWay → Type 0
+abbrev pub IsSamePost : Option InFlight → Option InFlight → Type 0
 IsSamePost None new = new ≡ None
 IsSamePost (Some post) new =
     (answered : Bool) × (new ≡ Some (record post { is_answered = answered })) × (post.is_answered ≡ true → answered ≡ true)
@@ -70,9 +70,9 @@ stored_since line words (e ∷ es) = stored_since line (stored_by e.access line 
 -- the line that was loaded last stands in the cache, unless lines were evicted
 pub data LastHeld (es : List Event) (before : ℕ) (d : Private) : Type 0 where
   NoLoad : load_count es ≡ 0 → LastHeld es before d
-  Last : (front : List Event) (line : LineAt) (words : List ℕ) (behind : List Event)
-      → es ≡ front ++ (loads_of line words ++ behind) → load_count behind ≡ 0
-      → (d.evictions ≡ before → cached_words d.lines line ≡ Some (stored_since line words behind)) → LastHeld es before d
+  Last : (front : List Event) (line : LineAt) (words : List ℕ) (afterwards : List Event)
+      → es ≡ front ++ (loads_of line words ++ afterwards) → load_count afterwards ≡ 0
+      → (d.evictions ≡ before → cached_words d.lines line ≡ Some (stored_since line words afterwards)) → LastHeld es before d
 
 -- the event is no store of a header or chunk word
 abbrev pub is_no_draft : SetupView → Event → Bool

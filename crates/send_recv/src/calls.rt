@@ -37,15 +37,15 @@ pub fn recv<V: Evict, P: Port>(
 {
     let asked = op.head();
     let mut op = op;
-    let mut vain: u32 = 0;
+    let mut failed: u32 = 0;
     'turns: loop {
         match op.turn(core, port, bytes) {
             RecvTurn::Done => return Ok(()),
             RecvTurn::Mismatch(sent) => return Err(RecvStop::Mismatch { sent, asked }),
-            RecvTurn::Moved => vain = 0,
+            RecvTurn::Moved => failed = 0,
             RecvTurn::Waiting(spot) => {
-                vain += 1;
-                if vain >= polls {
+                failed += 1;
+                if failed >= polls {
                     return Err(RecvStop::Stalled { op, spot, polls });
                 }
             }

@@ -34,14 +34,14 @@ pub fn send<V: Evict, P: Port>(
         (holding_slot (P.sight port.new) core.new slot.new) result }
 {
     let mut op = op;
-    let mut vain: u32 = 0;
+    let mut failed: u32 = 0;
     'turns: loop {
         match op.turn(core, port, slot, bytes) {
             Turn::Done => return Ok(()),
-            Turn::Moved => vain = 0,
+            Turn::Moved => failed = 0,
             Turn::Waiting(spot) => {
-                vain += 1;
-                if vain >= polls {
+                failed += 1;
+                if failed >= polls {
                     return Err(SendStop::Stalled { op, spot, polls });
                 }
             }

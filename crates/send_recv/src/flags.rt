@@ -2,7 +2,7 @@
 
 ghost use Rattle.std.specs.Prelude.{◌≡◌, ◌<◌, false, None, IfSome, is_none};
 ghost use Rattle.put_get.specs.Cores.{MadeSteps};
-ghost use Rattle.send_recv.specs.Stretches.{changes_at_once};
+ghost use Rattle.send_recv.specs.Batches.{changes_at_once};
 ghost use Rattle.send_recv.specs.Sights.{IsSeatPeer, LooksFor, Lowers, Raises, MayLower, MayRaise, signal_spot, own_register, register_spot};
 
 use crate::places::{core_of, layout_of, own_core};

@@ -46,7 +46,7 @@ impl RecvOp {
     ghost use Rattle.send_recv.specs.Sights.{chunk_at, IsSeatPeer, first_byte, header_line, chunk_line, LooksFor, Lowers, Raises, MayLower, MayRaise, signal_spot, own_register, register_spot};
     ghost use Rattle.send_recv.specs.Steps.{with_empty_cache, goes_on, recv_or_waits, after_look, after_lower, after_line, after_raise, raise_answer, HeadRead, before_line};
     ghost use Rattle.send_recv.specs.Ranks.{receiving};
-    ghost use Rattle.send_recv.specs.Stretches.{ReadLines, is_reading};
+    ghost use Rattle.send_recv.specs.Batches.{ReadLines, is_reading};
     ghost use Rattle.scc_base.specs.declared.events.Spot.{Spot};
     ghost use Rattle.scc_base.specs.declared.events.Spot.TheVariants.{Register};
 
@@ -153,7 +153,7 @@ impl RecvOp {
             → slice_index bytes.new (first_byte (P.sight port.old) self.old.chunk line + k) ≡ byte_of_line words k) }
         ensures before { (k : ℕ) → k < first_byte (P.sight port.old) self.old.chunk line
             → slice_index bytes.new k ≡ slice_index bytes.old k }
-        ensures behind { (k : ℕ) → first_byte (P.sight port.old) self.old.chunk line + 32 ≤ k
+        ensures afterwards { (k : ℕ) → first_byte (P.sight port.old) self.old.chunk line + 32 ≤ k
             → slice_index bytes.new k ≡ slice_index bytes.old k }
         ensures next { self.new ≡ after_line (chunk_at (P.sight port.old)) line self.old }
         ensures answers { result ≡ recv_or_waits true (Register 0) }
@@ -181,7 +181,7 @@ impl RecvOp {
             → slice_index bytes.new (chunk_start (chunk_size layout) self.old.chunk + 32 * line + k) ≡ byte_of_line words.now k }
         ensures before { (k : ℕ) → k < chunk_start (chunk_size layout) self.old.chunk + 32 * line
             → slice_index bytes.new k ≡ slice_index bytes.old k }
-        ensures behind { (k : ℕ) → chunk_start (chunk_size layout) self.old.chunk + 32 * line + 32 ≤ k
+        ensures afterwards { (k : ℕ) → chunk_start (chunk_size layout) self.old.chunk + 32 * line + 32 ≤ k
             → slice_index bytes.new k ≡ slice_index bytes.old k }
         ensures next { self.new ≡ after_line (chunk_size layout) line self.old }
         ensures answers { result ≡ recv_or_waits true (Register 0) }

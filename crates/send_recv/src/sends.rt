@@ -63,7 +63,7 @@ impl SendOp {
     ghost use Rattle.send_recv.specs.Sights.{chunk_at, IsSeatPeer, own_header_line, own_chunk_line, words_of_line, LooksFor, Raises, Lowers, MayRaise, MayLower, signal_spot, own_register, register_spot};
     ghost use Rattle.send_recv.specs.Steps.{moves_on, moved_or_waits, after_header, after_written, after_flush, after_sent, sent_answer, slot_sent, after_seen, after_through, through_answer};
     ghost use Rattle.send_recv.specs.Ranks.{sending};
-    ghost use Rattle.send_recv.specs.Stretches.{WroteLines, is_writing};
+    ghost use Rattle.send_recv.specs.Batches.{WroteLines, is_writing};
 
     /// A send at the start of a message with this head.
     pub fn new(to: Rank, head: Head) -> SendOp

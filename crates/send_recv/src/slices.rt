@@ -102,7 +102,7 @@ fn put_word(bytes: &mut [u8], at: usize, word: u64)
     requires fits { at ≤ 2 ^ 32 }
     ensures put { (k : ℕ) → k < 8 → at + k < length bytes.old → slice_index bytes.new (at + k) ≡ byte_of_word word k }
     ensures before { (k : ℕ) → k < at → slice_index bytes.new k ≡ slice_index bytes.old k }
-    ensures behind { (k : ℕ) → at + 8 ≤ k → slice_index bytes.new k ≡ slice_index bytes.old k }
+    ensures afterwards { (k : ℕ) → at + 8 ≤ k → slice_index bytes.new k ≡ slice_index bytes.old k }
 {
     if at + 8 <= bytes.len() {
         bytes[at..at + 8].copy_from_slice(&word.to_le_bytes());
@@ -136,7 +136,7 @@ pub(crate) fn put_line(bytes: &mut [u8], at: usize, words: &[u64; 4])
     requires fits { at ≤ 2 ^ 31 }
     ensures put { (k : ℕ) → k < 32 → at + k < length bytes.old → slice_index bytes.new (at + k) ≡ byte_of_line words.now k }
     ensures before { (k : ℕ) → k < at → slice_index bytes.new k ≡ slice_index bytes.old k }
-    ensures behind { (k : ℕ) → at + 32 ≤ k → slice_index bytes.new k ≡ slice_index bytes.old k }
+    ensures afterwards { (k : ℕ) → at + 32 ≤ k → slice_index bytes.new k ≡ slice_index bytes.old k }
 {
     if at + 32 <= bytes.len() {
         put_four_words(&mut bytes[at..at + 32], words);

@@ -8,7 +8,7 @@ use Rattle.groups.specs.declared.collectives.Step.{Step}
 use Rattle.groups.specs.declared.collectives.Step.TheVariants.{Send, Recv}
 use Rattle.send_recv.specs.Calling.{SendStalled, Sent}
 use Rattle.send_recv.specs.Ops.{RecvAt, SendAt}
-use Rattle.station.specs.Calls.{behind_send, in_send}
+use Rattle.station.specs.Calls.{after_send, in_send}
 use Rattle.station.specs.Groups.{HasStepped, IsInStepReceive, IsInStepSend, SaysWhyStep, StandsInStep, StepLeaves, StepRank, in_step}
 use Rattle.station.specs.Stations.{IsInSend, NoCallOpen, StationAt}
 use Rattle.station.specs.Steps.{Held, StepDoes, begun_receive, begun_send, bytes_into, bytes_sent_by}
@@ -50,10 +50,10 @@ module _ (r : StepRank) (hand : Hand) (low : r.sight.seat.rank < r.sight.seat.se
     send_opens before at = subst (λ (x : List ℕ). IsInSend r.sight r.station op x) (sym bytes_is) (send_open before r peer head op (send_at before at))
 
     module _ (t : Sight) (b : StationAt) where
-      pub send_ends : Sent (in_send r.sight r.station op bytes) (behind_send t b) → NoCallOpen t b
+      pub send_ends : Sent (in_send r.sight r.station op bytes) (after_send t b) → NoCallOpen t b
           → (before : Held) → StandsInStep before r (Some (Send peer head)) hand → HasStepped before (Send peer head) r.sight (in_step t b r.part r.held)
       send_ends sent free before at = send_done before r peer head op (send_at before at) t b
-          (subst (λ (x : List ℕ). Sent (in_send r.sight r.station op x) (behind_send t b)) bytes_is sent) free
+          (subst (λ (x : List ℕ). Sent (in_send r.sight r.station op x) (after_send t b)) bytes_is sent) free
 
       pub send_leaves : (polls : ℕ) (stall : SendStall) (result : StepStop) → result ≡ step_stop.Stalled (Sending stall.op) stall.spot stall.polls → IsInSend t b stall.op bytes
           → SendStalled (in_send r.sight r.station op bytes) polls (in_send t b stall.op bytes) stall.spot

@@ -34,8 +34,8 @@ collective_begins s a more len src dst free fit =
 
 -- ---- the turns so far, of which so many at the end were vain in a row
 
-pub record Way (old : Participant) (vain : ℕ) (now : Participant) : Type 0 where
-  pub row : Row (stage_aim old.sight.seat now.slot now.op.stage) vain old.sight now.sight
+pub record Way (old : Participant) (failed : ℕ) (now : Participant) : Type 0 where
+  pub row : Row (stage_aim old.sight.seat now.slot now.op.stage) failed old.sight now.sight
   pub stands : (base : List DataCall) → MoreStands base old → MoreStands base now
   pub seat : now.sight.seat ≡ old.sight.seat
   pub more : now.op.more ≡ old.op.more
@@ -45,7 +45,7 @@ pub record Way (old : Participant) (vain : ℕ) (now : Participant) : Type 0 whe
 pub way_none : (old : Participant) → Way old 0 old
 way_none old = record { row = row_none; stands = λ base is. is; seat = refl; more = refl; len = refl; rest = rest_itself (record_in old.sight) }
 
-module _ {old mid now : Participant} {vain : ℕ} {answer : RecvTurn} (way : Way old vain mid) (turned : MoreTurned mid now answer) where
+module _ {old mid now : Participant} {failed : ℕ} {answer : RecvTurn} (way : Way old failed mid) (turned : MoreTurned mid now answer) where
   same_seat : now.sight.seat ≡ old.sight.seat
   same_seat = seat_kept mid.sight turned.events now.sight turned.did ∙ way.seat
 
@@ -87,21 +87,21 @@ module _ {old mid now : Participant} {vain : ℕ} {answer : RecvTurn} (way : Way
       }
 
 -- a turn that waits makes the row longer by one
-module _ {old mid now : Participant} {vain : ℕ} {spot : Spot} (way : Way old vain mid) (turned : MoreTurned mid now (turn.Waiting spot)) where
+module _ {old mid now : Participant} {failed : ℕ} {spot : Spot} (way : Way old failed mid) (turned : MoreTurned mid now (turn.Waiting spot)) where
   tried_there : Tried (stage_aim old.sight.seat mid.slot mid.op.stage) turned.events (Some spot)
   tried_there = subst (λ (x : Seat). Tried (stage_aim x mid.slot mid.op.stage) turned.events (Some spot)) way.seat turned.tried
 
   aim_stays : stage_aim old.sight.seat now.slot now.op.stage ≡ stage_aim old.sight.seat mid.slot mid.op.stage
   aim_stays = λ i. stage_aim old.sight.seat (turned.means.0.same_slot i) (turned.means.0.same_op i).stage
 
-  pub way_waited : ((base : List DataCall) → MoreStands base mid → MoreStands base now) → Way old (vain + 1) now
+  pub way_waited : ((base : List DataCall) → MoreStands base mid → MoreStands base now) → Way old (failed + 1) now
   way_waited stands = with_row way turned stands
       (row_waited way.row turned.did turned.freed tried_there (resting_quiet turned.events (turned.rests spot refl)) aim_stays)
 
-  pub way_stalls : ((base : List DataCall) → MoreStands base mid → MoreStands base now) → (polls : ℕ) → polls ≤ vain + 1 → MoreStalled old polls now spot
+  pub way_stalls : ((base : List DataCall) → MoreStands base mid → MoreStands base now) → (polls : ℕ) → polls ≤ failed + 1 → MoreStalled old polls now spot
   way_stalls stands polls enough =
       let w = waited tried_there in
-      let n : Way old (vain + 1) now = way_waited stands in
+      let n : Way old (failed + 1) now = way_waited stands in
       let looks : stage_aim old.sight.seat now.slot now.op.stage ≡ Some w.at = aim_stays ∙ w.is in
       let many = n.row.tried w.at looks in
       record {
@@ -115,15 +115,15 @@ module _ {old mid now : Participant} {vain : ℕ} {spot : Spot} (way : Way old v
       }
 
 -- a turn that meets another message leaves all as it is
-pub way_differs : {old mid now : Participant} {vain : ℕ} {sent : MessageHead} → Way old vain mid → MoreTurned mid now (turn.Mismatch sent) → MoreDiffers old now sent
-way_differs {old} {mid} {now} {vain} {sent} way turned = record {
+pub way_differs : {old mid now : Participant} {failed : ℕ} {sent : MessageHead} → Way old failed mid → MoreTurned mid now (turn.Mismatch sent) → MoreDiffers old now sent
+way_differs {old} {mid} {now} {failed} {sent} way turned = record {
   same = (turned.same.0 ∙ way.more, turned.same.1 ∙ way.len);
   met = subst (λ (m : MoreAt). MetOther (record_in now.sight) sent m.stage) (sym turned.means.0.same_op) turned.means.2;
 }
 
 -- fewer turns are left
-pub falls : {left now polls vain : ℕ} → now < left → vain < polls → now * polls + (polls - 0) < left * polls + (polls - vain)
-falls {left} {now} {polls} {vain} less low =
+pub falls : {left now polls failed : ℕ} → now < left → failed < polls → now * polls + (polls - 0) < left * polls + (polls - failed)
+falls {left} {now} {polls} {failed} less low =
     let at_least : now + 1 ≤ left = omega (arith, less) in
     let most : (now + 1) * polls ≤ left * polls = mul-le-mul_right polls at_least in
     let product : (now + 1) * polls ≡ now * polls + 1 * polls = add-mul now 1 polls in

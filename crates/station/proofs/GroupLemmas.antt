@@ -8,7 +8,7 @@ use Rattle.scc_base.specs.Setups.{SetupView, members_of, place_of}
 use Rattle.scc_base.specs.declared.kinds.Kind.TheVariants as kind
 use Rattle.scc_proto.specs.Ports.{Seat, Sight, record_in}
 use Rattle.scc_proto.proofs.PortLaws.{did_both, did_nothing}
-use Rattle.sync_flags.specs.Tries.{TriedInVain}
+use Rattle.sync_flags.specs.Tries.{TryFailed}
 use Rattle.send_recv.specs.Sights.{layout_at}
 use Rattle.send_recv.specs.Tries.{aim_of}
 use Rattle.send_recv.proofs.Loops.RecvLoop.{rest_both, rest_itself}
@@ -252,7 +252,7 @@ module _ (s t : Sight) (a b : StationAt) (coll : Coll) (folding : Option Folding
     record {
       events = why.1.events;
       did = why.1.did;
-      tried = subst (λ (n : ℕ). TriedInVain (aim_of (layout_at s) spot) n why.1.events) same why.1.tried;
+      tried = subst (λ (n : ℕ). TryFailed (aim_of (layout_at s) spot) n why.1.events) same why.1.tried;
       looks = why.1.looks;
     },
   )

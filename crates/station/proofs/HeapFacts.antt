@@ -22,7 +22,7 @@ use Rattle.tas_lock.specs.Holds.{IsHolding, IsNotHolding, record_after_release, 
 use Rattle.tas_lock.proofs.HoldLemmas.{next_freed, next_tried}
 use Rattle.sync_flags.specs.Flags.{flag_of, flag_value, with_bit}
 use Rattle.sync_flags.specs.Looks.{LooksAll, ReadsFlag, WaitsFor}
-use Rattle.sync_flags.specs.Writes.{WritesFlag, change_events, vain_takes}
+use Rattle.sync_flags.specs.Writes.{WritesFlag, change_events, failed_takes}
 use Rattle.station.specs.Stations.{HoldsNoRegister}
 
 -- a record that differs from another in its heap at most
@@ -166,9 +166,9 @@ module _ (seat : Seat) (valid : IsSetup seat.setup) (r : ℕ) (lt : r < seat.set
   free_of_none : (rec : Record) (core : ℕ) → HoldsNoRegister rec → IsNotHolding rec core
   free_of_none rec core none = ap (λ (o : Option FlagWords). is_none o) (none core)
 
-  vain_nothing : (n : ℕ) (rec : Record) (core : ℕ) → IsNotHolding rec core → record_on seat rec (vain_takes core n) ≡ rec
-  vain_nothing zero rec core free = refl
-  vain_nothing (suc n) rec core free = ap (λ (x : Record). record_on seat x (vain_takes core n)) (next_tried seat rec core false free) ∙ vain_nothing n rec core free
+  failed_nothing : (n : ℕ) (rec : Record) (core : ℕ) → IsNotHolding rec core → record_on seat rec (failed_takes core n) ≡ rec
+  failed_nothing zero rec core free = refl
+  failed_nothing (suc n) rec core free = ap (λ (x : Record). record_on seat x (failed_takes core n)) (next_tried seat rec core false free) ∙ failed_nothing n rec core free
 
   bit_alone : (rec : Record) (line word b : ℕ) (set : Bool) (words : List ℕ) → first_heap ≤ line → leaves_heap rec.stage ≡ true → HoldsNoRegister rec
       → HeapAlone rec (record_on seat rec (change_events (place_of line word) b set words))
@@ -232,9 +232,9 @@ module _ (seat : Seat) (valid : IsSetup seat.setup) (r : ℕ) (lt : r < seat.set
 
       pub wait_call : (want : Bool) (polls : ℕ) (result : Result Unit base.Stalled) → WaitsFor s c (flag_of seat.setup r f) f.bit want polls t d result → IsHeapCall s t d
       wait_call want polls (Ok done) finds =
-          let vain = looks_read finds.looks.looks c finds.core f.line high at finds.looks.looked in
-          as_heap_call (as_before_both vain (loaded f.line finds.reads.words high vain.seat_is finds.reads.looks.did)) empty
-      wait_call want polls (Err stalled) vain = as_heap_call (looks_read vain.0.looks c d f.line high at vain.0.looked) empty
+          let failed = looks_read finds.looks.looks c finds.core f.line high at finds.looks.looked in
+          as_heap_call (as_before_both failed (loaded f.line finds.reads.words high failed.seat_is finds.reads.looks.did)) empty
+      wait_call want polls (Err stalled) failed = as_heap_call (looks_read failed.0.looks c d f.line high at failed.0.looked) empty
 
       pub set_call : (set : Bool) (polls : ℕ) (bit : Option ℕ) (result : Result Unit base.Stalled) → WritesFlag s c (flag_of seat.setup r f) bit set polls t d result → IsHeapCall s t d
       set_call set polls None (Ok done) writes = record {
@@ -245,20 +245,20 @@ module _ (seat : Seat) (valid : IsSetup seat.setup) (r : ℕ) (lt : r < seat.set
       set_call set polls None (Err stalled) writes = absurd writes
       set_call set polls (Some b) (Ok done) writes =
           let core : ℕ = host_of seat.setup.hosts r in
-          let vain : List Event = vain_takes core writes.vain in
+          let failed : List Event = failed_takes core writes.failed in
           let change : List Event = change_events (flag_of seat.setup r f) b set writes.words in
-          let tried = vain_nothing writes.vain (record_in s) core (free_of_none (record_in s) core none) in
+          let tried = failed_nothing writes.failed (record_in s) core (free_of_none (record_in s) core none) in
           record {
-            seat_is = seat_kept s (vain ++ change) t writes.did ∙ at;
+            seat_is = seat_kept s (failed ++ change) t writes.did ∙ at;
             alone = did_alone at writes.did (subst (λ (x : Record). HeapAlone (record_in s) x)
-                (sym (record_on-append seat (record_in s) vain change ∙ ap (λ (x : Record). record_on seat x change) tried))
+                (sym (record_on-append seat (record_in s) failed change ∙ ap (λ (x : Record). record_on seat x change) tried))
                 (bit_alone (record_in s) f.line f.word b set writes.words high leaves none));
             empty = empty;
           }
       set_call set polls (Some b) (Err stalled) writes =
           let core : ℕ = host_of seat.setup.hosts r in
           record {
-            seat_is = seat_kept s (vain_takes core polls) t writes.0.did ∙ at;
-            alone = did_alone at writes.0.did (same_record (vain_nothing polls (record_in s) core (free_of_none (record_in s) core none)));
+            seat_is = seat_kept s (failed_takes core polls) t writes.0.did ∙ at;
+            alone = did_alone at writes.0.did (same_record (failed_nothing polls (record_in s) core (free_of_none (record_in s) core none)));
             empty = empty;
           }

@@ -74,7 +74,7 @@ module _ (s : Sight) (m r : Gv) (h : ℕ) where
     unended = at.unended;
     bytes = at.bytes;
     held_is = at.held_is;
-    behind = at.behind;
+    afterwards = at.afterwards;
     stands = receive_there a op at.bytes at.stands;
   }
 

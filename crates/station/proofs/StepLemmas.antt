@@ -23,7 +23,7 @@ use Rattle.send_recv.specs.Receiving.{filled_to, recv_call}
 use Rattle.send_recv.specs.Sending.{send_call}
 use Rattle.send_recv.specs.Sights.{chunk_at}
 use Rattle.send_recv.proofs.Starts.{receive_starts, send_starts}
-use Rattle.station.specs.Calls.{OnlyMessages, behind_receive, behind_send, in_receive, in_send}
+use Rattle.station.specs.Calls.{OnlyMessages, after_receive, after_send, in_receive, in_send}
 use Rattle.station.specs.Groups.{HandDiffers, HasStepped, IsInStepReceive, IsInStepSend, IsAtStart, SaysWhyStep, StandsInStep, StepLeaves, StepRank, in_step, step_stop_of}
 use Rattle.station.specs.Stations.{IsInReceive, IsInSend, NoCallOpen, StationAt}
 use Rattle.station.specs.Steps.{Held, GroupPart, StepDoes, begun_receive, begun_send, bytes_into, bytes_sent_by, with_received}
@@ -133,7 +133,7 @@ module _ (before : Held) (r : StepRank) (low : r.sight.seat.rank < r.sight.seat.
         unended = refl;
         bytes = bytes_into r.part.is_root before;
         held_is = at.held_is ∙ sym (filled_same r.part.is_root before);
-        behind = λ k from. refl;
+        afterwards = λ k from. refl;
         stands = new_receive_stands r.sight r.station at.free low peer head (bytes_into r.part.is_root before) is valid here;
       }
   ready_receive (Sending op) long at = true_not_false (sym (ap is_send at.next_is))
@@ -152,7 +152,7 @@ module _ (before : Held) (r : StepRank) (to : ℕ) (head : MessageHead) (op : Se
   send_open = subst (λ (x : List ℕ). IsInSend r.sight r.station op x) out_here at.stands
 
   module _ (t : Sight) (b : StationAt) where
-    pub send_done : Sent (in_send r.sight r.station op (bytes_sent_by r.part r.held)) (behind_send t b) → NoCallOpen t b
+    pub send_done : Sent (in_send r.sight r.station op (bytes_sent_by r.part r.held)) (after_send t b) → NoCallOpen t b
         → HasStepped before (Send to head) r.sight (in_step t b r.part r.held)
     send_done sent free = record {
       calls = CallSend to head (bytes_sent_by r.part before) ∷ [];
@@ -181,7 +181,7 @@ send_why {s} {t} a b to head part held stall result is why =
     subst (λ (x : StepStop). SaysWhyStep (Some (Send to head)) s a.polls (in_step t b part held) x) (sym is)
     (why.0, record { events = why.1.events; did = why.1.did; tried = why.1.tried; looks = why.1.at })
 
-pub send_only : {s t : Sight} (a b : StationAt) {op : SendAt} {bytes : List ℕ} → Sent (in_send s a op bytes) (behind_send t b) → OnlyMessages s t
+pub send_only : {s t : Sight} (a b : StationAt) {op : SendAt} {bytes : List ℕ} → Sent (in_send s a op bytes) (after_send t b) → OnlyMessages s t
 send_only a b sent = record { events = sent.events; did = sent.did; rest = sent.rest }
 
 pub stalled_only : {s t : Sight} (a b : StationAt) {op later : SendAt} {bytes : List ℕ} {polls : ℕ} {spot : Spot}
@@ -218,7 +218,7 @@ module _ (before : Held) (r : StepRank) (next : Option Step) (op : RecvAt) (at :
     there : held ≡ with_received r.part.is_root bytes before
     there = is ∙ ap (with_received r.part.is_root bytes) at.held_is ∙ filled_again r.part.is_root at.bytes bytes before
 
-    pub receive_done : (polls : ℕ) → Received (in_receive r.sight r.station op (bytes_into r.part.is_root r.held)) polls (behind_receive t b bytes) → NoCallOpen t b
+    pub receive_done : (polls : ℕ) → Received (in_receive r.sight r.station op (bytes_into r.part.is_root r.held)) polls (after_receive t b bytes) → NoCallOpen t b
         → HasStepped before (Recv op.from op.head) r.sight (in_step t b r.part held)
     receive_done polls got free = record {
       calls = CallRecv op.from op.head bytes ∷ [];
@@ -238,27 +238,27 @@ module _ (before : Held) (r : StepRank) (next : Option Step) (op : RecvAt) (at :
           unended = still_unended op later at.unended st.call_left;
           bytes = bytes;
           held_is = there;
-          behind = λ k from.
+          afterwards = λ k from.
               let past : filled_to (chunk_at r.sight) later ≤ k = subst (λ (n : ℕ). filled_to n later ≤ k) size from in
               let fuller : filled_to (chunk_at r.sight) op ≤ filled_to (chunk_at r.sight) later = st.fuller in
-              st.behind k past ∙ ap (λ (l : List ℕ). slice_index l k) (sym bytes_here) ∙ at.behind k (omega (arith, past, fuller));
+              st.afterwards k past ∙ ap (λ (l : List ℕ). slice_index l k) (sym bytes_here) ∙ at.afterwards k (omega (arith, past, fuller));
           stands = stands;
         }
 
-    pub receive_differs : (polls : ℕ) (sent asked : MessageHead) → RecvDiffers (in_receive r.sight r.station op (bytes_into r.part.is_root r.held)) polls (behind_receive t b bytes) sent asked
+    pub receive_differs : (polls : ℕ) (sent asked : MessageHead) → RecvDiffers (in_receive r.sight r.station op (bytes_into r.part.is_root r.held)) polls (after_receive t b bytes) sent asked
         → NoCallOpen t b → IsAtStart before (in_step t b r.part held)
     receive_differs polls sent asked other free =
         let none : filled_to (chunk_at r.sight) op ≡ 0 = other.none_filled in
         let long : length at.bytes ≡ op.head.len = at.stands.stands.long in
         let same : at.bytes ≡ bytes_into r.part.is_root before =
-        same_number_lists at.bytes (bytes_into r.part.is_root before) (long ∙ sym at.long) (λ k low. at.behind k (omega (arith, none))) in
+        same_number_lists at.bytes (bytes_into r.part.is_root before) (long ∙ sym at.long) (λ k low. at.afterwards k (omega (arith, none))) in
         record {
           held_is = there ∙ ap (λ (l : List ℕ). with_received r.part.is_root l before) (other.unchanged ∙ sym bytes_here ∙ same) ∙ filled_same r.part.is_root before;
           free = free;
         }
 
 pub receive_met : {s t : Sight} (a b : StationAt) {op : RecvAt} {bytes after : List ℕ} {polls : ℕ} {sent asked : MessageHead}
-    → RecvDiffers (in_receive s a op bytes) polls (behind_receive t b after) sent asked → HandDiffers (Some (Recv op.from op.head)) t sent asked
+    → RecvDiffers (in_receive s a op bytes) polls (after_receive t b after) sent asked → HandDiffers (Some (Recv op.from op.head)) t sent asked
 receive_met a b {op = op} other = record {
   from = op.from;
   next_is = ap (λ (h : MessageHead). Some (Recv op.from h)) (sym other.is_asked);
@@ -286,32 +286,32 @@ module _ (s t : Sight) (a b : StationAt) (op : RecvAt) (root : Bool) (held : Hel
     filled_by : with_received root bytes held ≡ with_received part.is_root bytes held
     filled_by = ap (λ (x : Bool). with_received x bytes held) (sym same)
 
-    pub into_done : (polls : ℕ) → Received (in_receive s a op (bytes_into root held)) polls (behind_receive t b bytes) → NoCallOpen t b
+    pub into_done : (polls : ℕ) → Received (in_receive s a op (bytes_into root held)) polls (after_receive t b bytes) → NoCallOpen t b
         → HasStepped before (Recv op.from op.head) s (in_step t b part (with_received root bytes held))
     into_done polls got free = receive_done before (in_step s a part held) (Some (Recv op.from op.head)) op at t b bytes (with_received root bytes held) filled_by polls
-        (subst (λ (x : Bool). Received (in_receive s a op (bytes_into x held)) polls (behind_receive t b bytes)) (sym same) got) free
+        (subst (λ (x : Bool). Received (in_receive s a op (bytes_into x held)) polls (after_receive t b bytes)) (sym same) got) free
 
     pub into_left : (polls : ℕ) (stop : RecvStop) (result : StepStop) → result ≡ step_stop_of stop → StopsReceive t b bytes stop
-        → SaysWhy (in_receive s a op (bytes_into root held)) polls (behind_receive t b bytes) stop
+        → SaysWhy (in_receive s a op (bytes_into root held)) polls (after_receive t b bytes) stop
         → StepLeaves before (Some (Recv op.from op.head)) (in_step t b part (with_received root bytes held)) result
     into_left polls stop result is left why =
         subst (λ (x : StepStop). StepLeaves before (Some (Recv op.from op.head)) (in_step t b part (with_received root bytes held)) x) (sym is) (by stop left why)
       where
-        by : (x : RecvStop) → StopsReceive t b bytes x → SaysWhy (in_receive s a op (bytes_into root held)) polls (behind_receive t b bytes) x
+        by : (x : RecvStop) → StopsReceive t b bytes x → SaysWhy (in_receive s a op (bytes_into root held)) polls (after_receive t b bytes) x
             → StepLeaves before (Some (Recv op.from op.head)) (in_step t b part (with_received root bytes held)) (step_stop_of x)
         by (recv_stop.Stalled stall) stands says = receive_left before (in_step s a part held) (Some (Recv op.from op.head)) op at t b bytes (with_received root bytes held) filled_by
             polls stall.op stall.spot
             (subst (λ (x : Bool). RecvStalled (in_receive s a op (bytes_into x held)) polls (in_receive t b stall.op bytes) stall.spot) (sym same) says.1) stands
         by (recv_stop.Mismatch sent asked) free says = receive_differs before (in_step s a part held) (Some (Recv op.from op.head)) op at t b bytes (with_received root bytes held) filled_by
-            polls sent asked (subst (λ (x : Bool). RecvDiffers (in_receive s a op (bytes_into x held)) polls (behind_receive t b bytes) sent asked) (sym same) says) free
+            polls sent asked (subst (λ (x : Bool). RecvDiffers (in_receive s a op (bytes_into x held)) polls (after_receive t b bytes) sent asked) (sym same) says) free
 
-  module _ (now : List ℕ) (stop : RecvStop) (says : SaysWhy (in_receive s a op now) a.polls (behind_receive t b bytes) stop) where
+  module _ (now : List ℕ) (stop : RecvStop) (says : SaysWhy (in_receive s a op now) a.polls (after_receive t b bytes) stop) where
     pub into_why : (part : GroupPart) (later : Held) (result : StepStop) → result ≡ step_stop_of stop
         → SaysWhyStep (Some (Recv op.from op.head)) s a.polls (in_step t b part later) result
     into_why part later result is =
         subst (λ (x : StepStop). SaysWhyStep (Some (Recv op.from op.head)) s a.polls (in_step t b part later) x) (sym is) (by stop says)
       where
-        by : (x : RecvStop) → SaysWhy (in_receive s a op now) a.polls (behind_receive t b bytes) x
+        by : (x : RecvStop) → SaysWhy (in_receive s a op now) a.polls (after_receive t b bytes) x
             → SaysWhyStep (Some (Recv op.from op.head)) s a.polls (in_step t b part later) (step_stop_of x)
         by (recv_stop.Stalled stall) why = (why.0, record { events = why.1.events; did = why.1.did; tried = why.1.tried; looks = why.1.at })
         by (recv_stop.Mismatch sent asked) why = receive_met a b why
@@ -319,16 +319,16 @@ module _ (s t : Sight) (a b : StationAt) (op : RecvAt) (root : Bool) (held : Hel
     pub into_none : (record_in t).calls ≡ (record_in s).calls
     into_none = by stop says
       where
-        by : (x : RecvStop) → SaysWhy (in_receive s a op now) a.polls (behind_receive t b bytes) x → (record_in t).calls ≡ (record_in s).calls
+        by : (x : RecvStop) → SaysWhy (in_receive s a op now) a.polls (after_receive t b bytes) x → (record_in t).calls ≡ (record_in s).calls
         by (recv_stop.Stalled stall) why = why.1.calls
         by (recv_stop.Mismatch sent asked) why = why.calls
 
     pub into_only : OnlyMessages s t
     into_only = by stop says
       where
-        by : (x : RecvStop) → SaysWhy (in_receive s a op now) a.polls (behind_receive t b bytes) x → OnlyMessages s t
+        by : (x : RecvStop) → SaysWhy (in_receive s a op now) a.polls (after_receive t b bytes) x → OnlyMessages s t
         by (recv_stop.Stalled stall) why = record { events = why.1.events; did = why.1.did; rest = why.1.rest }
         by (recv_stop.Mismatch sent asked) why = record { events = why.events; did = why.did; rest = why.rest }
 
-pub got_only : {s t : Sight} (a b : StationAt) {op : RecvAt} {now bytes : List ℕ} {polls : ℕ} → Received (in_receive s a op now) polls (behind_receive t b bytes) → OnlyMessages s t
+pub got_only : {s t : Sight} (a b : StationAt) {op : RecvAt} {now bytes : List ℕ} {polls : ℕ} → Received (in_receive s a op now) polls (after_receive t b bytes) → OnlyMessages s t
 got_only a b got = record { events = got.events; did = got.did; rest = got.rest }

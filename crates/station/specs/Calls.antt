@@ -22,8 +22,8 @@ abbrev pub at_post : Sight → StationAt → ℕ → List ℕ → Sender
 at_post s a to bytes = in_send s a (new_send to (plain_head (length bytes)) true) bytes
 
 -- a rank behind a send, a post or a turn of the slot
-abbrev pub behind_send : Sight → StationAt → SlotHolder
-behind_send s a = holding_slot s a.core a.slot
+abbrev pub after_send : Sight → StationAt → SlotHolder
+after_send s a = holding_slot s a.core a.slot
 
 -- a rank in a receive, with what its buffer holds
 abbrev pub in_receive : Sight → StationAt → RecvAt → List ℕ → Receiver
@@ -34,8 +34,8 @@ abbrev pub at_receive : Sight → StationAt → ℕ → List ℕ → Receiver
 at_receive s a from bytes = in_receive s a (new_receive from (plain_head (length bytes))) bytes
 
 -- a rank behind a receive of these bytes
-abbrev pub behind_receive : Sight → StationAt → List ℕ → BufferHolder
-behind_receive s a bytes = with_bytes s a.core bytes
+abbrev pub after_receive : Sight → StationAt → List ℕ → BufferHolder
+after_receive s a bytes = with_bytes s a.core bytes
 
 -- a rank in a barrier
 abbrev pub in_barrier : Sight → StationAt → BarAt → Member
@@ -46,8 +46,8 @@ abbrev pub at_barrier : Sight → StationAt → ℕ → Member
 at_barrier s a comm = in_barrier s a (new_barrier comm)
 
 -- a rank behind a barrier
-abbrev pub behind_barrier : Sight → StationAt → ParityHolder
-behind_barrier s a = with_parity s a.core a.parity
+abbrev pub after_barrier : Sight → StationAt → ParityHolder
+after_barrier s a = with_parity s a.core a.parity
 
 -- between two sights a rank sent and received messages and did nothing else: the rest of its record is as it was
 pub record OnlyMessages (s t : Sight) : Type 0 where

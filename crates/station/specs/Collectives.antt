@@ -5,7 +5,7 @@ use Rattle.scc_base.specs.Heads.{MessageHead}
 use Rattle.scc_base.specs.declared.events.Event.{Event}
 use Rattle.scc_base.specs.declared.events.Spot.{Spot}
 use Rattle.scc_proto.specs.Ports.{Did, Sight, record_in}
-use Rattle.sync_flags.specs.Tries.{Aim, TriedInVain, spot_of}
+use Rattle.sync_flags.specs.Tries.{Aim, TryFailed, spot_of}
 use Rattle.barrier.specs.Flags.{IsParityOf}
 use Rattle.coll_more.specs.Ops.{MoreAt, Participant, taking_part}
 use Rattle.coll_more.specs.Standing.{MoreStands}
@@ -32,7 +32,7 @@ pub record MoreStalled (old : Participant) (polls : ℕ) (now : Participant) (sp
   pub aim : Aim
   pub looks : stage_aim now.sight.seat now.slot now.op.stage ≡ Some aim
   pub at : spot ≡ spot_of aim
-  pub tried : TriedInVain aim polls events
+  pub tried : TryFailed aim polls events
 
 -- a collective call met a message with another head than that of its message in hand: it stays untaken
 pub record MoreDiffers (old now : Participant) (sent : MessageHead) : Type 0 where

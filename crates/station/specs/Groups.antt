@@ -7,7 +7,7 @@ use Rattle.scc_base.specs.declared.events.Event.{Event}
 use Rattle.scc_base.specs.declared.events.Spot.{Spot}
 use Rattle.scc_proto.specs.Messages.{Notes}
 use Rattle.scc_proto.specs.Ports.{Did, Seat, Sight, record_in}
-use Rattle.sync_flags.specs.Tries.{TriedInVain}
+use Rattle.sync_flags.specs.Tries.{TryFailed}
 use Rattle.send_recv.specs.Ops.{RecvAt, SendAt, is_received, is_sent}
 use Rattle.send_recv.specs.Receiving.{SaysHead, filled_to, recv_spot}
 use Rattle.send_recv.specs.Sending.{send_spot}
@@ -79,7 +79,7 @@ pub record IsInStepReceive (before : Held) (r : StepRank) (next : Option Step) (
   pub unended : is_received op.stage ≡ false
   pub bytes : List ℕ
   pub held_is : r.held ≡ with_received r.part.is_root bytes before
-  pub behind : IsFilledFrom (filled_to (chunk_at r.sight) op) (bytes_into r.part.is_root before) bytes
+  pub afterwards : IsFilledFrom (filled_to (chunk_at r.sight) op) (bytes_into r.part.is_root before) bytes
   pub stands : IsInReceive r.sight r.station op bytes
 
 -- the rank is between two messages, with the buffers as before the step that comes next
@@ -110,7 +110,7 @@ hand_spot seat a (Receiving op) = recv_spot seat op
 pub record HandStalled (from : Sight) (polls : ℕ) (now : StepRank) (hand : Hand) (spot : Spot) : Type 0 where
   pub events : List Event
   pub did : Did from events now.sight
-  pub tried : TriedInVain (aim_of (layout_at from) spot) polls events
+  pub tried : TryFailed (aim_of (layout_at from) spot) polls events
   pub looks : hand_spot from.seat now.station hand ≡ Some spot
 
 -- a receive met another head than it asked for, whose words the record has noted

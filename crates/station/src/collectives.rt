@@ -38,15 +38,15 @@ fn take_turns<V: Evict, P: Port>(
     ensures only { OnlyMessages (P.sight port.old) (P.sight port.new) }
 {
     let mut op = op;
-    let mut vain: u32 = 0;
+    let mut failed: u32 = 0;
     'turns: loop {
         match op.turn(core, port, slot, src, dst) {
             RecvTurn::Done => return Ok(()),
             RecvTurn::Mismatch(sent) => return Err(CollStop::Mismatch { op, sent }),
-            RecvTurn::Moved => vain = 0,
+            RecvTurn::Moved => failed = 0,
             RecvTurn::Waiting(spot) => {
-                vain += 1;
-                if vain >= polls {
+                failed += 1;
+                if failed >= polls {
                     return Err(CollStop::Stalled(CollStall { op, spot, polls }));
                 }
             }

@@ -15,7 +15,7 @@ impl<V: Evict> Station<V> {
     ghost use Rattle.scc_proto.specs.Ports.{Did, record_in};
     ghost use Rattle.sync_flags.specs.Flags.{flag_of};
     ghost use Rattle.sync_flags.specs.Looks.{ReadsFlag, WaitsFor};
-    ghost use Rattle.sync_flags.specs.Tries.{AtFlag, AtRegister, TriedInVain};
+    ghost use Rattle.sync_flags.specs.Tries.{AtFlag, AtRegister, TryFailed};
     ghost use Rattle.sync_flags.specs.Writes.{WritesFlag};
     ghost use Rattle.station.specs.Stations.{KeepsAllButHeap, KeepsSlot, NoCallOpen};
     ghost use Rattle.scc_base.specs.Places.{first_heap};
@@ -49,7 +49,7 @@ impl<V: Evict> Station<V> {
         ensures writes { WritesFlag (P.sight port.old) self.old.core (flag_of (P.sight port.old).seat.setup at flag) flag.bit value
             self.old.polls (P.sight port.new) self.new.core result }
         ensures stalls { (events : List Event) → Did (P.sight port.old) events (P.sight port.new) → (IsErr result
-            ↔ TriedInVain (AtRegister (flag_of (P.sight port.old).seat.setup at flag).core) self.old.polls events) }
+            ↔ TryFailed (AtRegister (flag_of (P.sight port.old).seat.setup at flag).core) self.old.polls events) }
         ensures seat { (P.sight port.new).seat ≡ (P.sight port.old).seat }
         ensures same { KeepsSlot self.old self.new }
     {
@@ -88,7 +88,7 @@ impl<V: Evict> Station<V> {
             (flag_of (P.sight port.old).seat.setup (P.sight port.old).seat.rank flag) flag.bit want
             self.old.polls (P.sight port.new) self.new.core result }
         ensures stalls { (events : List Event) → Did (P.sight port.old) events (P.sight port.new) → (IsErr result
-            ↔ TriedInVain (AtFlag (flag_of (P.sight port.old).seat.setup (P.sight port.old).seat.rank flag) flag.bit want)
+            ↔ TryFailed (AtFlag (flag_of (P.sight port.old).seat.setup (P.sight port.old).seat.rank flag) flag.bit want)
             self.old.polls events) }
         ensures seat { (P.sight port.new).seat ≡ (P.sight port.old).seat }
         ensures same { KeepsSlot self.old self.new }

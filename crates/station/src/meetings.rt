@@ -14,7 +14,7 @@ impl<V: Evict> Station<V> {
     ghost use Rattle.scc_proto.specs.Ports.{record_in};
     ghost use Rattle.barrier.specs.Calls.{Finishes, Stalls};
     ghost use Rattle.barrier.specs.Stages.{bar_call};
-    ghost use Rattle.station.specs.Calls.{at_barrier, behind_barrier, in_barrier};
+    ghost use Rattle.station.specs.Calls.{at_barrier, after_barrier, in_barrier};
     ghost use Rattle.station.specs.Stations.{IsInBarrier, KeepsSlot, NoCallOpen};
     ghost use Rattle.station.specs.Stops.{bar_stop_of};
 
@@ -26,12 +26,12 @@ impl<V: Evict> Station<V> {
         ensures free { IfOk result (λ done. NoCallOpen (P.sight port.new) self.new) }
         ensures calls { IfOk result (λ done. (record_in (P.sight port.new)).calls ≡ (record_in (P.sight port.old)).calls ++ Bar comm ∷ []) }
         ensures met { IfOk result (λ done. Finishes (at_barrier (P.sight port.old) self.old comm)
-            (behind_barrier (P.sight port.new) self.new)) }
+            (after_barrier (P.sight port.new) self.new)) }
         ensures open { IfErr result (λ stall. IsInBarrier (P.sight port.new) self.new stall.op) }
         ensures owes { IfErr result (λ stall. ((record_in (P.sight port.new)).calls ≡ (record_in (P.sight port.old)).calls)
             × (bar_call stall.op ≡ Bar comm ∷ [])) }
         ensures stalled { IfErr result (λ stall. Stalls (at_barrier (P.sight port.old) self.old comm) self.old.polls
-            (behind_barrier (P.sight port.new) self.new) (bar_stop_of stall)) }
+            (after_barrier (P.sight port.new) self.new) (bar_stop_of stall)) }
         ensures seat { (P.sight port.new).seat ≡ (P.sight port.old).seat }
         ensures same { KeepsSlot self.old self.new }
     {
@@ -45,12 +45,12 @@ impl<V: Evict> Station<V> {
         ensures calls { IfOk result (λ done. (record_in (P.sight port.new)).calls
             ≡ (record_in (P.sight port.old)).calls ++ bar_call stall.op) }
         ensures met { IfOk result (λ done. Finishes (in_barrier (P.sight port.old) self.old stall.op)
-            (behind_barrier (P.sight port.new) self.new)) }
+            (after_barrier (P.sight port.new) self.new)) }
         ensures open { IfErr result (λ later. IsInBarrier (P.sight port.new) self.new later.op) }
         ensures owes { IfErr result (λ later. ((record_in (P.sight port.new)).calls ≡ (record_in (P.sight port.old)).calls)
             × (bar_call later.op ≡ bar_call stall.op)) }
         ensures stalled { IfErr result (λ later. Stalls (in_barrier (P.sight port.old) self.old stall.op) self.old.polls
-            (behind_barrier (P.sight port.new) self.new) (bar_stop_of later)) }
+            (after_barrier (P.sight port.new) self.new) (bar_stop_of later)) }
         ensures seat { (P.sight port.new).seat ≡ (P.sight port.old).seat }
         ensures same { KeepsSlot self.old self.new }
     {
@@ -62,12 +62,12 @@ impl<V: Evict> Station<V> {
         requires open { IsInBarrier (P.sight port.old) self.old op }
         ensures free { IfOk result (λ done. NoCallOpen (P.sight port.new) self.new) }
         ensures met { IfOk result (λ done. Finishes (in_barrier (P.sight port.old) self.old op)
-            (behind_barrier (P.sight port.new) self.new)) }
+            (after_barrier (P.sight port.new) self.new)) }
         ensures open { IfErr result (λ stall. IsInBarrier (P.sight port.new) self.new stall.op) }
         ensures owes { IfErr result (λ stall. ((record_in (P.sight port.new)).calls ≡ (record_in (P.sight port.old)).calls)
             × (bar_call stall.op ≡ bar_call op)) }
         ensures stalled { IfErr result (λ stall. Stalls (in_barrier (P.sight port.old) self.old op) self.old.polls
-            (behind_barrier (P.sight port.new) self.new) (bar_stop_of stall)) }
+            (after_barrier (P.sight port.new) self.new) (bar_stop_of stall)) }
         ensures seat { (P.sight port.new).seat ≡ (P.sight port.old).seat }
         ensures same { KeepsSlot self.old self.new }
     {

@@ -45,7 +45,7 @@ impl<V: Evict> Station<V> {
     ghost use Rattle.send_recv.specs.Calling.{Received, Sent, SendStalled, TestEnds};
     ghost use Rattle.send_recv.specs.Receiving.{recv_call};
     ghost use Rattle.send_recv.specs.Sending.{send_call};
-    ghost use Rattle.station.specs.Calls.{at_receive, at_send, behind_receive, behind_send, in_receive, in_send};
+    ghost use Rattle.station.specs.Calls.{at_receive, at_send, after_receive, after_send, in_receive, in_send};
     ghost use Rattle.station.specs.Stations.{IsInReceive, IsInSend, KeepsHeap, KeepsSlot, NoCallOpen};
     ghost use Rattle.station.specs.Stops.{Owes, SaysWhy, StopsReceive};
 
@@ -59,7 +59,7 @@ impl<V: Evict> Station<V> {
         requires open { IsInSend (P.sight port.old) self.old op bytes.now }
         ensures free { IfOk result (λ done. NoCallOpen (P.sight port.new) self.new) }
         ensures sent { IfOk result (λ done. Sent (in_send (P.sight port.old) self.old op bytes.now)
-            (behind_send (P.sight port.new) self.new)) }
+            (after_send (P.sight port.new) self.new)) }
         ensures open { IfErr result (λ stall. IsInSend (P.sight port.new) self.new stall.op bytes.now) }
         ensures stalled { IfErr result (λ stall. (stall.polls ≡ self.old.polls)
             × SendStalled (in_send (P.sight port.old) self.old op bytes.now) self.old.polls
@@ -83,10 +83,10 @@ impl<V: Evict> Station<V> {
         requires open { IsInReceive (P.sight port.old) self.old op buffer.old }
         ensures free { IfOk result (λ done. NoCallOpen (P.sight port.new) self.new) }
         ensures received { IfOk result (λ done. Received (in_receive (P.sight port.old) self.old op buffer.old) self.old.polls
-            (behind_receive (P.sight port.new) self.new buffer.new)) }
+            (after_receive (P.sight port.new) self.new buffer.new)) }
         ensures stops { IfErr result (λ stop. StopsReceive (P.sight port.new) self.new buffer.new stop) }
         ensures why { IfErr result (λ stop. SaysWhy (in_receive (P.sight port.old) self.old op buffer.old) self.old.polls
-            (behind_receive (P.sight port.new) self.new buffer.new) stop) }
+            (after_receive (P.sight port.new) self.new buffer.new) stop) }
         ensures seat { (P.sight port.new).seat ≡ (P.sight port.old).seat }
         ensures same { KeepsSlot self.old self.new }
     {
@@ -105,7 +105,7 @@ impl<V: Evict> Station<V> {
         ensures calls { IfOk result (λ done. (record_in (P.sight port.new)).calls
             ≡ (record_in (P.sight port.old)).calls ++ Send to (plain_head (length bytes.now)) bytes.now ∷ []) }
         ensures sent { IfOk result (λ done. Sent (at_send (P.sight port.old) self.old to bytes.now)
-            (behind_send (P.sight port.new) self.new)) }
+            (after_send (P.sight port.new) self.new)) }
         ensures open { IfErr result (λ stall. IsInSend (P.sight port.new) self.new stall.op bytes.now) }
         ensures owes { IfErr result (λ stall. ((record_in (P.sight port.new)).calls ≡ (record_in (P.sight port.old)).calls)
             × (send_call stall.op bytes.now ≡ Send to (plain_head (length bytes.now)) bytes.now ∷ [])) }
@@ -131,7 +131,7 @@ impl<V: Evict> Station<V> {
         ensures calls { IfOk result (λ done. (record_in (P.sight port.new)).calls
             ≡ (record_in (P.sight port.old)).calls ++ send_call stall.op bytes.now) }
         ensures sent { IfOk result (λ done. Sent (in_send (P.sight port.old) self.old stall.op bytes.now)
-            (behind_send (P.sight port.new) self.new)) }
+            (after_send (P.sight port.new) self.new)) }
         ensures open { IfErr result (λ later. IsInSend (P.sight port.new) self.new later.op bytes.now) }
         ensures owes { IfErr result (λ later. ((record_in (P.sight port.new)).calls ≡ (record_in (P.sight port.old)).calls)
             × (send_call later.op bytes.now ≡ send_call stall.op bytes.now)) }
@@ -158,12 +158,12 @@ impl<V: Evict> Station<V> {
         ensures calls { IfOk result (λ done. (record_in (P.sight port.new)).calls
             ≡ (record_in (P.sight port.old)).calls ++ Recv from (plain_head (length buffer.old)) buffer.new ∷ []) }
         ensures received { IfOk result (λ done. Received (at_receive (P.sight port.old) self.old from buffer.old) self.old.polls
-            (behind_receive (P.sight port.new) self.new buffer.new)) }
+            (after_receive (P.sight port.new) self.new buffer.new)) }
         ensures stops { IfErr result (λ stop. StopsReceive (P.sight port.new) self.new buffer.new stop) }
         ensures owes { IfErr result (λ stop. Owes (λ bytes. Recv from (plain_head (length buffer.old)) bytes ∷ [])
             (P.sight port.old) (P.sight port.new) stop) }
         ensures why { IfErr result (λ stop. SaysWhy (at_receive (P.sight port.old) self.old from buffer.old) self.old.polls
-            (behind_receive (P.sight port.new) self.new buffer.new) stop) }
+            (after_receive (P.sight port.new) self.new buffer.new) stop) }
         ensures seat { (P.sight port.new).seat ≡ (P.sight port.old).seat }
         ensures same { KeepsSlot self.old self.new }
     {
@@ -183,11 +183,11 @@ impl<V: Evict> Station<V> {
         ensures calls { IfOk result (λ done. (record_in (P.sight port.new)).calls
             ≡ (record_in (P.sight port.old)).calls ++ recv_call stall.op buffer.new) }
         ensures received { IfOk result (λ done. Received (in_receive (P.sight port.old) self.old stall.op buffer.old) self.old.polls
-            (behind_receive (P.sight port.new) self.new buffer.new)) }
+            (after_receive (P.sight port.new) self.new buffer.new)) }
         ensures stops { IfErr result (λ stop. StopsReceive (P.sight port.new) self.new buffer.new stop) }
         ensures owes { IfErr result (λ stop. Owes (recv_call stall.op) (P.sight port.old) (P.sight port.new) stop) }
         ensures why { IfErr result (λ stop. SaysWhy (in_receive (P.sight port.old) self.old stall.op buffer.old) self.old.polls
-            (behind_receive (P.sight port.new) self.new buffer.new) stop) }
+            (after_receive (P.sight port.new) self.new buffer.new) stop) }
         ensures seat { (P.sight port.new).seat ≡ (P.sight port.old).seat }
         ensures same { KeepsSlot self.old self.new }
     {
@@ -208,12 +208,12 @@ impl<V: Evict> Station<V> {
         ensures calls { IfOk result (λ found. (record_in (P.sight port.new)).calls
             ≡ (record_in (P.sight port.old)).calls ++ (if found then Recv from (plain_head (length buffer.old)) buffer.new ∷ [] else [])) }
         ensures tells { IfOk result (λ found. TestEnds (at_receive (P.sight port.old) self.old from buffer.old) self.old.polls
-            (behind_receive (P.sight port.new) self.new buffer.new) (Ok found)) }
+            (after_receive (P.sight port.new) self.new buffer.new) (Ok found)) }
         ensures stops { IfErr result (λ stop. StopsReceive (P.sight port.new) self.new buffer.new stop) }
         ensures owes { IfErr result (λ stop. Owes (λ bytes. Recv from (plain_head (length buffer.old)) bytes ∷ [])
             (P.sight port.old) (P.sight port.new) stop) }
         ensures why { IfErr result (λ stop. SaysWhy (at_receive (P.sight port.old) self.old from buffer.old) self.old.polls
-            (behind_receive (P.sight port.new) self.new buffer.new) stop) }
+            (after_receive (P.sight port.new) self.new buffer.new) stop) }
         ensures seat { (P.sight port.new).seat ≡ (P.sight port.old).seat }
         ensures same { KeepsSlot self.old self.new }
     {

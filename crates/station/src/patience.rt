@@ -32,7 +32,7 @@ impl<V: Evict> Station<V> {
     ghost use Rattle.barrier.specs.Stages.{bar_call};
     ghost use Rattle.send_recv.specs.Calling.{Received, SendStalled, Sent};
     ghost use Rattle.send_recv.specs.Sending.{send_call};
-    ghost use Rattle.station.specs.Calls.{at_barrier, at_receive, at_send, behind_barrier, behind_receive, behind_send, in_send};
+    ghost use Rattle.station.specs.Calls.{at_barrier, at_receive, at_send, after_barrier, after_receive, after_send, in_send};
     ghost use Rattle.station.specs.Patience.{AfterStalls, BarStalls, RecvStalls, SaysWhyAfter, SendStalls, WithinStalls};
     ghost use Rattle.station.specs.Stations.{IsInBarrier, IsInSend, KeepsHeap, KeepsSlot, NoCallOpen};
     ghost use Rattle.station.specs.Stops.{Owes, StopsReceive, bar_stop_of};
@@ -53,7 +53,7 @@ impl<V: Evict> Station<V> {
             ≡ (record_in (P.sight port.old)).calls ++ Send to (plain_head (length bytes.now)) bytes.now ∷ []) }
         ensures sent { IfOk result (λ done. WithinStalls (SendStalls self.old.polls)
             (at_send (P.sight port.old) self.old to bytes.now) rounds
-            (λ last. Sent last (behind_send (P.sight port.new) self.new))) }
+            (λ last. Sent last (after_send (P.sight port.new) self.new))) }
         ensures open { IfErr result (λ stall. IsInSend (P.sight port.new) self.new stall.op bytes.now) }
         ensures owes { IfErr result (λ stall. ((record_in (P.sight port.new)).calls ≡ (record_in (P.sight port.old)).calls)
             × (send_call stall.op bytes.now ≡ Send to (plain_head (length bytes.now)) bytes.now ∷ [])) }
@@ -93,12 +93,12 @@ impl<V: Evict> Station<V> {
             ≡ (record_in (P.sight port.old)).calls ++ Recv from (plain_head (length buffer.old)) buffer.new ∷ []) }
         ensures received { IfOk result (λ done. WithinStalls (RecvStalls self.old.polls)
             (at_receive (P.sight port.old) self.old from buffer.old) rounds
-            (λ last. Received last self.old.polls (behind_receive (P.sight port.new) self.new buffer.new))) }
+            (λ last. Received last self.old.polls (after_receive (P.sight port.new) self.new buffer.new))) }
         ensures stops { IfErr result (λ stop. StopsReceive (P.sight port.new) self.new buffer.new stop) }
         ensures owes { IfErr result (λ stop. Owes (λ bytes. Recv from (plain_head (length buffer.old)) bytes ∷ [])
             (P.sight port.old) (P.sight port.new) stop) }
         ensures why { IfErr result (λ stop. SaysWhyAfter (at_receive (P.sight port.old) self.old from buffer.old) rounds self.old.polls
-            (behind_receive (P.sight port.new) self.new buffer.new) stop) }
+            (after_receive (P.sight port.new) self.new buffer.new) stop) }
         ensures seat { (P.sight port.new).seat ≡ (P.sight port.old).seat }
         ensures same { KeepsSlot self.old self.new }
     {
@@ -135,12 +135,12 @@ impl<V: Evict> Station<V> {
         ensures free { IfOk result (λ done. NoCallOpen (P.sight port.new) self.new) }
         ensures calls { IfOk result (λ done. (record_in (P.sight port.new)).calls ≡ (record_in (P.sight port.old)).calls ++ Bar comm ∷ []) }
         ensures met { IfOk result (λ done. WithinStalls (BarStalls self.old.polls) (at_barrier (P.sight port.old) self.old comm) rounds
-            (λ last. Finishes last (behind_barrier (P.sight port.new) self.new))) }
+            (λ last. Finishes last (after_barrier (P.sight port.new) self.new))) }
         ensures open { IfErr result (λ stall. IsInBarrier (P.sight port.new) self.new stall.op) }
         ensures owes { IfErr result (λ stall. ((record_in (P.sight port.new)).calls ≡ (record_in (P.sight port.old)).calls)
             × (bar_call stall.op ≡ Bar comm ∷ [])) }
         ensures stalled { IfErr result (λ stall. AfterStalls (BarStalls self.old.polls) (at_barrier (P.sight port.old) self.old comm) rounds
-            (λ last. Stalls last self.old.polls (behind_barrier (P.sight port.new) self.new) (bar_stop_of stall))) }
+            (λ last. Stalls last self.old.polls (after_barrier (P.sight port.new) self.new) (bar_stop_of stall))) }
         ensures seat { (P.sight port.new).seat ≡ (P.sight port.old).seat }
         ensures same { KeepsSlot self.old self.new }
     {

@@ -16,7 +16,7 @@ impl<V: Evict> Station<V> {
     ghost use Rattle.scc_proto.specs.Words.{are_peers};
     ghost use Rattle.send_recv.specs.Calling.{Sent, SendStalled};
     ghost use Rattle.send_recv.specs.Sending.{SlotTurned, send_call};
-    ghost use Rattle.station.specs.Calls.{at_post, behind_send, in_send};
+    ghost use Rattle.station.specs.Calls.{at_post, after_send, in_send};
     ghost use Rattle.station.specs.Stations.{IsInSend, KeepsHeap, NoCallOpen};
 
     /// Posts bytes to a rank, without waiting until they are taken; a message that was posted before is waited for first.
@@ -28,7 +28,7 @@ impl<V: Evict> Station<V> {
         ensures calls { IfOk result (λ done. (record_in (P.sight port.new)).calls
             ≡ (record_in (P.sight port.old)).calls ++ Post to (plain_head (length bytes.now)) bytes.now ∷ []) }
         ensures posted { IfOk result (λ done. Sent (at_post (P.sight port.old) self.old to bytes.now)
-            (behind_send (P.sight port.new) self.new)) }
+            (after_send (P.sight port.new) self.new)) }
         ensures open { IfErr result (λ stall. IsInSend (P.sight port.new) self.new stall.op bytes.now) }
         ensures owes { IfErr result (λ stall. ((record_in (P.sight port.new)).calls ≡ (record_in (P.sight port.old)).calls)
             × (send_call stall.op bytes.now ≡ Post to (plain_head (length bytes.now)) bytes.now ∷ [])) }
@@ -56,7 +56,7 @@ impl<V: Evict> Station<V> {
         requires free { NoCallOpen (P.sight port.old) self.old }
         ensures free { NoCallOpen (P.sight port.new) self.new }
         ensures calls { (record_in (P.sight port.new)).calls ≡ (record_in (P.sight port.old)).calls }
-        ensures turned { SlotTurned (behind_send (P.sight port.old) self.old) (behind_send (P.sight port.new) self.new) result }
+        ensures turned { SlotTurned (after_send (P.sight port.old) self.old) (after_send (P.sight port.new) self.new) result }
         ensures seat { (P.sight port.new).seat ≡ (P.sight port.old).seat }
         ensures same { KeepsHeap self.old self.new }
     {

@@ -7,7 +7,7 @@ pub mod LookLemmas
 pub mod LoopLemmas
 pub mod RowLemmas
 pub mod TryLemmas
-pub mod VainLemmas
+pub mod FailedLemmas
 pub mod WaitLemmas
 pub mod WriteLemmas
 pub mod TurnLemmas

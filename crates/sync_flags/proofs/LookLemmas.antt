@@ -10,7 +10,7 @@ use Rattle.put_get.specs.Accesses.{loads_of}
 use Rattle.put_get.specs.Cores.{Private, Fills, Fetch, Held, Loaded, ReadsWord}
 use Rattle.sync_flags.specs.Flags.{is_set_in}
 use Rattle.sync_flags.specs.Tries.{is_unwanted}
-use Rattle.sync_flags.specs.Looks.{LooksAtLine, LooksAt, ReadsFlag, LooksAll, looks_of, AreVain, LooksInVain}
+use Rattle.sync_flags.specs.Looks.{LooksAtLine, LooksAt, ReadsFlag, LooksAll, looks_of, HaveFailed, LooksFailed}
 
 -- nothing is held in an empty cache, so a fetch loads
 pub fetch_looks : {s t : Sight} {c1 d : Private} {line : LineAt} {words : List ℕ} → Fetch s c1 line words t d → (c : Private)
@@ -47,10 +47,10 @@ looks_more s c line [] m b words t d all one =
     (t, d, subst (λ (x : Private). LooksAtLine s x line words t d) all.1 (subst (λ (x : Sight). LooksAtLine x b line words t d) all.0 one), (refl, refl))
 looks_more s c line (first ∷ rest) m b words t d all one = (all.0, all.1, all.2, looks_more all.0 all.1 line rest m b words t d all.3 one)
 
-pub vain_more : (place : WordAt) (bit : Option ℕ) (want : Bool) (looks : List (List ℕ)) (words : List ℕ) → AreVain place bit want looks
-    → is_unwanted want (is_set_in bit (slice_index words place.word)) ≡ true → AreVain place bit want (looks ++ words ∷ [])
-vain_more place bit want [] words all one = (one, tt)
-vain_more place bit want (first ∷ rest) words all one = (all.0, vain_more place bit want rest words all.1 one)
+pub failed_more : (place : WordAt) (bit : Option ℕ) (want : Bool) (looks : List (List ℕ)) (words : List ℕ) → HaveFailed place bit want looks
+    → is_unwanted want (is_set_in bit (slice_index words place.word)) ≡ true → HaveFailed place bit want (looks ++ words ∷ [])
+failed_more place bit want [] words all one = (one, tt)
+failed_more place bit want (first ∷ rest) words all one = (all.0, failed_more place bit want rest words all.1 one)
 
 pub unwanted : (want found : Bool) → beq found want ≡ false → is_unwanted want found ≡ true
 unwanted true true other = absurd (cc)
@@ -68,14 +68,14 @@ pub wanted : (want : Bool) → is_unwanted want want ≡ false
 wanted true = refl
 wanted false = refl
 
-pub none_yet : (s : Sight) (c : Private) (place : WordAt) (bit : Option ℕ) (want : Bool) → LooksInVain s c place bit want 0 s c
-none_yet s c place bit want = record { looks = []; count = refl; vain = tt; looked = (refl, refl) }
+pub none_yet : (s : Sight) (c : Private) (place : WordAt) (bit : Option ℕ) (want : Bool) → LooksFailed s c place bit want 0 s c
+none_yet s c place bit want = record { looks = []; count = refl; failed = tt; looked = (refl, refl) }
 
-pub one_more : {s m t : Sight} {c b d : Private} {place : WordAt} {bit : Option ℕ} {want found : Bool} {n : ℕ} → LooksInVain s c place bit want n m b
-    → ReadsFlag m b place bit found t d → beq found want ≡ false → LooksInVain s c place bit want (n + 1) t d
+pub one_more : {s m t : Sight} {c b d : Private} {place : WordAt} {bit : Option ℕ} {want found : Bool} {n : ℕ} → LooksFailed s c place bit want n m b
+    → ReadsFlag m b place bit found t d → beq found want ≡ false → LooksFailed s c place bit want (n + 1) t d
 one_more {s} {m} {t} {c} {b} {d} {place} {bit} {want} {found} {n} so_far look other = record {
   looks = so_far.looks ++ look.words ∷ [];
   count = length-append so_far.looks (look.words ∷ []) ∙ ap (λ (k : ℕ). k + 1) so_far.count;
-  vain = vain_more place bit want so_far.looks look.words so_far.vain (ap (λ (x : Bool). is_unwanted want x) (sym look.is) ∙ unwanted want found other);
+  failed = failed_more place bit want so_far.looks look.words so_far.failed (ap (λ (x : Bool). is_unwanted want x) (sym look.is) ∙ unwanted want found other);
   looked = looks_more s c (line_of_word place) so_far.looks m b look.words t d so_far.looked look.looks;
 }

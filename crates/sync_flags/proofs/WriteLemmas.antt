@@ -17,9 +17,9 @@ use Rattle.put_get.proofs.StepLemmas.{events_once}
 use Rattle.tas_lock.specs.Holds.{IsHolding, IsNotHolding, after_try}
 use Rattle.tas_lock.proofs.HoldLemmas.{next_tried}
 use Rattle.sync_flags.specs.Flags.{with_bit}
-use Rattle.sync_flags.specs.Tries.{AtRegister, vain_from, vain_tries, TriedInVain}
+use Rattle.sync_flags.specs.Tries.{AtRegister, failed_from, failed_tries, TryFailed}
 use Rattle.sync_flags.specs.Looks.{LooksAt}
-use Rattle.sync_flags.specs.Writes.{vain_takes, change_events, WasLoaded, MayStoreBit, MayStoreHere, MayWrite, StoresWord, TakesWithin, ChangesBit, TriesChange, RegisterTaken, BitChanged, WritesBit, GivesUp, WritesFlag}
+use Rattle.sync_flags.specs.Writes.{failed_takes, change_events, WasLoaded, MayStoreBit, MayStoreHere, MayWrite, StoresWord, TakesWithin, ChangesBit, TriesChange, RegisterTaken, BitChanged, WritesBit, GivesUp, WritesFlag}
 use Rattle.sync_flags.proofs.HeldLemmas.{holds_load, holds_store}
 use Rattle.sync_flags.proofs.WaitLemmas.{no_stall, stall}
 
@@ -140,32 +140,32 @@ written_seat s t c d p (Some b) set polls (Ok done) w = seat_kept s _ t w.did
 written_seat s t c d p (Some b) set polls (Err stalled) w = seat_kept s _ t w.0.did
 
 -- one vain take more
-takes_more : (core k : ℕ) → vain_takes core (suc k) ≡ vain_takes core k ++ take_of core false ∷ []
+takes_more : (core k : ℕ) → failed_takes core (suc k) ≡ failed_takes core k ++ take_of core false ∷ []
 takes_more core zero = refl
 takes_more core (suc k) = ap (λ (es : List Event). take_of core false ∷ es) (takes_more core k)
 
-pub vain_take_more : (s m t : Sight) (core k : ℕ) → Did s (vain_takes core k) m → Did m (take_of core false ∷ []) t → Did s (vain_takes core (k + 1)) t
-vain_take_more s m t core k first one =
+pub failed_take_more : (s m t : Sight) (core k : ℕ) → Did s (failed_takes core k) m → Did m (take_of core false ∷ []) t → Did s (failed_takes core (k + 1)) t
+failed_take_more s m t core k first one =
     let next : suc k ≡ k + 1 = omega arith in
-    subst (λ (es : List Event). Did s es t) (sym (takes_more core k) ∙ ap (λ (n : ℕ). vain_takes core n) next)
-    (did_both s (vain_takes core k) m (take_of core false ∷ []) t first one)
+    subst (λ (es : List Event). Did s es t) (sym (takes_more core k) ∙ ap (λ (n : ℕ). failed_takes core n) next)
+    (did_both s (failed_takes core k) m (take_of core false ∷ []) t first one)
 
 -- the seat is kept while a register is taken
 pub takes_seat : (s t : Sight) (core polls held : ℕ) → TakesWithin s core polls t (Some held) → t.seat ≡ s.seat
-takes_seat s t core polls held takes = seat_kept s (vain_takes core takes.1.0 ++ take_of core true ∷ []) t takes.1.2
+takes_seat s t core polls held takes = seat_kept s (failed_takes core takes.1.0 ++ take_of core true ∷ []) t takes.1.2
 
 pub bit_written : {s m n t : Sight} {c d : Private} {p : WordAt} {b : ℕ} {set : Bool} → ChangesBit m c p b set n d → (polls core held : ℕ)
     → core ≡ p.core → TakesWithin s core polls m (Some held) → Did n (free_of held ∷ []) t → WritesBit s c p b set polls t d
 bit_written {s} {m} {n} {t} {c} {d} {p} {b} {set} ch polls core held at takes frees =
-    let took = subst (λ (k : ℕ). Did s (vain_takes k takes.1.0 ++ take_of k true ∷ []) m) at takes.1.2 in
+    let took = subst (λ (k : ℕ). Did s (failed_takes k takes.1.0 ++ take_of k true ∷ []) m) at takes.1.2 in
     let freed = subst (λ (k : ℕ). Did n (free_of k ∷ []) t) (takes.0 ∙ at) frees in
     let change = loads_of (line_of_word p) ch.words ++ store_of p (with_bit b set (slice_index ch.words p.word)) ∷ [] in
     record {
-      vain = takes.1.0;
+      failed = takes.1.0;
       few = takes.1.1;
       words = ch.words;
-      did = subst (λ (es : List Event). Did s es t) (append_assoc (vain_takes p.core takes.1.0) (take_of p.core true ∷ []) (change ++ free_of p.core ∷ []))
-          (did_both s (vain_takes p.core takes.1.0 ++ take_of p.core true ∷ []) m (change ++ free_of p.core ∷ []) t took
+      did = subst (λ (es : List Event). Did s es t) (append_assoc (failed_takes p.core takes.1.0) (take_of p.core true ∷ []) (change ++ free_of p.core ∷ []))
+          (did_both s (failed_takes p.core takes.1.0 ++ take_of p.core true ∷ []) m (change ++ free_of p.core ∷ []) t took
           (did_both m change n (free_of p.core ∷ []) t ch.did freed));
       loaded = ch.loaded;
       fills = ch.fills;
@@ -197,29 +197,29 @@ bit_tried {s} {m} {n} {t} {c} {d} {p} {b} {set} ch core held at takes names free
 add_more : (n m : ℕ) → suc n + m ≡ n + suc m
 add_more n m = omega arith
 
-takes_count : (core n k : ℕ) (es : List Event) → vain_from (AtRegister core) false n (vain_takes core k ++ es) ≡ vain_from (AtRegister core) false (n + k) es
-takes_count core n zero es = let none : n ≡ n + 0 = omega arith in ap (λ (m : ℕ). vain_from (AtRegister core) false m es) none
+takes_count : (core n k : ℕ) (es : List Event) → failed_from (AtRegister core) false n (failed_takes core k ++ es) ≡ failed_from (AtRegister core) false (n + k) es
+takes_count core n zero es = let none : n ≡ n + 0 = omega arith in ap (λ (m : ℕ). failed_from (AtRegister core) false m es) none
 takes_count core n (suc k) es =
-    (λ i. vain_from (AtRegister core) false (if eqb_same core i then suc n else n) (vain_takes core k ++ es))
-    ∙ takes_count core (suc n) k es ∙ ap (λ (m : ℕ). vain_from (AtRegister core) false m es) (add_more n k)
+    (λ i. failed_from (AtRegister core) false (if eqb_same core i then suc n else n) (failed_takes core k ++ es))
+    ∙ takes_count core (suc n) k es ∙ ap (λ (m : ℕ). failed_from (AtRegister core) false m es) (add_more n k)
 
 pub word_no_stall : {s t : Sight} {c d : Private} {p : WordAt} {v : ℕ} → StoresWord s c p v t d → (core : ℕ) (events : List Event) → Did s events t
-    → vain_tries (AtRegister core) events ≡ 0
+    → failed_tries (AtRegister core) events ≡ 0
 word_no_stall {s} {t} {c} {d} {p} {v} w core events did =
-    ap (λ (es : List Event). vain_tries (AtRegister core) es) (events_once s t events (store_of p v ∷ []) did w.did)
+    ap (λ (es : List Event). failed_tries (AtRegister core) es) (events_once s t events (store_of p v ∷ []) did w.did)
 
 written_ends : {s t : Sight} {c d : Private} {p : WordAt} {b : ℕ} {set : Bool} {polls : ℕ} → WritesBit s c p b set polls t d → (events : List Event)
-    → Did s events t → vain_tries (AtRegister p.core) events ≡ 0
+    → Did s events t → failed_tries (AtRegister p.core) events ≡ 0
 written_ends {s} {t} {c} {d} {p} {b} {set} w events did =
-    ap (λ (es : List Event). vain_tries (AtRegister p.core) es)
-    (events_once s t events (vain_takes p.core w.vain ++ change_events p b set w.words) did w.did)
-    ∙ takes_count p.core 0 w.vain (change_events p b set w.words)
+    ap (λ (es : List Event). failed_tries (AtRegister p.core) es)
+    (events_once s t events (failed_takes p.core w.failed ++ change_events p b set w.words) did w.did)
+    ∙ takes_count p.core 0 w.failed (change_events p b set w.words)
 
 gave_up : {s t : Sight} {c d : Private} {p : WordAt} {polls : ℕ} → GivesUp s c p polls t d → (events : List Event) → Did s events t
-    → vain_tries (AtRegister p.core) events ≡ polls
+    → failed_tries (AtRegister p.core) events ≡ polls
 gave_up {s} {t} {c} {d} {p} {polls} w events did =
-    ap (λ (es : List Event). vain_tries (AtRegister p.core) es)
-    (events_once s t events (vain_takes p.core polls) did w.did ∙ sym (append-nil (vain_takes p.core polls)))
+    ap (λ (es : List Event). failed_tries (AtRegister p.core) es)
+    (events_once s t events (failed_takes p.core polls) did w.did ∙ sym (append-nil (failed_takes p.core polls)))
     ∙ takes_count p.core 0 polls [] ∙ plus_none polls
   where
     plus_none : (n : ℕ) → 0 + n ≡ n
@@ -227,6 +227,6 @@ gave_up {s} {t} {c} {d} {p} {polls} w events did =
 
 pub bit_stalls : (s t : Sight) (c d : Private) (p : WordAt) (b : ℕ) (set : Bool) (polls : ℕ) (result : Result Unit Stalled)
     → WritesFlag s c p (Some b) set polls t d result → 1 ≤ polls → (events : List Event) → Did s events t
-    → IsErr result ↔ TriedInVain (AtRegister p.core) polls events
+    → IsErr result ↔ TryFailed (AtRegister p.core) polls events
 bit_stalls s t c d p b set polls (Ok done) w some events did = no_stall done (AtRegister p.core) polls events some (written_ends w events did)
 bit_stalls s t c d p b set polls (Err stalled) w some events did = stall stalled (AtRegister p.core) polls events (gave_up w.0 events did)

@@ -42,33 +42,33 @@ LooksAll s c line [] t d = (t ≡ s) × (d ≡ c)
 LooksAll s c line (words ∷ rest) t d = (s1 : Sight) × (c1 : Private) × LooksAtLine s c line words s1 c1 × LooksAll s1 c1 line rest t d
 
 -- none of the looks found the flag as wanted
-abbrev pub AreVain : WordAt → Option ℕ → Bool → List (List ℕ) → Type 0
-AreVain place bit want [] = Unit {0}
-AreVain place bit want (words ∷ rest) =
-    (is_unwanted want (is_set_in bit (slice_index words place.word)) ≡ true) × AreVain place bit want rest
+abbrev pub HaveFailed : WordAt → Option ℕ → Bool → List (List ℕ) → Type 0
+HaveFailed place bit want [] = Unit {0}
+HaveFailed place bit want (words ∷ rest) =
+    (is_unwanted want (is_set_in bit (slice_index words place.word)) ≡ true) × HaveFailed place bit want rest
 
 -- n looks in a row, all of them vain. Eight parameters: the flag (its word, its bit where it is one), the value that is
 -- waited for, n, and the caller's sight and core before and after.
-pub record LooksInVain (s : Sight) (c : Private) (place : WordAt) (bit : Option ℕ) (want : Bool) (n : ℕ) (t : Sight)
+pub record LooksFailed (s : Sight) (c : Private) (place : WordAt) (bit : Option ℕ) (want : Bool) (n : ℕ) (t : Sight)
     (d : Private) : Type 0 where
   pub looks : List (List ℕ)
   pub count : length looks ≡ n
-  pub vain : AreVain place bit want looks
+  pub failed : HaveFailed place bit want looks
   pub looked : LooksAll s c (line_of_word place) looks t d
 
--- after fewer vain looks than were allowed, one that found the flag as wanted. Eight parameters, those of `LooksInVain`,
+-- after fewer vain looks than were allowed, one that found the flag as wanted. Eight parameters, those of `LooksFailed`,
 -- with how many looks are allowed in place of n.
 pub record FindsFlag (s : Sight) (c : Private) (place : WordAt) (bit : Option ℕ) (want : Bool) (polls : ℕ) (t : Sight)
     (d : Private) : Type 0 where
-  pub vain : ℕ
-  pub few : vain < polls
+  pub failed : ℕ
+  pub few : failed < polls
   pub then : Sight
   pub core : Private
-  pub looks : LooksInVain s c place bit want vain then core
+  pub looks : LooksFailed s c place bit want failed then core
   pub reads : ReadsFlag then core place bit want t d
 
 -- what a wait came to. Nine parameters: those of `FindsFlag`, and the answer.
 abbrev pub WaitsFor : Sight → Private → WordAt → Option ℕ → Bool → ℕ → Sight → Private → Result Unit Stalled → Type 0
 WaitsFor s c place bit want polls t d (Ok done) = FindsFlag s c place bit want polls t d
 WaitsFor s c place bit want polls t d (Err stalled) =
-    LooksInVain s c place bit want polls t d × (stalled ≡ record { spot = spot_of_flag place bit; polls = polls })
+    LooksFailed s c place bit want polls t d × (stalled ≡ record { spot = spot_of_flag place bit; polls = polls })

@@ -55,10 +55,10 @@ is_unwanted false found = found
 
 -- a try is vain where the flag is not as wanted, where the word has another value, or where the register was
 -- found taken
-abbrev pub is_vain : Aim → Event → Bool
-is_vain (AtFlag place bit want) e = is_unwanted want (is_set_in bit e.value)
-is_vain (AtWord place value) e = not (e.value == value)
-is_vain (AtRegister core) e = e.value == 0
+abbrev pub has_failed : Aim → Event → Bool
+has_failed (AtFlag place bit want) e = is_unwanted want (is_set_in bit e.value)
+has_failed (AtWord place value) e = not (e.value == value)
+has_failed (AtRegister core) e = e.value == 0
 
 -- how many tries there were, with those among more events behind the first n
 abbrev pub tries_from : Aim → Bool → ℕ → List Event → ℕ
@@ -72,22 +72,22 @@ tries_at aim events = tries_from aim false 0 events
 
 -- how many of the tries were vain, in a row up to the event: a try that is not vain ends the row, and so does
 -- a store or a free
-abbrev pub vain_after : Aim → Bool → ℕ → Event → ℕ
-vain_after aim changing n e =
-    if is_try changing aim e then (if is_vain aim e then suc n else 0) else (if is_write e.access then 0 else n)
+abbrev pub failed_after : Aim → Bool → ℕ → Event → ℕ
+failed_after aim changing n e =
+    if is_try changing aim e then (if has_failed aim e then suc n else 0) else (if is_write e.access then 0 else n)
 
 -- how many tries were vain in a row at the end of more events, where n were so before them
-abbrev pub vain_from : Aim → Bool → ℕ → List Event → ℕ
-vain_from aim changing n [] = n
-vain_from aim changing n (e ∷ es) = vain_from aim (is_changing changing e.access e.value) (vain_after aim changing n e) es
+abbrev pub failed_from : Aim → Bool → ℕ → List Event → ℕ
+failed_from aim changing n [] = n
+failed_from aim changing n (e ∷ es) = failed_from aim (is_changing changing e.access e.value) (failed_after aim changing n e) es
 
 -- how many tries at the end of a call were vain, with no store and no free after the first of them
-abbrev pub vain_tries : Aim → List Event → ℕ
-vain_tries aim events = vain_from aim false 0 events
+abbrev pub failed_tries : Aim → List Event → ℕ
+failed_tries aim events = failed_from aim false 0 events
 
 -- the last tries of a call, this many, were vain, and it made no store and no free after the first of them
-abbrev pub TriedInVain : Aim → ℕ → List Event → Type 0
-TriedInVain aim polls events = polls ≤ vain_tries aim events
+abbrev pub TryFailed : Aim → ℕ → List Event → Type 0
+TryFailed aim polls events = polls ≤ failed_tries aim events
 
 -- ---- the same in other words
 
@@ -97,9 +97,9 @@ changing_after before [] = before
 changing_after before (e ∷ es) = changing_after (is_changing before e.access e.value) es
 
 -- each try among the events was vain
-abbrev pub all_vain : Aim → Bool → List Event → Bool
-all_vain aim changing [] = true
-all_vain aim changing (e ∷ es) = (not (is_try changing aim e) || is_vain aim e) && all_vain aim (is_changing changing e.access e.value) es
+abbrev pub all_failed : Aim → Bool → List Event → Bool
+all_failed aim changing [] = true
+all_failed aim changing (e ∷ es) = (not (is_try changing aim e) || has_failed aim e) && all_failed aim (is_changing changing e.access e.value) es
 
 -- one of the events is a store or a free
 abbrev pub has_write : List Event → Bool
@@ -108,12 +108,12 @@ has_write (e ∷ es) = is_write e.access || has_write es
 
 -- the events of a call end with a part that has at least this many tries, all of them vain, and no store and no
 -- free
-pub record EndsInVain (aim : Aim) (polls : ℕ) (events : List Event) : Type 0 where
+pub record EndsFailed (aim : Aim) (polls : ℕ) (events : List Event) : Type 0 where
   pub before : List Event
   pub last : List Event
   pub parts : events ≡ before ++ last
   pub enough : polls ≤ tries_from aim (changing_after false before) 0 last
-  pub vain : all_vain aim (changing_after false before) last ≡ true
+  pub failed : all_failed aim (changing_after false before) last ≡ true
   pub no_write : has_write last ≡ false
 
 -- ---- the tries of one turn
@@ -122,6 +122,6 @@ pub record EndsInVain (aim : Aim) (polls : ℕ) (events : List Event) : Type 0 w
 -- try was vain
 pub data Tried (aim : Option Aim) (events : List Event) (waits : Option Spot) : Type 0 where
   NoTry : aim ≡ None → waits ≡ None → Tried aim events waits
-  Vain : (at : Aim) → aim ≡ Some at → tries_at at events ≡ 1 → all_vain at false events ≡ true → waits ≡ Some (spot_of at)
+  Failed : (at : Aim) → aim ≡ Some at → tries_at at events ≡ 1 → all_failed at false events ≡ true → waits ≡ Some (spot_of at)
       → Tried aim events waits
-  Fruitful : (at : Aim) → aim ≡ Some at → tries_at at events ≡ 1 → all_vain at false events ≡ false → waits ≡ None → Tried aim events waits
+  Fruitful : (at : Aim) → aim ≡ Some at → tries_at at events ≡ 1 → all_failed at false events ≡ false → waits ≡ None → Tried aim events waits

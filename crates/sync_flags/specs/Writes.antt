@@ -18,9 +18,9 @@ use Rattle.tas_lock.specs.Holds.{IsNotHolding}
 use Rattle.sync_flags.specs.Flags.{flag_value, with_bit}
 
 -- tries of a register that was found taken each time
-abbrev pub vain_takes : ℕ → ℕ → List Event
-vain_takes core zero = []
-vain_takes core (suc n) = take_of core false ∷ vain_takes core n
+abbrev pub failed_takes : ℕ → ℕ → List Event
+failed_takes core zero = []
+failed_takes core (suc n) = take_of core false ∷ failed_takes core n
 
 -- the events of a bit's change from the take on that has the register: the loads of its line, one store of the
 -- loaded word with that bit as asked, and the free
@@ -59,8 +59,8 @@ pub record StoresWord (s : Sight) (c : Private) (place : WordAt) (value : ℕ) (
 
 -- a register was taken after fewer vain takes than were allowed, or there were that many of them
 abbrev pub TakesWithin : Sight → ℕ → ℕ → Sight → Option ℕ → Type 0
-TakesWithin s core polls t None = Did s (vain_takes core polls) t
-TakesWithin s core polls t (Some held) = (held ≡ core) × ((n : ℕ) × (n < polls) × Did s (vain_takes core n ++ take_of core true ∷ []) t)
+TakesWithin s core polls t None = Did s (failed_takes core polls) t
+TakesWithin s core polls t (Some held) = (held ≡ core) × ((n : ℕ) × (n < polls) × Did s (failed_takes core n ++ take_of core true ∷ []) t)
 
 -- a bit was changed under a register that is held: the line came in and has the new word, and the record was sound
 -- after its loads. Seven parameters: the bit (its word, its place in it), its value, and the caller's sight and core before
@@ -86,17 +86,17 @@ pub data TriesChange (s : Sight) (c : Private) (place : WordAt) (b : ℕ) (set :
 -- a flag that is a bit was written: after fewer vain takes than were allowed, the events of its change; the
 -- line came in and has the new word. Eight parameters: those of `ChangesBit`, and how many takes are allowed.
 pub record WritesBit (s : Sight) (c : Private) (place : WordAt) (b : ℕ) (set : Bool) (polls : ℕ) (t : Sight) (d : Private) : Type 0 where
-  pub vain : ℕ
-  pub few : vain < polls
+  pub failed : ℕ
+  pub few : failed < polls
   pub words : List ℕ
-  pub did : Did s (vain_takes place.core vain ++ change_events place b set words) t
+  pub did : Did s (failed_takes place.core failed ++ change_events place b set words) t
   pub loaded : Private
   pub fills : Fills (record c { lines = [] }) (line_of_word place) words loaded
   pub is : d ≡ record loaded { lines = lines_with_word loaded.lines place (with_bit b set (slice_index words place.word)) }
 
 -- nothing but `polls` vain takes of a register
 pub record GivesUp (s : Sight) (c : Private) (place : WordAt) (polls : ℕ) (t : Sight) (d : Private) : Type 0 where
-  pub did : Did s (vain_takes place.core polls) t
+  pub did : Did s (failed_takes place.core polls) t
   pub is : d ≡ c
 
 -- what a write of a flag came to: a word is always written. Nine parameters: the flag (its word, its bit where it is one),

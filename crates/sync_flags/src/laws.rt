@@ -10,13 +10,13 @@ ghost use Rattle.scc_proto.specs.Ports.{Seat, MayMake};
 ghost use Rattle.tas_lock.specs.Holds.{IsNotHolding};
 ghost use Rattle.sync_flags.specs.Flags.{flag_of};
 ghost use Rattle.sync_flags.specs.Writes.{MayWrite};
-ghost use Rattle.sync_flags.specs.Tries.{Aim, TriedInVain, EndsInVain};
+ghost use Rattle.sync_flags.specs.Tries.{Aim, TryFailed, EndsFailed};
 ghost use Rattle.scc_base.specs.Places.{FlagPlace, first_heap};
 
 /// A call has tried in vain often enough exactly where its events end with a part that has `polls` tries, all of them
 /// vain, and no store and no free.
 pub fn tries_law()
-    ensures says { (aim : Aim) (polls : ℕ) (events : List Event) → TriedInVain aim polls events ↔ EndsInVain aim polls events }
+    ensures says { (aim : Aim) (polls : ℕ) (events : List Event) → TryFailed aim polls events ↔ EndsFailed aim polls events }
 {}
 
 /// A rank may store into the heap wherever it has drafted nothing, takes no chunk and is in no barrier; so it may

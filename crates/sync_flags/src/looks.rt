@@ -5,7 +5,7 @@ ghost use Rattle.scc_base.specs.declared.events.Event.{Event};
 ghost use Rattle.scc_proto.specs.Ports.{Did};
 ghost use Rattle.put_get.specs.Cores.{MadeSteps};
 ghost use Rattle.sync_flags.specs.Flags.{flag_of};
-ghost use Rattle.sync_flags.specs.Tries.{AtFlag, TriedInVain};
+ghost use Rattle.sync_flags.specs.Tries.{AtFlag, TryFailed};
 ghost use Rattle.sync_flags.specs.Looks.{LooksAt, ReadsFlag, WaitsFor};
 
 use crate::flags::{is_set_in, spot_of_flag};
@@ -68,7 +68,7 @@ pub fn wait_until<V: Evict, P: Port>(
     ensures waits { WaitsFor (P.sight port.old) core.old (flag_of (P.sight port.old).seat.setup (P.sight port.old).seat.rank f) f.bit
         want polls (P.sight port.new) core.new result }
     ensures stalls { (events : List Event) → Did (P.sight port.old) events (P.sight port.new) → (IsErr result
-        ↔ TriedInVain (AtFlag (flag_of (P.sight port.old).seat.setup (P.sight port.old).seat.rank f) f.bit want) polls events) }
+        ↔ TryFailed (AtFlag (flag_of (P.sight port.old).seat.setup (P.sight port.old).seat.rank f) f.bit want) polls events) }
     ensures empty { core.new.out ≡ None }
     ensures steps { MadeSteps P.stepped (P.sight port.old) (P.sight port.new) }
 {

@@ -7,7 +7,7 @@ ghost use Rattle.scc_proto.specs.Ports.{Did, MayMake, record_in};
 ghost use Rattle.put_get.specs.Cores.{MadeSteps};
 ghost use Rattle.tas_lock.specs.Holds.{IsHolding, IsNotHolding, after_try};
 ghost use Rattle.sync_flags.specs.Flags.{flag_of, flag_value, with_bit};
-ghost use Rattle.sync_flags.specs.Tries.{AtRegister, TriedInVain};
+ghost use Rattle.sync_flags.specs.Tries.{AtRegister, TryFailed};
 ghost use Rattle.sync_flags.specs.Writes.{MayStoreHere, MayWrite, MayChangeFlag, StoresWord, TakesWithin, ChangesBit, TriesChange, WritesFlag, ChangesFlag};
 
 use crate::looks::look_word;
@@ -160,7 +160,7 @@ pub fn flag_write<V: Evict, P: Port>(
     ensures steps { MadeSteps P.stepped (P.sight port.old) (P.sight port.new) }
     ensures freed { IfSome f.bit (λ b. IsNotHolding (record_in (P.sight port.new)) (flag_of (P.sight port.old).seat.setup at f).core) }
     ensures stalls { (events : List Event) → Did (P.sight port.old) events (P.sight port.new) → (IsErr result
-        ↔ TriedInVain (AtRegister (flag_of (P.sight port.old).seat.setup at f).core) polls events) }
+        ↔ TryFailed (AtRegister (flag_of (P.sight port.old).seat.setup at f).core) polls events) }
     ensures empty { core.new.out ≡ None }
 {
     let place = f.place(port.setup().core_of(at));

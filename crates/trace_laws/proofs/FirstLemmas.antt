@@ -12,7 +12,7 @@ use Rattle.rcce_audit.proofs.WordLemmas.{range_said-decimal}
 use Rattle.scc_base.specs.Setups.{AreApart, SetupView, host_of}
 use Rattle.scc_base.specs.declared.layouts.Layout.{Layout}
 use Rattle.trace_writer.specs.Lines.{layout_name}
-use Rattle.trace_text.specs.Grammar.{HostTable, TraceHead, all_hosts_said, behind_head, first_taken, head_of_words, hosts_said, no_hosts}
+use Rattle.trace_text.specs.Grammar.{HostTable, TraceHead, all_hosts_said, after_head, first_taken, head_of_words, hosts_said, no_hosts}
 use Rattle.trace_text.specs.Traces.{most_line_bytes}
 use Rattle.trace_text.specs.Words.{layout_said}
 use Rattle.trace_text.specs.declared.faults.TraceFault.{TraceFault}
@@ -81,12 +81,12 @@ head_said_is s some most are apart =
     ∙ ap (λ (o : Option (List ℕ)). o >>= λ h. Some (record { nue = s.nue; layout = s.layout; hosts = h })) (cores_told s some most are apart)
 
 -- a line that is short and whose words are those of a first line
-head_taken : (line : List ℕ) (words : List (List ℕ)) (head : TraceHead) → log_words_of line ≡ words → head_of_words words ≡ Some head → nat_lt most_line_bytes (length line) ≡ false → first_taken line ≡ Ok (behind_head head)
+head_taken : (line : List ℕ) (words : List (List ℕ)) (head : TraceHead) → log_words_of line ≡ words → head_of_words words ≡ Some head → nat_lt most_line_bytes (length line) ≡ false → first_taken line ≡ Ok (after_head head)
 head_taken line words head are said short =
-    ap (λ (o : Option TraceHead). ok_or {E = TraceFault} (option_map behind_head o) (record { line = 1; kind = kind.BadHead }))
+    ap (λ (o : Option TraceHead). ok_or {E = TraceFault} (option_map after_head o) (record { line = 1; kind = kind.BadHead }))
     (cond-false (nat_lt most_line_bytes (length line)) None (head_of_words (log_words_of line)) short ∙ ap head_of_words are ∙ said)
 
-pub first_told : (s : SetupView) → 1 ≤ s.nue → s.nue ≤ 48 → AreOnChip s s.nue → AreApart s.nue (cores_from s 0 s.nue) → length (head_body s) ≤ 255 → first_taken (head_body s) ≡ Ok (behind_head (head_read s))
+pub first_told : (s : SetupView) → 1 ≤ s.nue → s.nue ≤ 48 → AreOnChip s s.nue → AreApart s.nue (cores_from s 0 s.nue) → length (head_body s) ≤ 255 → first_taken (head_body s) ≡ Ok (after_head (head_read s))
 first_told s some most are apart short = head_taken (head_body s) (head_is s) (head_read s) (head_words_are s most are) (head_said_is s some most are apart) (le-ltb most_line_bytes (length (head_body s)) short)
 
 -- ---- the pieces of the line

@@ -16,7 +16,7 @@ use Rattle.scc_base.specs.declared.communicators.CommRule.{CommRule}
 use Rattle.scc_base.specs.declared.communicators.CommRule.TheVariants.{Absent, World, Mod, Div}
 use Rattle.scc_base.specs.Worlds.{world_alone}
 use Rattle.scc_proto.specs.Words.{RankEvent}
-use Rattle.trace_writer.specs.Lines.{comm_line_behind, event_line, trace_text}
+use Rattle.trace_writer.specs.Lines.{comm_line_after, event_line, trace_text}
 use Rattle.trace_text.specs.Grammar.{TraceReading, all_taken, last_taken, lines_taken, parts_taken, trace_of, ◌>->◌}
 use Rattle.trace_text.specs.Traces.{TraceView, most_trace_bytes, most_trace_lines}
 use Rattle.trace_text.specs.declared.faults.TraceFault.{TraceFault}
@@ -112,10 +112,10 @@ module _ (s : SetupView) (rs : List CommRule) (run : List RankEvent) (is : IsTol
 
   text_is : trace_text s run ≡ head_body s ++ 10 ∷ text_of later
   text_is =
-      let comms = joined_texts (map (comm_line_behind s) (range_with_len 0 15)) in
+      let comms = joined_texts (map (comm_line_after s) (range_with_len 0 15)) in
       let events = joined_texts (map (event_line s) run) in
       let full = fifteen in
-      let split_text : comms ≡ text_of splits = ap (λ (n : ℕ). joined_texts (map (comm_line_behind s) (range_with_len 0 n))) (sym full)
+      let split_text : comms ≡ text_of splits = ap (λ (n : ℕ). joined_texts (map (comm_line_after s) (range_with_len 0 n))) (sym full)
       ∙ lines_are s rs 0 (λ k below. let at : 0 + k + 1 ≡ k + 1 = omega arith in ap (λ (j : ℕ). rule_of s.comms j) at ∙ rule_at k below) in
       ap (λ (t : List ℕ). t ++ events) (head_pieces s comms)
       ∙ append_assoc (head_body s) (10 ∷ comms) events

@@ -18,7 +18,7 @@ use Rattle.scc_base.specs.Communicators.{IsRule, rule_of}
 use Rattle.scc_base.specs.Setups.{SetupView}
 use Rattle.scc_base.specs.declared.communicators.CommRule.{CommRule}
 use Rattle.scc_base.specs.declared.communicators.CommRule.TheVariants.{Absent, World, Mod, Div}
-use Rattle.trace_writer.specs.Lines.{comm_line, comm_line_behind}
+use Rattle.trace_writer.specs.Lines.{comm_line, comm_line_after}
 use Rattle.trace_text.specs.Grammar.{TraceReading, event_taken, line_fault, line_taken, lines_taken, split_added, split_taken, ◌>->◌}
 use Rattle.trace_text.specs.Traces.{TraceView, most_line_bytes}
 use Rattle.trace_text.specs.declared.faults.TraceFault.{TraceFault}
@@ -34,11 +34,11 @@ one_line c (Mod p k) = split_pieces (decimal c) (decimal p) (codes "mod") (decim
 one_line c (Div p k) = split_pieces (decimal c) (decimal p) (codes "div") (decimal k) ∙ sym (append-nil (line_of (split_words c p (codes "div") k) ++ 10 ∷ []))
 
 pub lines_are : (s : SetupView) (rs : List CommRule) (n : ℕ) → ((k : ℕ) → k < length rs → rule_of s.comms (n + k + 1) ≡ get_or rs k Absent)
-    → joined_texts (map (comm_line_behind s) (range_with_len n (length rs))) ≡ text_of (table_lines rule_lines (n + 1) rs)
+    → joined_texts (map (comm_line_after s) (range_with_len n (length rs))) ≡ text_of (table_lines rule_lines (n + 1) rs)
 lines_are s [] n are = refl
 lines_are s (rule ∷ rs) n are =
     let here : rule_of s.comms (n + 1) ≡ rule = ap (λ (k : ℕ). rule_of s.comms k) (omega arith) ∙ are 0 (omega arith) in
-    let rest = joined_texts (map (comm_line_behind s) (range_with_len (n + 1) (length rs))) in
+    let rest = joined_texts (map (comm_line_after s) (range_with_len (n + 1) (length rs))) in
     ap (λ (r : CommRule). comm_line (n + 1) r ++ rest) here
     ∙ ap (λ (t : List ℕ). t ++ rest) (one_line (n + 1) rule)
     ∙ ap (λ (t : List ℕ). text_of (rule_lines (n + 1) rule) ++ t)
@@ -82,28 +82,28 @@ split_line_taken t comms last c p k how rule above below low stands some most na
 -- ---- all lines
 
 -- what the line of a rule leads to, if it has one, where that is known of the lines behind it
-rule_taken : (t : SetupView) (front rs : List CommRule) (rule : CommRule) (c last number : ℕ) (behind : List (List ℕ)) (done : TraceReading → Result TraceView TraceFault) (said : Result TraceView TraceFault)
+rule_taken : (t : SetupView) (front rs : List CommRule) (rule : CommRule) (c last number : ℕ) (afterwards : List (List ℕ)) (done : TraceReading → Result TraceView TraceFault) (said : Result TraceView TraceFault)
     → c ≡ length front → 1 ≤ c → last < c → c < 16 → IsRule (front ++ rule ∷ rs) c rule
-    → ((n l : ℕ) → l ≤ c → (lines_taken n (at_rules t (front ++ rule ∷ replicate (length rs) Absent) l) behind >-> done) ≡ said)
-    → (lines_taken number (at_rules t (front ++ Absent ∷ replicate (length rs) Absent) last) (rule_lines c rule ++ behind) >-> done) ≡ said
-rule_taken t front rs rule c last number behind done said at some above below is go = by_rule rule refl is
+    → ((n l : ℕ) → l ≤ c → (lines_taken n (at_rules t (front ++ rule ∷ replicate (length rs) Absent) l) afterwards >-> done) ≡ said)
+    → (lines_taken number (at_rules t (front ++ Absent ∷ replicate (length rs) Absent) last) (rule_lines c rule ++ afterwards) >-> done) ≡ said
+rule_taken t front rs rule c last number afterwards done said at some above below is go = by_rule rule refl is
   where
     empty : List CommRule
     empty = replicate (length rs) Absent
 
     one : (x : CommRule) (p k : ℕ) (how : List ℕ) → rule ≡ x → (p < c) × (rule_of (front ++ rule ∷ rs) p ≢ Absent) × (1 ≤ k) × (k ≤ 48) → rule_named how p k ≡ Some x → IsFrom 33 how → length how ≡ 3
-        → (lines_taken number (at_rules t (front ++ Absent ∷ empty) last) (line_of (split_words c p how k) ∷ behind) >-> done) ≡ said
+        → (lines_taken number (at_rules t (front ++ Absent ∷ empty) last) (line_of (split_words c p how k) ∷ afterwards) >-> done) ≡ said
     one x p k how same (low, stands, least, most) named word three =
         let line = line_of (split_words c p how k) in
         let comms = front ++ Absent ∷ empty in
         let placed : set comms c x ≡ front ++ rule ∷ empty = ap (λ (n : ℕ). set comms n x) at ∙ set-middle front Absent x empty ∙ ap (λ (y : CommRule). front ++ y ∷ empty) (sym same) in
-        ap (λ (o : Option TraceReading). (ok_or {E = TraceFault} o (record { line = number; kind = line_fault line }) >-> λ next. lines_taken (number + 1) next behind) >-> done)
+        ap (λ (o : Option TraceReading). (ok_or {E = TraceFault} o (record { line = number; kind = line_fault line }) >-> λ next. lines_taken (number + 1) next afterwards) >-> done)
         (split_line_taken t comms last c p k how x above below low (present_before front (Absent ∷ empty) (rule ∷ rs) p (omega (arith, at, low)) stands) least most named word three
         ∙ ap (λ (l : List CommRule). Some (at_rules t l c)) placed)
         ∙ go (number + 1) c (omega arith)
 
-    by_rule : (x : CommRule) → rule ≡ x → IsRule (front ++ rule ∷ rs) c x → (lines_taken number (at_rules t (front ++ Absent ∷ empty) last) (rule_lines c x ++ behind) >-> done) ≡ said
-    by_rule Absent same rule_is = ap (λ (x : CommRule). lines_taken number (at_rules t (front ++ x ∷ empty) last) behind >-> done) (sym same) ∙ go number last (omega (arith, above))
+    by_rule : (x : CommRule) → rule ≡ x → IsRule (front ++ rule ∷ rs) c x → (lines_taken number (at_rules t (front ++ Absent ∷ empty) last) (rule_lines c x ++ afterwards) >-> done) ≡ said
+    by_rule Absent same rule_is = ap (λ (x : CommRule). lines_taken number (at_rules t (front ++ x ∷ empty) last) afterwards >-> done) (sym same) ∙ go number last (omega (arith, above))
     by_rule World same rule_is = absurd (omega (arith, rule_is, some))
     by_rule (Mod p k) same rule_is = one (Mod p k) p k (codes "mod") same rule_is refl refl refl
     by_rule (Div p k) same rule_is = one (Div p k) p k (codes "div") same rule_is refl refl refl
@@ -116,11 +116,11 @@ pub splits_taken : (t : SetupView) (front rs : List CommRule) (c last number : �
 splits_taken t front [] c last number rest done said at some above full rules later = later number last
 splits_taken t front (rule ∷ rs) c last number rest done said at some above full rules later =
     let empty : List CommRule = replicate (length rs) Absent in
-    let behind : List (List ℕ) = table_lines rule_lines (c + 1) rs ++ rest in
+    let afterwards : List (List ℕ) = table_lines rule_lines (c + 1) rs ++ rest in
     ap (λ (lines : List (List ℕ)). lines_taken number (at_rules t (front ++ Absent ∷ empty) last) lines >-> done) (append_assoc (rule_lines c rule) (table_lines rule_lines (c + 1) rs) rest)
-    ∙ rule_taken t front rs rule c last number behind done said at some above (omega (arith, full)) (subst (λ (m : ℕ). IsRule (front ++ rule ∷ rs) m rule) (omega arith) (rules 0 (omega arith)))
+    ∙ rule_taken t front rs rule c last number afterwards done said at some above (omega (arith, full)) (subst (λ (m : ℕ). IsRule (front ++ rule ∷ rs) m rule) (omega arith) (rules 0 (omega arith)))
     (λ n l low.
-    ap (λ (comms : List CommRule). lines_taken n (at_rules t comms l) behind >-> done) (sym (append_assoc front (rule ∷ []) empty))
+    ap (λ (comms : List CommRule). lines_taken n (at_rules t comms l) afterwards >-> done) (sym (append_assoc front (rule ∷ []) empty))
     ∙ splits_taken t (front ++ rule ∷ []) rs (c + 1) l n rest done said (omega (arith, at, length-append front (rule ∷ []))) (omega arith) (omega (arith, low)) (omega (arith, full))
     (λ k below. subst (λ (comms : List CommRule). IsRule comms (c + 1 + k) (get_or rs k Absent)) (sym (append_assoc front (rule ∷ []) rs))
     (subst (λ (m : ℕ). IsRule (front ++ rule ∷ rs) m (get_or rs k Absent)) (omega arith) (rules (suc k) (omega (arith, below)))))

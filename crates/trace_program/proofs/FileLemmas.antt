@@ -40,8 +40,8 @@ module _ (limit : ℕ) (bytes : List ℕ) (before now : FilesView) (same : now �
 -- ---- a file that was opened
 
 module _ (name : List ℕ) (limit : ℕ) (before between after : FilesView) (opens : Opens name before between opened.Open) where
-  same_behind : SameFiles between after → SameFiles before after
-  same_behind same =
+  same_after : SameFiles between after → SameFiles before after
+  same_after same =
       same
       ∙ (λ i. record { told = ap (λ (f : FilesView). f.told) opens.0 i; rest = after.rest; is_open = after.is_open; faults = ap (λ (f : FilesView). f.faults) opens.0 i })
 
@@ -59,9 +59,9 @@ module _ (name : List ℕ) (limit : ℕ) (before between after : FilesView) (ope
     found (Some files) rest is some read = found_in files (contents_of name files) rest refl is some read
 
   pub all_read : (answer : Result (List ℕ) ReadEnd) → ReadsRest limit between after answer → ReadsAll name limit before after answer
-  all_read (Ok bytes) (same, within, read) = (same_behind same, within, found bytes before.told between.rest (ap (λ (f : FilesView). f.rest) opens.0) opens.1 read)
+  all_read (Ok bytes) (same, within, read) = (same_after same, within, found bytes before.told between.rest (ap (λ (f : FilesView). f.rest) opens.0) opens.1 read)
   all_read (Err ends.Absent) reads = absurd reads
   all_read (Err ends.Failed) reads =
       reads
       ∙ (λ i. record { told = ap (λ (f : FilesView). f.told) opens.0 i; rest = after.rest; is_open = after.is_open; faults = ap (λ (f : FilesView). next_count f.faults) opens.0 i })
-  all_read (Err ends.Memory) reads = same_behind reads
+  all_read (Err ends.Memory) reads = same_after reads

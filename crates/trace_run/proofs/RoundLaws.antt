@@ -6,7 +6,7 @@ use Rattle.rand_pcg.specs.Pcg.{pcg32}
 use Rattle.scc_proto.specs.Words.{RankEvent}
 use Rattle.scc_mesh.specs.Scenes.{ChipView}
 use Rattle.chip_run.specs.Orders.{TurnsOf, generator_after, drawn_in, named_ranks, ranks_by}
-use Rattle.chip_run.specs.Conducts.{Conduct}
+use Rattle.chip_run.specs.Behaves.{Behaviour}
 use Rattle.chip_run.proofs.OrderLaws.{turns_then}
 use Rattle.trace_run.specs.Runs.{RoundsHeard}
 use Rattle.trace_run.specs.Seen.{StillWanted, ToldAll}
@@ -29,7 +29,7 @@ module _ (nue : ℕ) (g : Lcg) where
   unfolding drawn_in
   more_drawn n = let e : n + 1 ≡ suc n = omega arith in ap (λ (k : ℕ). drawn_in pcg32 nue k g) e
 
-module _ {A : Type 0} (c : Conduct A) (first : Lcg) where
+module _ {A : Type 0} (c : Behaviour A) (first : Lcg) where
   -- what was wanted at the start of each round still was later
   pub heard_more : (wanted after : List RankEvent → Type 0) (n : ℕ) (chip now : ChipView) (crew later : List A) → StillWanted wanted after
       → RoundsHeard c wanted first n chip crew now later → RoundsHeard c after first n chip crew now later
@@ -45,12 +45,12 @@ module _ {A : Type 0} (c : Conduct A) (first : Lcg) where
   heard_next wanted after n chip mid last crew some later more before told turns = (mid, some, heard_more wanted after n chip mid crew some more before, told, turns)
 
 -- the generator and the turns after so many rounds, before each of which the witness wanted to be told more
-pub record AtRound {A : Type 0} (c : Conduct A) (wanted : List RankEvent → Type 0) (first : Lcg) (n : ℕ) (picks : Lcg) (chip : ChipView) (crew : List A) (now : ChipView) (later : List A) : Type 0 where
+pub record AtRound {A : Type 0} (c : Behaviour A) (wanted : List RankEvent → Type 0) (first : Lcg) (n : ℕ) (picks : Lcg) (chip : ChipView) (crew : List A) (now : ChipView) (later : List A) : Type 0 where
   pub drew : picks ≡ drawn_in pcg32 (length crew) n first
   pub turns : TurnsOf c (ranks_by pcg32 (length crew) n first) chip crew now later
   pub heard : RoundsHeard c wanted first n chip crew now later
 
-pub at_first : {A : Type 0} (c : Conduct A) (wanted : List RankEvent → Type 0) (first picks : Lcg) (chip : ChipView) (crew : List A) → picks ≡ first → AtRound c wanted first 0 picks chip crew chip crew
+pub at_first : {A : Type 0} (c : Behaviour A) (wanted : List RankEvent → Type 0) (first picks : Lcg) (chip : ChipView) (crew : List A) → picks ≡ first → AtRound c wanted first 0 picks chip crew chip crew
 at_first c wanted first picks chip crew is = record {
   drew = is ∙ sym (none_in (length crew) first);
   turns = subst (λ (l : List ℕ). TurnsOf c l chip crew chip crew) (sym (none_ranks (length crew) first)) (refl, refl);
@@ -58,11 +58,11 @@ at_first c wanted first picks chip crew is = record {
 }
 
 -- the same, with one round more than n
-pub record AtNext {A : Type 0} (c : Conduct A) (wanted : List RankEvent → Type 0) (first : Lcg) (n : ℕ) (picks : Lcg) (chip : ChipView) (crew : List A) (now : ChipView) (later : List A) : Type 0 where
+pub record AtNext {A : Type 0} (c : Behaviour A) (wanted : List RankEvent → Type 0) (first : Lcg) (n : ℕ) (picks : Lcg) (chip : ChipView) (crew : List A) (now : ChipView) (later : List A) : Type 0 where
   pub at : AtRound c wanted first (n + 1) picks chip crew now later
   pub heard : RoundsHeard c wanted first (suc n) chip crew now later
 
-pub at_next : {A : Type 0} (c : Conduct A) (wanted after : List RankEvent → Type 0) (first old new : Lcg) (n : ℕ) (chip mid half last : ChipView) (crew some more later : List A)
+pub at_next : {A : Type 0} (c : Behaviour A) (wanted after : List RankEvent → Type 0) (first old new : Lcg) (n : ℕ) (chip mid half last : ChipView) (crew some more later : List A)
     → AtRound c wanted first n old chip crew mid some → StillWanted wanted after → ∥ ToldAll after mid ∥₁
     → length some ≡ length crew → length more ≡ length some → new ≡ generator_after pcg32 (1000 * length some) old → TurnsOf c (named_ranks pcg32 (length some) (1000 * length some) old) mid some half more
     → TurnsOf c (range_with_len 0 (length more)) half more last later → AtNext c after first n new chip crew last later

@@ -8,7 +8,7 @@ use Rattle.scc_proto.specs.Ports.{Seat, Sight, Did}
 use Rattle.scc_proto.specs.Words.{RankEvent}
 use Rattle.scc_proto.proofs.Tests.{same_or_other}
 use Rattle.scc_mesh.specs.Scenes.{ChipView, about_in, events_in, home_in, sight_in, view_coded}
-use Rattle.chip_run.specs.Conducts.{Conduct}
+use Rattle.chip_run.specs.Behaves.{Behaviour}
 use Rattle.scc_mesh.specs.SeatViews.{SeatView, list_at, list_or_none, without}
 use Rattle.scc_mesh.proofs.ViewLemmas.{known_there}
 use Rattle.trace_run.specs.Seen.{HasSeen, HasSeenAll, StillWanted, ToldAll, ToldAt}
@@ -112,7 +112,7 @@ seen_back u told now end at hold same seen =
     (record { setup_is = seen.setup_is; seen = ∥∥₁_map seen.seen (back_all told now at hold) })
 
 -- a worker that is tied to its rank's events on a chip is so at a port that was lent the chip
-pub tied_lent : {A : Type 0} (c : Conduct A) (chip old : ChipView) (r at : ℕ) (w : A) → old ≡ chip → at ≡ r → c.tied w (about_in chip) r (events_in chip r)
+pub tied_lent : {A : Type 0} (c : Behaviour A) (chip old : ChipView) (r at : ℕ) (w : A) → old ≡ chip → at ≡ r → c.tied w (about_in chip) r (events_in chip r)
     → c.tied w (about_in old) at (events_in old at)
 tied_lent c chip old r at w same here ties =
     subst (λ (y : ChipView). c.tied w (about_in y) at (events_in y at)) (sym same)

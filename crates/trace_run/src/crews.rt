@@ -25,10 +25,10 @@ fn turn_at<W: Worker, N: Witness>(
     at: usize,
     witness: N,
 ) -> (Rest, N)
-    requires crew { IsCrew W.conduct chip.old crew.old }
+    requires crew { IsCrew W.behaviour chip.old crew.old }
     requires within { at < length crew.old }
     requires seen { HasSeenAll (N.setup witness) (N.noted witness) chip.old }
-    ensures turned { OneTurn W.conduct chip.old crew.old at chip.new crew.new result.0 }
+    ensures turned { OneTurn W.behaviour chip.old crew.old at chip.new crew.new result.0 }
     ensures seen { HasSeenAll (N.setup result.1) (N.noted result.1) chip.new }
     ensures wanted { StillWanted (N.wanted_after witness) (N.wanted_after result.1) }
 {
@@ -38,10 +38,10 @@ fn turn_at<W: Worker, N: Witness>(
 
 /// A turn of each worker, in rank order.
 pub(crate) fn sweep<W: Worker, N: Witness>(chip: &mut Chip, crew: &mut [W], witness: N) -> (Rest, N)
-    requires crew { IsCrew W.conduct chip.old crew.old }
+    requires crew { IsCrew W.behaviour chip.old crew.old }
     requires seen { HasSeenAll (N.setup witness) (N.noted witness) chip.old }
-    ensures swept { SweepStands W.conduct result.0 (length crew.old) chip.old crew.old chip.new crew.new }
-    ensures order { TurnsOf W.conduct (range_with_len 0 (length crew.old)) chip.old crew.old chip.new crew.new }
+    ensures swept { SweepStands W.behaviour result.0 (length crew.old) chip.old crew.old chip.new crew.new }
+    ensures order { TurnsOf W.behaviour (range_with_len 0 (length crew.old)) chip.old crew.old chip.new crew.new }
     ensures seen { HasSeenAll (N.setup result.1) (N.noted result.1) chip.new }
     ensures wanted { StillWanted (N.wanted_after witness) (N.wanted_after result.1) }
 {
@@ -62,13 +62,13 @@ pub(crate) fn round<W: Worker, N: Witness>(
     picks: &mut Pcg32,
     witness: N,
 ) -> N
-    requires crew { IsCrew W.conduct chip.old crew.old }
+    requires crew { IsCrew W.behaviour chip.old crew.old }
     requires some { 0 < length crew.old }
     requires seen { HasSeenAll (N.setup witness) (N.noted witness) chip.old }
     ensures picks { picks.new ≡ generator_after pcg32 (1000 * length crew.old) picks.old }
-    ensures order { TurnsOf W.conduct (named_ranks pcg32 (length crew.old) (1000 * length crew.old) picks.old) chip.old crew.old
+    ensures order { TurnsOf W.behaviour (named_ranks pcg32 (length crew.old) (1000 * length crew.old) picks.old) chip.old crew.old
         chip.new crew.new }
-    ensures stands { CrewStands W.conduct chip.old crew.old chip.new crew.new }
+    ensures stands { CrewStands W.behaviour chip.old crew.old chip.new crew.new }
     ensures seen { HasSeenAll (N.setup result) (N.noted result) chip.new }
     ensures wanted { StillWanted (N.wanted_after witness) (N.wanted_after result) }
 {

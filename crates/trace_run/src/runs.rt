@@ -30,16 +30,16 @@ pub fn run_seen<W: Worker, N: Witness + Drop>(
     seed: u64,
     witness: N,
 ) -> SeenRun<N>
-    requires crew { IsCrew W.conduct chip.old crew.old }
+    requires crew { IsCrew W.behaviour chip.old crew.old }
     requires some { 0 < length crew.old }
     requires seen { HasSeenAll (N.setup witness) (N.noted witness) chip.old }
     // It is the same chip, whole, with the same workers, each as it is after some turns and tied to its rank's events.
-    ensures stands { CrewStands W.conduct chip.old crew.old chip.new crew.new }
+    ensures stands { CrewStands W.behaviour chip.old crew.old chip.new crew.new }
     // The witness was told the events of the chip: those of each rank in order, and all in one order.
     ensures seen { HasSeenAll (N.setup result.witness) (N.noted result.witness) chip.new }
     // Each worker rests, as in any run on one thread; or the witness did not want to be told more. At the start of each round
     // it did.
-    ensures ends { RunsBy W.conduct (N.listens result.witness) (N.wanted_after result.witness) seed result.end chip.old crew.old
+    ensures ends { RunsBy W.behaviour (N.listens result.witness) (N.wanted_after result.witness) seed result.end chip.old crew.old
         chip.new crew.new }
 {
     let mut witness = witness;

@@ -22,9 +22,9 @@ pub(crate) fn turn_at_home<W: Worker, N: Witness>(
     requires whole { IsWhole chip.old }
     requires below { rank < (about_in chip.old).nue }
     requires free { NoneElseHolds (about_in chip.old) (records_in chip.old) rank }
-    requires ties { W.conduct.tied worker.old (about_in chip.old) rank (events_in chip.old rank) }
+    requires ties { W.behaviour.tied worker.old (about_in chip.old) rank (events_in chip.old rank) }
     requires seen { HasSeenAll (N.setup witness) (N.noted witness) chip.old }
-    ensures turned { TurnedAtHome W.conduct chip.old rank worker.old chip.new worker.new result.0 }
+    ensures turned { TurnedAtHome W.behaviour chip.old rank worker.old chip.new worker.new result.0 }
     ensures seen { HasSeenAll (N.setup result.1) (N.noted result.1) chip.new }
     ensures wanted { StillWanted (N.wanted_after witness) (N.wanted_after result.1) }
 {
@@ -42,10 +42,10 @@ fn own_turn<W: Worker, N: Witness, B: Before>(
 ) -> (Turn, N)
     requires whole { IsWhole chip.old }
     requires below { rank < (about_in chip.old).nue }
-    requires ties { W.conduct.tied worker.old (about_in chip.old) rank (events_in chip.old rank) }
+    requires ties { W.behaviour.tied worker.old (about_in chip.old) rank (events_in chip.old rank) }
     requires seen { HasSeenAll (N.setup witness) (N.noted witness) chip.old }
     requires wanted { StillWanted B.wanted (N.wanted_after witness) }
-    ensures turned { OwnTurn W.conduct chip.old rank worker.old chip.new worker.new result.0 }
+    ensures turned { OwnTurn W.behaviour chip.old rank worker.old chip.new worker.new result.0 }
     ensures seen { HasSeenAll (N.setup result.1) (N.noted result.1) chip.new }
     ensures wanted { StillWanted B.wanted (N.wanted_after result.1) }
 {

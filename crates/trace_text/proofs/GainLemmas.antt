@@ -6,7 +6,7 @@ use Rattle.rcce_audit.specs.Grammar.{begins_comm, comm_said}
 use Rattle.rcce_audit.specs.Words.{log_words_of}
 use Rattle.rcce_audit.proofs.WordLemmas.{only_some, then_some}
 use Rattle.scc_proto.specs.Words.{RankEvent}
-use Rattle.trace_text.specs.Grammar.{TraceHead, TraceReading, behind_head, event_added, event_said, event_taken, trace_head_said, line_fault, line_taken, split_added, split_taken}
+use Rattle.trace_text.specs.Grammar.{TraceHead, TraceReading, after_head, event_added, event_said, event_taken, trace_head_said, line_fault, line_taken, split_added, split_taken}
 use Rattle.trace_text.specs.Traces.{most_line_bytes}
 use Rattle.trace_text.specs.Walks.{GainsEvent, last_line, next_said, text_reading, trace_lines_said, whole_lines}
 use Rattle.trace_text.specs.declared.faults.TraceFault.{TraceFault}
@@ -28,9 +28,9 @@ HasNoEvents (Some (Err fault)) = ⊥
 abbrev pub GoesWithout : (old new : Option (Result TraceReading TraceFault)) → Type 0
 GoesWithout old new = (new ≡ old) ⊎ (((fault : TraceFault) × (new ≡ Some (Err fault))) ⊎ (HasNoEvents old × (r : TraceReading) × (new ≡ Some (Ok r)) × (r.trace.events ≡ [])))
 
-some_behind : (events : List RankEvent) (e : RankEvent) → events ++ e ∷ [] ≡ [] → ⊥
-some_behind [] e is = absurd (cc)
-some_behind (x ∷ events) e is = absurd (cc)
+some_after : (events : List RankEvent) (e : RankEvent) → events ++ e ∷ [] ≡ [] → ⊥
+some_after [] e is = absurd (cc)
+some_after (x ∷ events) e is = absurd (cc)
 
 module _ (reading next : TraceReading) (line : List ℕ) (none : next.trace.events ≡ []) where
   none_split : split_taken reading (log_words_of line) ≡ Some next → reading.trace.events ≡ []
@@ -43,7 +43,7 @@ module _ (reading next : TraceReading) (line : List ℕ) (none : next.trace.even
   none_event taken =
       let (e, said, gives) = then_some (event_said reading.trace.setup.nue (log_words_of line)) (λ (e : RankEvent). Some (event_added reading e)) next taken in
       let same : event_added reading e ≡ next = cc in
-      absurd (some_behind reading.trace.events e (ap (λ (r : TraceReading). r.trace.events) same ∙ none))
+      absurd (some_after reading.trace.events e (ap (λ (r : TraceReading). r.trace.events) same ∙ none))
 
   none_before : line_taken reading line ≡ Some next → reading.trace.events ≡ []
   none_before taken = by (nat_lt most_line_bytes (length line)) (begins_comm line) taken
@@ -63,9 +63,9 @@ line_goes reading next (inr none) before = inr (inr (before none, next, refl, no
 said_goes : (old : Option (Result TraceReading TraceFault)) (before : ℕ) (line : List ℕ) → GainsEvent old (Some (next_said old before line)) None → GoesWithout old (Some (next_said old before line))
 said_goes None before line gains = by (trace_head_said line)
   where
-    by : (o : Option TraceHead) → GoesWithout None (Some (ok_or (option_map behind_head o) (record { line = 1; kind = kind.BadHead })))
+    by : (o : Option TraceHead) → GoesWithout None (Some (ok_or (option_map after_head o) (record { line = 1; kind = kind.BadHead })))
     by None = inr (inl (record { line = 1; kind = kind.BadHead }, refl))
-    by (Some head) = inr (inr (tt, behind_head head, refl, refl))
+    by (Some head) = inr (inr (tt, after_head head, refl, refl))
 said_goes (Some (Err fault)) before line gains = inl refl
 said_goes (Some (Ok reading)) before line gains = by (line_taken reading line) refl gains
   where

@@ -23,7 +23,7 @@ use Rattle.rcce_audit.specs.Words.{◌>>=◌, is_lower, only_if, exact_range_sai
 use Rattle.texts.specs.Cuts.{lines_of}
 use Rattle.rcce_audit.proofs.ReadingLemmas.{no_rules, world_rules}
 use Rattle.rcce_audit.proofs.WordLemmas.{only_some, range_word, then_some}
-use Rattle.trace_text.specs.Grammar.{HostTable, TraceHead, TraceReading, access_said, all_hosts_said, all_taken, are_head_words, behind_head, event_added, event_by, event_said, event_taken, first_taken, free_event_said, head_of_words, trace_head_said, head_values_said, host_said, hosts_said, last_taken, line_fault, line_taken, lines_taken, load_event_said, no_hosts, parts_taken, split_added, split_taken, store_event_said, take_event_said, trace_of, ◌>->◌}
+use Rattle.trace_text.specs.Grammar.{HostTable, TraceHead, TraceReading, access_said, all_hosts_said, all_taken, are_head_words, after_head, event_added, event_by, event_said, event_taken, first_taken, free_event_said, head_of_words, trace_head_said, head_values_said, host_said, hosts_said, last_taken, line_fault, line_taken, lines_taken, load_event_said, no_hosts, parts_taken, split_added, split_taken, store_event_said, take_event_said, trace_of, ◌>->◌}
 use Rattle.trace_text.specs.Traces.{TraceView, most_line_bytes, most_trace_bytes, most_trace_lines}
 use Rattle.trace_text.specs.Words.{comma_parts, dot_parts, hex_word_said, is_comment, layout_said, place_said, register_place_said}
 use Rattle.trace_text.specs.declared.faults.TraceFault.{TraceFault}
@@ -227,7 +227,7 @@ record IsReadSoFar (r : TraceReading) : Type 0 where
   pub later : (c : ℕ) → r.comm < c → rule_of r.trace.setup.comms c ≡ Absent
   pub made : All (IsOfRank r.trace.setup.nue) r.trace.events
 
-head_reads : (head : TraceHead) → IsTraceHead head → IsReadSoFar (behind_head head)
+head_reads : (head : TraceHead) → IsTraceHead head → IsReadSoFar (after_head head)
 head_reads head is = record {
   some_ranks = is.some_ranks;
   ranks_within = is.ranks_within;
@@ -298,7 +298,7 @@ lines_read number r next (line ∷ lines) reads said =
 
 first_reads : (line : List ℕ) (r : TraceReading) → first_taken line ≡ Ok r → IsReadSoFar r
 first_reads line r said =
-    let (head, is, same) = mapped_some behind_head (trace_head_said line) r (or_some (option_map behind_head (trace_head_said line)) _ r said) in
+    let (head, is, same) = mapped_some after_head (trace_head_said line) r (or_some (option_map after_head (trace_head_said line)) _ r said) in
     subst IsReadSoFar same (head_reads head (head_is (log_words_of line) head (if_none (nat_lt most_line_bytes (length line)) (head_of_words (log_words_of line)) head is)))
 
 -- a trace whose events are ones that its ranks may make

@@ -10,7 +10,7 @@ use Rattle.std.proofs.lemmas.List.{length-take-le, take-append-le, take_all}
 use Rattle.std.proofs.lemmas.List.Splits.{slice_split-cons_no, slice_split-cons_yes}
 use Rattle.texts.specs.Cuts.{lines_of}
 use Rattle.rcce_audit.proofs.ReadingLemmas.{few_parts}
-use Rattle.trace_text.specs.Grammar.{TraceHead, TraceReading, all_taken, behind_head, first_taken, trace_head_said, last_taken, line_fault, line_taken, lines_taken, trace_of, ◌>->◌}
+use Rattle.trace_text.specs.Grammar.{TraceHead, TraceReading, all_taken, after_head, first_taken, trace_head_said, last_taken, line_fault, line_taken, lines_taken, trace_of, ◌>->◌}
 use Rattle.trace_text.specs.Traces.{TraceView, most_line_bytes, most_trace_bytes, most_trace_lines}
 use Rattle.trace_text.specs.Walks.{last_line, trace_lines_said, next_said, text_reading, whole_lines}
 use Rattle.trace_text.specs.declared.faults.TraceFault.{TraceFault}
@@ -165,7 +165,7 @@ pub fault_cut : (line : List ℕ) → line_fault (take 256 line) ≡ line_fault 
 fault_cut line = ap (λ (front : List ℕ). if bytes_eq front (codes "comm") then kind.BadComm else kind.BadEvent) (front_cut line)
 
 pub next_cut : (said : Option (Result TraceReading TraceFault)) (before : ℕ) (line : List ℕ) → next_said said before (take 256 line) ≡ next_said said before line
-next_cut None before line = ap (λ (o : Option TraceHead). ok_or (option_map behind_head o) (record { line = 1; kind = kind.BadHead })) (head_cut line)
+next_cut None before line = ap (λ (o : Option TraceHead). ok_or (option_map after_head o) (record { line = 1; kind = kind.BadHead })) (head_cut line)
 next_cut (Some said) before line =
     then_same said (line_at (before + 1) (take 256 line)) (line_at (before + 1) line)
     (λ reading i. ok_or (line_cut reading line i) (record { line = before + 1; kind = fault_cut line i }))

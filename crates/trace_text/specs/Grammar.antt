@@ -108,8 +108,8 @@ pub record TraceReading : Type 0 where
   pub comm : ℕ
 
 -- the first line is read
-abbrev pub behind_head : TraceHead → TraceReading
-behind_head head =
+abbrev pub after_head : TraceHead → TraceReading
+after_head head =
     record {
       trace = record {
         setup = record { nue = head.nue; layout = head.layout; hosts = head.hosts; comms = world_alone };
@@ -176,7 +176,7 @@ trace_head_said line = if nat_lt most_line_bytes (length line) then None else he
 
 -- the reading behind the first line, or BadHead
 abbrev pub first_taken : List ℕ → Result TraceReading TraceFault
-first_taken line = ok_or (option_map behind_head (trace_head_said line)) (record { line = 1; kind = kind.BadHead })
+first_taken line = ok_or (option_map after_head (trace_head_said line)) (record { line = 1; kind = kind.BadHead })
 
 -- what these lines say, each with its line feed, and what stands behind the last line feed
 abbrev pub all_taken : List (List ℕ) → List ℕ → Result TraceView TraceFault

@@ -49,14 +49,14 @@ pub(crate) struct TraceReader {
 impl TraceReader {
     ghost use Rattle.std.specs.Prelude.{◌≡◌, ◌<◌, IfOk, None, OnErr, Some, map, option_map};
     ghost use Rattle.std.specs.Bool.{MatchBool};
-    ghost use Rattle.trace_text.specs.Grammar.{behind_head, event_added, event_said, split_taken};
+    ghost use Rattle.trace_text.specs.Grammar.{after_head, event_added, event_said, split_taken};
     ghost use Rattle.trace_text.specs.Heads.{head_view};
     ghost use Rattle.trace_text.specs.Progress.{TakesTraceLine, progress_of};
     ghost use Rattle.trace_text.specs.Views.{rank_event};
 
     /// The first line is read.
     pub(crate) fn new(head: Head) -> TraceReader
-        ensures { progress_of result ≡ behind_head (head_view head) }
+        ensures { progress_of result ≡ after_head (head_view head) }
     {
         let hosts = head.hosts;
         TraceReader {

@@ -9,7 +9,7 @@ use Rattle.rcce_io.specs.declared.writing.WriteFault.{WriteFault}
 use Rattle.rcce_io.proofs.SendingLemmas.{cut_after, cut_then, sends_after}
 use Rattle.scc_base.specs.Setups.{SetupView}
 use Rattle.scc_proto.specs.Words.{RankEvent}
-use Rattle.trace_writer.specs.Lines.{access_name, comm_line_behind, comment_words, event_line, first_lines, host_words, layout_name, place_words}
+use Rattle.trace_writer.specs.Lines.{access_name, comm_line_after, comment_words, event_line, first_lines, host_words, layout_name, place_words}
 
 -- ---- the line of an event
 
@@ -26,68 +26,68 @@ abbrev pub line_comment : SetupView → RankEvent → List ℕ
 line_comment s e = joined_texts (comment_words s e.event.access e.event.place)
 
 -- what follows behind the mark `#`, behind the value, behind the blank before it, behind the place, and behind the head
-abbrev pub behind_mark : SetupView → RankEvent → List ℕ
-behind_mark s e = line_comment s e ++ codes "\n"
+abbrev pub after_mark : SetupView → RankEvent → List ℕ
+after_mark s e = line_comment s e ++ codes "\n"
 
-abbrev pub behind_value : SetupView → RankEvent → List ℕ
-behind_value s e = codes " # " ++ behind_mark s e
+abbrev pub after_value : SetupView → RankEvent → List ℕ
+after_value s e = codes " # " ++ after_mark s e
 
-abbrev pub behind_blank : SetupView → RankEvent → List ℕ
-behind_blank s e = line_value e ++ behind_value s e
+abbrev pub after_blank : SetupView → RankEvent → List ℕ
+after_blank s e = line_value e ++ after_value s e
 
-abbrev pub behind_place : SetupView → RankEvent → List ℕ
-behind_place s e = codes " " ++ behind_blank s e
+abbrev pub after_place : SetupView → RankEvent → List ℕ
+after_place s e = codes " " ++ after_blank s e
 
-abbrev pub behind_head : SetupView → RankEvent → List ℕ
-behind_head s e = line_place e ++ behind_place s e
+abbrev pub after_head : SetupView → RankEvent → List ℕ
+after_head s e = line_place e ++ after_place s e
 
 module _ (s : SetupView) (e : RankEvent) (v0 v1 : SinkView) where
   pub head_cut : CutShort (line_head e) v0 v1 → CutShort (event_line s e) v0 v1
-  head_cut cut = cut_then v0 v1 (line_head e) (behind_head s e) cut
+  head_cut cut = cut_then v0 v1 (line_head e) (after_head s e) cut
 
 module _ (s : SetupView) (e : RankEvent) (v0 v1 v2 : SinkView) (head : v1 ≡ with_text (line_head e) v0) where
   -- what is so behind the head
-  behind : (v : SinkView) → CutShort (behind_head s e) v1 v → CutShort (event_line s e) v0 v
-  behind v cut = cut_after v0 v1 v (line_head e) (behind_head s e) head cut
+  afterwards : (v : SinkView) → CutShort (after_head s e) v1 v → CutShort (event_line s e) v0 v
+  afterwards v cut = cut_after v0 v1 v (line_head e) (after_head s e) head cut
 
   pub place_cut : CutShort (line_place e) v1 v2 → CutShort (event_line s e) v0 v2
-  place_cut cut = behind v2 (cut_then v1 v2 (line_place e) (behind_place s e) cut)
+  place_cut cut = afterwards v2 (cut_then v1 v2 (line_place e) (after_place s e) cut)
 
 module _ (s : SetupView) (e : RankEvent) (v0 v1 v2 v3 : SinkView) (head : v1 ≡ with_text (line_head e) v0) (place : v2 ≡ with_text (line_place e) v1) where
-  behind_both : (v : SinkView) → CutShort (behind_place s e) v2 v → CutShort (event_line s e) v0 v
-  behind_both v cut = behind s e v0 v1 v2 head v (cut_after v1 v2 v (line_place e) (behind_place s e) place cut)
+  after_both : (v : SinkView) → CutShort (after_place s e) v2 v → CutShort (event_line s e) v0 v
+  after_both v cut = afterwards s e v0 v1 v2 head v (cut_after v1 v2 v (line_place e) (after_place s e) place cut)
 
   pub blank_cut : CutShort (codes " ") v2 v3 → CutShort (event_line s e) v0 v3
-  blank_cut cut = behind_both v3 (cut_then v2 v3 (codes " ") (behind_blank s e) cut)
+  blank_cut cut = after_both v3 (cut_then v2 v3 (codes " ") (after_blank s e) cut)
 
 module _ (s : SetupView) (e : RankEvent) (v0 v1 v2 v3 v4 : SinkView) (head : v1 ≡ with_text (line_head e) v0) (place : v2 ≡ with_text (line_place e) v1)
     (blank : v3 ≡ with_text (codes " ") v2) where
-  behind_three : (v : SinkView) → CutShort (behind_blank s e) v3 v → CutShort (event_line s e) v0 v
-  behind_three v cut = behind_both s e v0 v1 v2 v3 head place v (cut_after v2 v3 v (codes " ") (behind_blank s e) blank cut)
+  after_three : (v : SinkView) → CutShort (after_blank s e) v3 v → CutShort (event_line s e) v0 v
+  after_three v cut = after_both s e v0 v1 v2 v3 head place v (cut_after v2 v3 v (codes " ") (after_blank s e) blank cut)
 
   pub value_cut : CutShort (line_value e) v3 v4 → CutShort (event_line s e) v0 v4
-  value_cut cut = behind_three v4 (cut_then v3 v4 (line_value e) (behind_value s e) cut)
+  value_cut cut = after_three v4 (cut_then v3 v4 (line_value e) (after_value s e) cut)
 
 module _ (s : SetupView) (e : RankEvent) (v0 v1 v2 v3 v4 v5 v6 v7 : SinkView) (head : v1 ≡ with_text (line_head e) v0) (place : v2 ≡ with_text (line_place e) v1)
     (blank : v3 ≡ with_text (codes " ") v2) (value : v4 ≡ with_text (line_value e) v3) where
-  behind_four : (v : SinkView) → CutShort (behind_value s e) v4 v → CutShort (event_line s e) v0 v
-  behind_four v cut = behind_three s e v0 v1 v2 v3 v4 head place blank v (cut_after v3 v4 v (line_value e) (behind_value s e) value cut)
+  after_four : (v : SinkView) → CutShort (after_value s e) v4 v → CutShort (event_line s e) v0 v
+  after_four v cut = after_three s e v0 v1 v2 v3 v4 head place blank v (cut_after v3 v4 v (line_value e) (after_value s e) value cut)
 
   pub mark_cut : CutShort (codes " # ") v4 v5 → CutShort (event_line s e) v0 v5
-  mark_cut cut = behind_four v5 (cut_then v4 v5 (codes " # ") (behind_mark s e) cut)
+  mark_cut cut = after_four v5 (cut_then v4 v5 (codes " # ") (after_mark s e) cut)
 
   pub comment_cut : v5 ≡ with_text (codes " # ") v4 → CutShort (line_comment s e) v5 v6 → CutShort (event_line s e) v0 v6
-  comment_cut mark cut = behind_four v6 (cut_after v4 v5 v6 (codes " # ") (behind_mark s e) mark (cut_then v5 v6 (line_comment s e) (codes "\n") cut))
+  comment_cut mark cut = after_four v6 (cut_after v4 v5 v6 (codes " # ") (after_mark s e) mark (cut_then v5 v6 (line_comment s e) (codes "\n") cut))
 
   -- all pieces, and the last one is sent
   pub line_sent : (r : Result (Unit {0}) WriteFault) → v5 ≡ with_text (codes " # ") v4 → v6 ≡ with_text (line_comment s e) v5 → Sends (codes "\n") v6 v7 r
       → Sends (event_line s e) v0 v7 r
   line_sent r mark comment last =
-      sends_after v0 v1 v7 (line_head e) (behind_head s e) r head
-      (sends_after v1 v2 v7 (line_place e) (behind_place s e) r place
-      (sends_after v2 v3 v7 (codes " ") (behind_blank s e) r blank
-      (sends_after v3 v4 v7 (line_value e) (behind_value s e) r value
-      (sends_after v4 v5 v7 (codes " # ") (behind_mark s e) r mark
+      sends_after v0 v1 v7 (line_head e) (after_head s e) r head
+      (sends_after v1 v2 v7 (line_place e) (after_place s e) r place
+      (sends_after v2 v3 v7 (codes " ") (after_blank s e) r blank
+      (sends_after v3 v4 v7 (line_value e) (after_value s e) r value
+      (sends_after v4 v5 v7 (codes " # ") (after_mark s e) r mark
       (sends_after v5 v6 v7 (line_comment s e) (codes "\n") r comment last)))))
 
 -- ---- the first lines
@@ -99,26 +99,26 @@ abbrev pub first_hosts : SetupView → List ℕ
 first_hosts s = joined_texts (map (host_words s) (range_with_len 0 s.nue))
 
 abbrev pub first_comms : SetupView → List ℕ
-first_comms s = joined_texts (map (comm_line_behind s) (range_with_len 0 15))
+first_comms s = joined_texts (map (comm_line_after s) (range_with_len 0 15))
 
-abbrev pub behind_first_head : SetupView → List ℕ
-behind_first_head s = first_hosts s ++ (codes "\n" ++ first_comms s)
+abbrev pub after_first_head : SetupView → List ℕ
+after_first_head s = first_hosts s ++ (codes "\n" ++ first_comms s)
 
 module _ (s : SetupView) (v0 v1 v2 v3 v4 : SinkView) where
   pub first_head_cut : CutShort (first_head s) v0 v1 → CutShort (first_lines s) v0 v1
-  first_head_cut cut = cut_then v0 v1 (first_head s) (behind_first_head s) cut
+  first_head_cut cut = cut_then v0 v1 (first_head s) (after_first_head s) cut
 
   pub first_hosts_cut : v1 ≡ with_text (first_head s) v0 → CutShort (first_hosts s) v1 v2 → CutShort (first_lines s) v0 v2
-  first_hosts_cut head cut = cut_after v0 v1 v2 (first_head s) (behind_first_head s) head (cut_then v1 v2 (first_hosts s) (codes "\n" ++ first_comms s) cut)
+  first_hosts_cut head cut = cut_after v0 v1 v2 (first_head s) (after_first_head s) head (cut_then v1 v2 (first_hosts s) (codes "\n" ++ first_comms s) cut)
 
   pub first_end_cut : v1 ≡ with_text (first_head s) v0 → v2 ≡ with_text (first_hosts s) v1 → CutShort (codes "\n") v2 v3 → CutShort (first_lines s) v0 v3
   first_end_cut head hosts cut =
-      cut_after v0 v1 v3 (first_head s) (behind_first_head s) head
+      cut_after v0 v1 v3 (first_head s) (after_first_head s) head
       (cut_after v1 v2 v3 (first_hosts s) (codes "\n" ++ first_comms s) hosts (cut_then v2 v3 (codes "\n") (first_comms s) cut))
 
   pub first_sent : (r : Result (Unit {0}) WriteFault) → v1 ≡ with_text (first_head s) v0 → v2 ≡ with_text (first_hosts s) v1 → v3 ≡ with_text (codes "\n") v2
       → Sends (first_comms s) v3 v4 r → Sends (first_lines s) v0 v4 r
   first_sent r head hosts end comms =
-      sends_after v0 v1 v4 (first_head s) (behind_first_head s) r head
+      sends_after v0 v1 v4 (first_head s) (after_first_head s) r head
       (sends_after v1 v2 v4 (first_hosts s) (codes "\n" ++ first_comms s) r hosts
       (sends_after v2 v3 v4 (codes "\n") (first_comms s) r end comms))

@@ -8,7 +8,7 @@ use Rattle.scc_proto.specs.Words.{RankEvent}
 use Rattle.scc_mesh.specs.Scenes.{ChipView, about_in, events_in}
 use Rattle.chip_run.specs.declared.ends.RunEnd.{RunEnd}
 use Rattle.chip_run.specs.declared.runs.Mode.TheVariants as mode
-use Rattle.chip_run.specs.Conducts.{Conduct}
+use Rattle.chip_run.specs.Behaves.{Behaviour}
 use Rattle.chip_run.specs.Runs.{InOrder}
 use Rattle.trace_run.specs.Runs.{RunsBy, RunsToEnd}
 use Rattle.trace_run.specs.Seen.{HasSeenAll}
@@ -36,7 +36,7 @@ traced s told holds written chip first before after end answer seen same ended s
 
 -- ---- the rounds of a run, however it ended
 
-module _ {A : Type 0} (c : Conduct A) (listens : Bool) (written : List RankEvent) (seed : ℕ) (chip now : ChipView) (crew later : List A) where
+module _ {A : Type 0} (c : Behaviour A) (listens : Bool) (written : List RankEvent) (seed : ℕ) (chip now : ChipView) (crew later : List A) where
   pub keeps_up : (end : Option RunEnd) → RunsBy c listens (λ early. IsFrontOf early written) seed end chip crew now later → KeepsUp c seed chip crew now later written
   keeps_up None ran = record { rounds = ran.rounds; heard = ran.heard }
   keeps_up (Some end) ran = record { rounds = suc ran.more; heard = ran.heard }

@@ -45,7 +45,7 @@ pub record HasLegalFront (s : SetupView) (written run : List RankEvent) : Type 0
   pub legal : IsLegalRun s written
 
 -- the event behind that front is refused
-pub record RefusesBehind (s : SetupView) (rank : ℕ) (why : Refusal) (written run : List RankEvent) : Type 0 where
+pub record RefusesAfter (s : SetupView) (rank : ℕ) (why : Refusal) (written run : List RankEvent) : Type 0 where
   pub event : RankEvent
   pub rest : List RankEvent
   pub parts : run ≡ written ++ event ∷ rest
@@ -69,7 +69,7 @@ pub record WasCutShort (s : SetupView) (before now : SinkView) (written run : Li
 pub record WasRefused (s : SetupView) (rank : ℕ) (why : Refusal) (before : SinkView) (waiting : List ℕ) (now : SinkView)
     (written run : List RankEvent) : Type 0 where
   pub front : HasLegalFront s written run
-  pub refuses : RefusesBehind s rank why written run
+  pub refuses : RefusesAfter s rank why written run
   pub waits : RestWaits (trace_text s written) waiting before now
 
 -- what has become of the events that a desk was told, by its fault

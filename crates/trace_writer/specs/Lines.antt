@@ -94,15 +94,15 @@ comm_line comm (Mod parent k) = split_line comm parent (codes " mod ") k
 comm_line comm (Div parent k) = split_line comm parent (codes " div ") k
 
 -- the line of the communicator behind this one, where it is a split
-abbrev pub comm_line_behind : SetupView → ℕ → List ℕ
-comm_line_behind s comm = comm_line (comm + 1) (rule_of s.comms (comm + 1))
+abbrev pub comm_line_after : SetupView → ℕ → List ℕ
+comm_line_after s comm = comm_line (comm + 1) (rule_of s.comms (comm + 1))
 
 -- the first line, and those of the communicators
 abbrev pub first_lines : SetupView → List ℕ
 first_lines s =
     joined_texts (codes "rcce trace 1 nue " ∷ decimal s.nue ∷ codes " layout " ∷ layout_name s.layout ∷ codes " hosts " ∷ [])
     ++ (joined_texts (map (host_words s) (range_with_len 0 s.nue))
-    ++ (codes "\n" ++ joined_texts (map (comm_line_behind s) (range_with_len 0 15))))
+    ++ (codes "\n" ++ joined_texts (map (comm_line_after s) (range_with_len 0 15))))
 
 -- the text of a trace
 abbrev pub trace_text : SetupView → List RankEvent → List ℕ

@@ -8,7 +8,7 @@ use Rattle.scc_proto.specs.Words.{RankEvent}
 use Rattle.scc_mesh.specs.Scenes.{ChipView, about_in, events_in}
 use Rattle.chip_run.specs.declared.ends.RunEnd.{RunEnd}
 use Rattle.chip_run.specs.declared.runs.Mode.TheVariants as mode
-use Rattle.chip_run.specs.Conducts.{Conduct}
+use Rattle.chip_run.specs.Behaves.{Behaviour}
 use Rattle.chip_run.specs.Runs.{InOrder}
 use Rattle.trace_run.specs.Runs.{RoundsHeard, RunsToEnd}
 use Rattle.trace_writer.specs.declared.desks.TraceFault.{TraceFault}
@@ -36,13 +36,13 @@ HasTrace holds chip before after answer = ∥ TraceOf holds chip before after an
 -- The trace kept up with the rounds of a run: before each round, the last one included, the events that the chip had then had been
 -- judged and given to the sink, and no write had failed. So they are a front of what was written at last. Seven parameters: the
 -- workers' conduct, the seed, the chip and the crew before and after, and what was written.
-pub record KeepsUp {A : Type 0} (c : Conduct A) (seed : ℕ) (chip : ChipView) (crew : List A) (now : ChipView) (later : List A)
+pub record KeepsUp {A : Type 0} (c : Behaviour A) (seed : ℕ) (chip : ChipView) (crew : List A) (now : ChipView) (later : List A)
     (written : List RankEvent) : Type 0 where
   pub rounds : ℕ
   pub heard : RoundsHeard c (λ early. IsFrontOf early written) (pcg32_of_seed (pcg32_seed 16 seed)) rounds chip crew now later
 
 -- Where the trace is whole the run went to its end, and else it went on for some of its rounds, in the seed's order. Seven
 -- parameters: the workers' conduct, the seed, the chip and the crew before and after, and the answer.
-abbrev pub RunsTraced : {A : Type 0} → Conduct A → ℕ → ChipView → List A → ChipView → List A → Result RunEnd TraceFault → Type 0
+abbrev pub RunsTraced : {A : Type 0} → Behaviour A → ℕ → ChipView → List A → ChipView → List A → Result RunEnd TraceFault → Type 0
 RunsTraced c seed chip crew now later (Ok end) = RunsToEnd c seed end chip crew now later
 RunsTraced c seed chip crew now later (Err why) = InOrder c (mode.Serial seed) chip crew now later

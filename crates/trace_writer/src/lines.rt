@@ -4,7 +4,7 @@ ghost use Rattle.std.specs.Prelude.{◌≡◌, ◌<◌, [], ◌∷◌, codes, de
 ghost use Rattle.std.specs.List.{range_with_len};
 ghost use Rattle.rcce_io.specs.Sending.{Sends, joined_texts};
 ghost use Rattle.record_machine.specs.Uses.{role_meant};
-ghost use Rattle.trace_writer.specs.Lines.{access_name, comm_line, comma_before, comm_line_behind, comment_words, event_line, first_lines, header_word_name, host_words, layout_name, place_words, role_words, signal_name, split_line};
+ghost use Rattle.trace_writer.specs.Lines.{access_name, comm_line, comma_before, comm_line_after, comment_words, event_line, first_lines, header_word_name, host_words, layout_name, place_words, role_words, signal_name, split_line};
 
 use rcce_io::Piece::{Number, Text};
 use rcce_io::{Sink, TextSource, WriteFault, write_all, write_hex, write_texts};
@@ -127,7 +127,7 @@ fn write_comm<S: Sink>(sink: &mut S, comm: u8, rule: CommRule) -> Result<(), Wri
 }
 
 fn write_comms<S: Sink>(sink: &mut S, setup: &Setup) -> Result<(), WriteFault>
-    ensures { Sends (joined_texts (map (comm_line_behind setup.now) (range_with_len 0 15))) (S.seen sink.old) (S.seen sink.new) result }
+    ensures { Sends (joined_texts (map (comm_line_after setup.now) (range_with_len 0 15))) (S.seen sink.old) (S.seen sink.new) result }
 {
     for before in 0..15 {
         let comm = before + 1;

@@ -26,18 +26,18 @@ pub fn write_run<W: Worker, S: Sink>(
     out: &mut S,
     judge: Judge,
 ) -> Result<RunEnd, TraceFault>
-    requires crew { IsCrew W.conduct chip.old crew.old }
+    requires crew { IsCrew W.behaviour chip.old crew.old }
     requires some { 0 < length crew.old }
     requires empty { (rank : ℕ) → events_in chip.old rank ≡ [] }
     requires judge { (judge.setup ≡ about_in chip.old) × (judge.run ≡ []) }
     // It is the same chip, whole, with the same workers, each as it is after some turns and tied to its rank's events.
-    ensures stands { CrewStands W.conduct chip.old crew.old chip.new crew.new }
+    ensures stands { CrewStands W.behaviour chip.old crew.old chip.new crew.new }
     // What was written is the trace of the chip's events: by rank they are the rank's own, in order, and all are legal. It has all
     // events that the chip had before its last round, so that no round begins after a failed write.
-    ensures trace { HasTrace (KeepsUp W.conduct seed chip.old crew.old chip.new crew.new) chip.new (S.seen out.old) (S.seen out.new)
+    ensures trace { HasTrace (KeepsUp W.behaviour seed chip.old crew.old chip.new crew.new) chip.new (S.seen out.old) (S.seen out.new)
         result }
     // Where the trace is whole each worker rests, as in any run on one thread; else the run is a part of one.
-    ensures ends { RunsTraced W.conduct seed chip.old crew.old chip.new crew.new result }
+    ensures ends { RunsTraced W.behaviour seed chip.old crew.old chip.new crew.new result }
 {
     let SeenRun { witness, end } = write_as::<W, S, Brand>(chip, crew, seed, out, judge);
     let Desk {
@@ -67,16 +67,16 @@ fn write_as<'o, W: Worker, S: Sink, B: Origin>(
     judge: Judge,
 ) -> SeenRun<Desk<'o, S, B>>
     requires origin { (B.before ≡ S.seen out.old) × (B.name ≡ out.ghost_name) }
-    requires crew { IsCrew W.conduct chip.old crew.old }
+    requires crew { IsCrew W.behaviour chip.old crew.old }
     requires some { 0 < length crew.old }
     requires empty { (rank : ℕ) → events_in chip.old rank ≡ [] }
     requires judge { (judge.setup ≡ about_in chip.old) × (judge.run ≡ []) }
-    ensures stands { CrewStands W.conduct chip.old crew.old chip.new crew.new }
+    ensures stands { CrewStands W.behaviour chip.old crew.old chip.new crew.new }
     ensures same { result.witness.sink.ghost_name ≡ B.name }
     ensures seen { HasSeenAll result.witness.judge.setup (λ run. (result.witness.sink.ghost_name ≡ B.name)
         × HasWritten B.before result.witness.judge result.witness.buffer (S.seen result.witness.sink.now) result.witness.fault
         run) chip.new }
-    ensures ends { RunsBy W.conduct (is_none result.witness.fault) (λ run. IsFrontOf run result.witness.judge.run) seed result.end
+    ensures ends { RunsBy W.behaviour (is_none result.witness.fault) (λ run. IsFrontOf run result.witness.judge.run) seed result.end
         chip.old crew.old chip.new crew.new }
 {
     let mut buffer = Buffer::new();

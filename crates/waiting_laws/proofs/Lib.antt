@@ -1,4 +1,4 @@
-pub mod VainSteps
+pub mod FailedSteps
 pub mod Looks
 pub mod Messages
 pub mod Waited

@@ -13,7 +13,7 @@ use Rattle.scc_proto.specs.Words.{is_at, IsStep, IsStepBy, Memory, word_at}
 use Rattle.scc_proto.proofs.Tests.{both_first, both_second, eqb_same, not_true, same_by_eqb, same_or_other}
 use Rattle.put_get.specs.Transfers.{is_load}
 use Rattle.sync_flags.specs.Flags.{is_set_in}
-use Rattle.sync_flags.specs.Tries.{Aim, AtFlag, AtRegister, AtWord, is_take, is_try, is_vain}
+use Rattle.sync_flags.specs.Tries.{Aim, AtFlag, AtRegister, AtWord, is_take, is_try, has_failed}
 use Rattle.chip_run.specs.Turns.{NoneElseHolds}
 use Rattle.waiting_laws.specs.Looks.{Tells}
 
@@ -80,10 +80,10 @@ module _ (s : SetupView) (memory : Memory) (records : ℕ → Record) (me : ℕ)
           (λ t ne. let none = others holder e.place.core low ne in let not_some = ap is_some none in cc (not_some, some))
 
   -- what the vain try tells
-  pub told : (changing : Bool) (aim : Aim) (e : Event) → is_try changing aim e ≡ true → is_vain aim e ≡ true → (is_take e.access ≡ true → is_none ((records me).held e.place.core) ≡ true) → IsStep memory e → Tells memory aim
-  told changing (AtFlag place bit true) e try_is vain own step =
-      ap (is_set_in bit) (loaded changing memory place e try_is step) ∙ not_true (is_set_in bit e.value) vain
-  told changing (AtFlag place bit false) e try_is vain own step = tt
-  told changing (AtWord place value) e try_is vain own step = λ is.
-      differ e.value value (not_true (e.value == value) vain) (sym (loaded changing memory place e try_is step) ∙ is)
-  told changing (AtRegister core) e try_is vain own step = no_take e (both_first (is_take e.access) (e.place.core == core) try_is) vain own step
+  pub told : (changing : Bool) (aim : Aim) (e : Event) → is_try changing aim e ≡ true → has_failed aim e ≡ true → (is_take e.access ≡ true → is_none ((records me).held e.place.core) ≡ true) → IsStep memory e → Tells memory aim
+  told changing (AtFlag place bit true) e try_is failed own step =
+      ap (is_set_in bit) (loaded changing memory place e try_is step) ∙ not_true (is_set_in bit e.value) failed
+  told changing (AtFlag place bit false) e try_is failed own step = tt
+  told changing (AtWord place value) e try_is failed own step = λ is.
+      differ e.value value (not_true (e.value == value) failed) (sym (loaded changing memory place e try_is step) ∙ is)
+  told changing (AtRegister core) e try_is failed own step = no_take e (both_first (is_take e.access) (e.place.core == core) try_is) failed own step

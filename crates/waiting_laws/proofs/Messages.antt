@@ -13,7 +13,7 @@ use Rattle.scc_proto.specs.Like.{Like}
 use Rattle.scc_proto.specs.Messages.{Progress}
 use Rattle.scc_proto.specs.Ports.{Seat}
 use Rattle.scc_proto.specs.Records.{chunk_of}
-use Rattle.scc_proto.specs.Stages.{Idle, Between, OnItsWay, Record}
+use Rattle.scc_proto.specs.Stages.{Idle, Between, InFlight, Record}
 use Rattle.scc_proto.specs.Views.{View, view_of, word_of_flag}
 use Rattle.scc_proto.specs.Words.{Memory, are_peers, word_at}
 use Rattle.scc_proto.proofs.Tests.{peers_swap}
@@ -31,7 +31,7 @@ use Rattle.send_recv.specs.declared.stages.SendStage.TheVariants as sending
 use Rattle.chip_run.specs.Waiting.{IsLooking, RaiseWaits, SlotWaits, TakeWaits}
 use Rattle.chip_run.specs.Wants.{Want}
 use Rattle.chip_run.proofs.Looks.{raise_waits, waits_same}
-use Rattle.waiting_laws.specs.Looks.{LookedInVain, Tells, SeatWaits}
+use Rattle.waiting_laws.specs.Looks.{LookFailed, Tells, SeatWaits}
 use Rattle.waiting_laws.proofs.Looks.{aimed, differ}
 
 -- the flag is not set
@@ -109,7 +109,7 @@ no_recv BitFlags memory own other from receive.Raise aim unlike is tells =
 no_recv LineFlags memory own other from receive.Finished aim unlike is tells = cc (is)
 no_recv BitFlags memory own other from receive.Finished aim unlike is tells = cc (is)
 
-post_of : (o : Option OnItsWay) (to : ℕ) → Some to ≡ option_map (λ (p : OnItsWay). p.to) o → (p : OnItsWay) × (o ≡ Some p) × (to ≡ p.to)
+post_of : (o : Option InFlight) (to : ℕ) → Some to ≡ option_map (λ (p : InFlight). p.to) o → (p : InFlight) × (o ≡ Some p) × (to ≡ p.to)
 post_of None to is = absurd (cc (is))
 post_of (Some p) to is = (p, refl, same_Some to p.to is)
 
@@ -133,7 +133,7 @@ module _ (seat : Seat) (memory : Memory) (records : ℕ → Record) (agrees : Ag
   slot_waits slot aim stands idle is tells =
       let (j, to_is, unset) = slot_told s.layout memory (host_of s.hosts me) slot.to slot.seen aim is tells in
       let (post, there, same) = post_of rec.post j (sym to_is ∙ stands.to) in
-      record { stage = idle; post = post; is_posted = there; vain = subst (λ (k : ℕ). view.signal Ready k me ≢ 1) same unset }
+      record { stage = idle; post = post; is_posted = there; failed = subst (λ (k : ℕ). view.signal Ready k me ≢ 1) same unset }
 
   abbrev SendWaits : SendAt → Type 0
   SendWaits op = SlotWaits view me rec ⊎ ((op.posted ≡ false) × RaiseWaits s view me op.to op.head (records me))
@@ -179,7 +179,7 @@ module _ (seat : Seat) (memory : Memory) (records : ℕ → Record) (agrees : Ag
     recv_by peers receive.Look at is = record {
       peers = peers_swap s me op.from peers;
       stage = subst (IsLooking op.from) (sym at ∙ like.stage) (looking_by (op.chunk == 0) op.from (recv.progress_at (chunk_of s) op.head op.chunk bytes));
-      vain = sent_told s.layout memory (host_of s.hosts me) (host_of s.hosts op.from) op.from aim is tells;
+      failed = sent_told s.layout memory (host_of s.hosts me) (host_of s.hosts op.from) op.from aim is tells;
     }
     recv_by peers receive.Header at is = absurd (none_else receive.Header refl is)
     recv_by peers receive.Lower at is = absurd (none_else receive.Lower refl is)
@@ -192,7 +192,7 @@ module _ (seat : Seat) (memory : Memory) (records : ℕ → Record) (agrees : Ag
     recv_waits st is = recv_by st.peers op.stage st.at is
 
 -- so its rank waits for the other rank
-module _ (seat : Seat) (memory : Memory) (records : ℕ → Record) (rec : Record) (aim : Aim) (look : LookedInVain seat memory records rec aim) (c : Private) where
+module _ (seat : Seat) (memory : Memory) (records : ℕ → Record) (rec : Record) (aim : Aim) (look : LookFailed seat memory records rec aim) (c : Private) where
   sends_by : (op : SendAt) → SlotWaits (view_of seat.setup memory) seat.rank rec
       ⊎ ((op.posted ≡ false) × RaiseWaits seat.setup (view_of seat.setup memory) seat.rank op.to op.head (records seat.rank)) → SeatWaits seat memory records (Want.Send op.to op.head)
   sends_by op (inl slot) = waits_same seat.setup (view_of seat.setup memory) seat.rank rec (records seat.rank) look.like (Want.Send op.to op.head) (inl slot)

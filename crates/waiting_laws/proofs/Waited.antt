@@ -9,24 +9,24 @@ use Rattle.scc_proto.specs.Like.{Like, as_unanswered}
 use Rattle.scc_proto.specs.Ports.{Did, Sight, WereMade, and_then, record_in, record_on}
 use Rattle.scc_proto.specs.Records.{IsPermitted, permits_by, record_from, record_of}
 use Rattle.scc_proto.specs.Resting.{is_resting}
-use Rattle.scc_proto.specs.Stages.{OnItsWay, Record}
+use Rattle.scc_proto.specs.Stages.{InFlight, Record}
 use Rattle.scc_proto.specs.Words.{IsStep, Memory}
 use Rattle.scc_proto.proofs.PortLaws.{made_left, record_in-and_then}
 use Rattle.scc_proto.proofs.Runs.RestLaw.{resting_part}
 use Rattle.put_get.specs.Accesses.{WereSteps}
-use Rattle.sync_flags.specs.Tries.{Aim, Fruitful, NoTry, Tried, Vain, changing_after, is_take}
+use Rattle.sync_flags.specs.Tries.{Aim, Fruitful, NoTry, Tried, Failed, changing_after, is_take}
 use Rattle.send_recv.specs.Turns as sr
-use Rattle.chip_run.specs.Conducts.{Conduct}
+use Rattle.chip_run.specs.Behaves.{Behaviour}
 use Rattle.chip_run.specs.Turns.{HasWaited, NoneElseHolds}
 use Rattle.chip_run.specs.Wants.{Want}
 use Rattle.chip_run.proofs.HomeTurns.{both_pass, record_split}
-use Rattle.waiting_laws.specs.Looks.{LookedInVain, Tells, SeatWaits}
+use Rattle.waiting_laws.specs.Looks.{LookFailed, Tells, SeatWaits}
 use Rattle.waiting_laws.proofs.Looks.{take_is, told}
-use Rattle.waiting_laws.proofs.VainSteps.{VainStep, found}
+use Rattle.waiting_laws.proofs.FailedSteps.{FailedStep, found}
 
 -- ---- events that rest, and records that are alike
 
-post_alike : (o new : Option OnItsWay) → sr.IsSamePost o new → option_map as_unanswered o ≡ option_map as_unanswered new
+post_alike : (o new : Option InFlight) → sr.IsSamePost o new → option_map as_unanswered o ≡ option_map as_unanswered new
 post_alike None new same = ap (option_map as_unanswered) (sym same)
 post_alike (Some post) new (answered, is, kept) = ap (option_map as_unanswered) (sym is)
 
@@ -39,23 +39,23 @@ rest_alike rec new rest = record {
 }
 
 -- the record before a part of events that rest is alike
-like_before : (s t : Sight) (events before behind : List Event) → Did s events t → list_all is_resting events ≡ true → events ≡ before ++ behind → Like (record_in s) (record_in t)
+like_before : (s t : Sight) (events before afterwards : List Event) → Did s events t → list_all is_resting events ≡ true → events ≡ before ++ afterwards → Like (record_in s) (record_in t)
     → Like (record_in s) (record_in (and_then s before))
 unfolding record_in
-like_before s t events before behind did rests is alike =
-    let (front, rest) = both_pass before behind (subst (λ (es : List Event). list_all is_resting es ≡ true) is rests) in
+like_before s t events before afterwards did rests is alike =
+    let (front, rest) = both_pass before afterwards (subst (λ (es : List Event). list_all is_resting es ≡ true) is rests) in
     let rec : Record = record_of s.seat.setup s.seat.rank s.events in
-    let whole : Like rec (record_from s.seat.setup s.seat.rank rec (before ++ behind)) =
+    let whole : Like rec (record_from s.seat.setup s.seat.rank rec (before ++ afterwards)) =
     subst (λ (x : Record). Like rec x)
-    (ap record_in did.continues ∙ ap (λ (es : List Event). record_of s.seat.setup s.seat.rank (s.events ++ es)) is ∙ record_split s.seat.setup s.seat.rank s.events (before ++ behind)) alike in
-    subst (λ (x : Record). Like rec x) (sym (record_split s.seat.setup s.seat.rank s.events before)) (resting_part s.seat.setup s.seat.rank rec before behind front rest whole)
+    (ap record_in did.continues ∙ ap (λ (es : List Event). record_of s.seat.setup s.seat.rank (s.events ++ es)) is ∙ record_split s.seat.setup s.seat.rank s.events (before ++ afterwards)) alike in
+    subst (λ (x : Record). Like rec x) (sym (record_split s.seat.setup s.seat.rank s.events before)) (resting_part s.seat.setup s.seat.rank rec before afterwards front rest whole)
 
 -- a register is taken only where the rank does not hold it
-take_allowed : (s t : Sight) (events before behind : List Event) (e : Event) → Did s events t → events ≡ before ++ e ∷ behind → is_take e.access ≡ true
+take_allowed : (s t : Sight) (events before afterwards : List Event) (e : Event) → Did s events t → events ≡ before ++ e ∷ afterwards → is_take e.access ≡ true
     → is_none ((record_in (and_then s before)).held e.place.core) ≡ true
-take_allowed s t events before behind e did is takes =
-    let made : WereMade s.seat (record_in s) (before ++ e ∷ behind) = subst (WereMade s.seat (record_in s)) is did.made in
-    let may : IsPermitted s.seat.setup s.seat.rank (record_on s.seat (record_in s) before) e = (made_left s.seat (record_in s) before (e ∷ behind) made).0.permitted in
+take_allowed s t events before afterwards e did is takes =
+    let made : WereMade s.seat (record_in s) (before ++ e ∷ afterwards) = subst (WereMade s.seat (record_in s)) is did.made in
+    let may : IsPermitted s.seat.setup s.seat.rank (record_on s.seat (record_in s) before) e = (made_left s.seat (record_in s) before (e ∷ afterwards) made).0.permitted in
     let here : IsPermitted s.seat.setup s.seat.rank (record_in (and_then s before)) e = subst (λ (r : Record). IsPermitted s.seat.setup s.seat.rank r e) (sym (record_in-and_then s before)) may in
     subst (λ (a : Access). permits_by s.seat.setup s.seat.rank (record_in (and_then s before)) a e.place e.value ≡ true) (take_is e.access takes) here
 
@@ -63,13 +63,13 @@ take_allowed s t events before behind e did is takes =
 pub record Sought (stepped : List Event → Event → Type 0) (tried : Option Aim) (past events : List Event) : Type 0 where
   pub aim : Aim
   pub aim_is : tried ≡ Some aim
-  pub look : VainStep stepped past aim false events
+  pub look : FailedStep stepped past aim false events
 
 pub sought_by : (stepped : List Event → Event → Type 0) (tried : Option Aim) (past events : List Event) (waits : Option Spot) (spot : Spot) → waits ≡ Some spot
     → WereSteps stepped past events → Tried tried events waits → Sought stepped tried past events
 sought_by stepped tried past events waits spot is steps (NoTry none no_spot) = absurd (cc (is, no_spot))
-sought_by stepped tried past events waits spot is steps (Vain at aims one vain here) = record { aim = at; aim_is = aims; look = found stepped past at false 0 events one vain steps }
-sought_by stepped tried past events waits spot is steps (Fruitful at aims one vain no_spot) = absurd (cc (is, no_spot))
+sought_by stepped tried past events waits spot is steps (Failed at aims one failed here) = record { aim = at; aim_is = aims; look = found stepped past at false 0 events one failed steps }
+sought_by stepped tried past events waits spot is steps (Fruitful at aims one failed no_spot) = absurd (cc (is, no_spot))
 
 -- where the look is a step of words that agree with records, the rank's own being that before it: the record is alike to the one
 -- before the turn, and the words tell what the look was for
@@ -78,12 +78,12 @@ module _ (stepped : List Event → Event → Type 0) (tried : Option Aim) (s t :
     (others : NoneElseHolds s.seat.setup records s.seat.rank) (step : IsStep memory sought.look.event) where
   pub sought_like : list_all is_resting events ≡ true → Like (record_in s) (record_in t) → Like (record_in s) (records s.seat.rank)
   sought_like rests alike = subst (λ (r : Record). Like (record_in s) r) (sym mine)
-      (like_before s t events sought.look.before (sought.look.event ∷ sought.look.behind) did rests sought.look.is alike)
+      (like_before s t events sought.look.before (sought.look.event ∷ sought.look.afterwards) did rests sought.look.is alike)
 
   pub sought_tells : Tells memory sought.aim
-  sought_tells = told s.seat.setup memory records s.seat.rank agrees others (changing_after false sought.look.before) sought.aim sought.look.event sought.look.try_is sought.look.vain
+  sought_tells = told s.seat.setup memory records s.seat.rank agrees others (changing_after false sought.look.before) sought.aim sought.look.event sought.look.try_is sought.look.failed
       (λ takes. subst (λ (r : Record). is_none (r.held sought.look.event.place.core) ≡ true) (sym mine)
-      (take_allowed s t events sought.look.before sought.look.behind sought.look.event did sought.look.is takes)) step
+      (take_allowed s t events sought.look.before sought.look.afterwards sought.look.event did sought.look.is takes)) step
 
 -- a turn that waited has waited for what its rank wants, if each vain look at what it tried for shows that the rank waits for it
 module _ (stepped : List Event → Event → Type 0) (tried : Option Aim) (s t : Sight) (events : List Event) (spot : Spot) (did : Did s events t) (steps : WereSteps stepped s.events events)
@@ -95,16 +95,16 @@ module _ (stepped : List Event → Event → Type 0) (tried : Option Aim) (s t :
   alike = rest_alike (record_in s) (record_in t) rest
 
   looked : (memory : Memory) (records : ℕ → Record) → Agrees s.seat.setup memory records → records s.seat.rank ≡ record_in (and_then s sought.look.before)
-      → NoneElseHolds s.seat.setup records s.seat.rank → IsStep memory sought.look.event → LookedInVain s.seat memory records (record_in s) sought.aim
+      → NoneElseHolds s.seat.setup records s.seat.rank → IsStep memory sought.look.event → LookFailed s.seat memory records (record_in s) sought.aim
   looked memory records agrees mine others step = record {
     agrees = agrees;
     like = sought_like stepped tried s t events sought did memory records agrees mine others step rests alike;
     tells = sought_tells stepped tried s t events sought did memory records agrees mine others step;
   }
 
-  pub turn_waited : {A : Type 0} (c : Conduct A) (old new : A) (want : Want) → want ≡ (c.seen s.seat.setup s.seat.rank old).want → c.stays old new
+  pub turn_waited : {A : Type 0} (c : Behaviour A) (old new : A) (want : Want) → want ≡ (c.seen s.seat.setup s.seat.rank old).want → c.stays old new
       → c.seen s.seat.setup s.seat.rank new ≡ c.seen s.seat.setup s.seat.rank old
-      → ((memory : Memory) (records : ℕ → Record) (aim : Aim) → LookedInVain s.seat memory records (record_in s) aim → tried ≡ Some aim → SeatWaits s.seat memory records want)
+      → ((memory : Memory) (records : ℕ → Record) (aim : Aim) → LookFailed s.seat memory records (record_in s) aim → tried ≡ Some aim → SeatWaits s.seat memory records want)
       → HasWaited c stepped s.seat.setup s.seat.rank s.events events old new
   unfolding record_in
   turn_waited c old new want wants stays seen waits = record {
@@ -115,7 +115,7 @@ module _ (stepped : List Event → Event → Type 0) (tried : Option Aim) (s t :
     look = record {
       before = sought.look.before;
       look = sought.look.event;
-      behind = sought.look.behind;
+      afterwards = sought.look.afterwards;
       is = sought.look.is;
       step = sought.look.step;
       waits = λ memory records agrees mine others step.

@@ -21,7 +21,7 @@ Tells memory (AtRegister core) = ⊥
 
 -- a rank has looked in vain: words agree with records, its own being alike to the one before its turn, and the words tell
 -- what the look was for
-pub record LookedInVain (seat : Seat) (memory : Memory) (records : ℕ → Record) (rec : Record) (aim : Aim) : Type 0 where
+pub record LookFailed (seat : Seat) (memory : Memory) (records : ℕ → Record) (rec : Record) (aim : Aim) : Type 0 where
   pub agrees : Agrees seat.setup memory records
   pub like : Like rec (records seat.rank)
   pub tells : Tells memory aim

@@ -10,18 +10,18 @@ ghost use Rattle.send_recv.specs.Ops.{RecvAt, SendAt, SlotAt};
 ghost use Rattle.send_recv.specs.Receiving.{IsReceiving, aim_of_receive};
 ghost use Rattle.send_recv.specs.Sending.{IsSending, aim_of_send};
 ghost use Rattle.chip_run.specs.Wants.{Want};
-ghost use Rattle.waiting_laws.specs.Looks.{LookedInVain, SeatWaits};
+ghost use Rattle.waiting_laws.specs.Looks.{LookFailed, SeatWaits};
 
 /// A look that a send or a receive made in vain shows that its rank waits for the other rank.
-pub fn vain_looks()
+pub fn failed_looks()
     ensures sends { (seat : Seat) (memory : Memory) (records : ℕ → Record) (rec : Record) (aim : Aim) (c : Private) (op : SendAt)
         (slot : SlotAt) (bytes : List ℕ)
-        → LookedInVain seat memory records rec aim → IsSending seat rec c op slot bytes
+        → LookFailed seat memory records rec aim → IsSending seat rec c op slot bytes
         → aim_of_send seat op slot ≡ Some aim
         → SeatWaits seat memory records (Want.Send op.to op.head) }
     ensures receives { (seat : Seat) (memory : Memory) (records : ℕ → Record) (rec : Record) (aim : Aim) (c : Private) (op : RecvAt)
         (bytes : List ℕ)
-        → LookedInVain seat memory records rec aim → IsReceiving seat rec c op bytes
+        → LookFailed seat memory records rec aim → IsReceiving seat rec c op bytes
         → aim_of_receive seat op ≡ Some aim
         → SeatWaits seat memory records (Want.Recv op.from) }
 {}

@@ -3,4 +3,4 @@
 
 mod laws;
 
-pub use laws::vain_looks;
+pub use laws::failed_looks;

@@ -4,13 +4,13 @@ use Rattle.std.specs.Option.{option_map_or}
 use Rattle.std.proofs.lemmas.Bool.{eqb-true}
 use Rattle.std.proofs.lemmas.Option.{same_Some}
 use Rattle.scc_base.specs.Heads.{MessageHead}
-use Rattle.script_machine.specs.declared.posts.OnItsWay.{OnItsWay}
+use Rattle.script_machine.specs.declared.posts.InFlight.{InFlight}
 use Rattle.script_machine.specs.declared.posts.Posted.{Posted}
 use Rattle.plain_run.specs.declared.steps.Step.TheVariants as step
 use Rattle.plain_run.specs.Code.{HasLength, HasPosted, HasRefused, HasSent, HasTaken, IsAtPost, IsAtReceive, IsAtSend, config, decision}
 use Rattle.script_plain.specs.Kept.{Fits, FitsNext}
 use Rattle.script_machine.specs.Local.{Local, local_next}
-use Rattle.script_machine.specs.Machine.{on_its_way}
+use Rattle.script_machine.specs.Machine.{in_flight}
 use Rattle.script_machine.specs.Moves.{bytes_out, is_passable, is_receiving, length_asked, after_pass, post_of, after_refusal, after_take, went}
 use Rattle.script_machine.specs.Next.{Next, is_at_barrier, is_going, past_barrier}
 use Rattle.script_machine.specs.Next.Next.{Ends, Goes, Posts, Sends, Recvs, Bars}
@@ -52,12 +52,12 @@ module _ (had : ℕ → Option ℕ) where
   fits_refused (Bars comm after) u sent fits is = absurd (cc)
 
   -- a posted message has as many bytes as its head says, and so has one that is sent
-  pub post_even : (n : Next Local) (p : OnItsWay) (bytes : List ℕ) → FitsNext had n → post_of n ≡ Some p → bytes ≡ bytes_out n → length bytes ≡ p.head.len
+  pub post_even : (n : Next Local) (p : InFlight) (bytes : List ℕ) → FitsNext had n → post_of n ≡ Some p → bytes ≡ bytes_out n → length bytes ≡ p.head.len
   post_even Ends p bytes fits is same = absurd (cc)
   post_even (Goes after) p bytes fits is same = absurd (cc)
   post_even (Posts message after) p bytes fits is same =
-      let post : on_its_way message ≡ p = same_Some (on_its_way message) p is in
-      ap length same ∙ fits.1 ∙ ap (λ (q : OnItsWay). q.head.len) post
+      let post : in_flight message ≡ p = same_Some (in_flight message) p is in
+      ap length same ∙ fits.1 ∙ ap (λ (q : InFlight). q.head.len) post
   post_even (Sends other sent some after) p bytes fits is same = absurd (cc)
   post_even (Recvs from asked take refuse) p bytes fits is same = absurd (cc)
   post_even (Bars comm after) p bytes fits is same = absurd (cc)
@@ -92,12 +92,12 @@ post_passable (Sends to head bytes after) at = absurd at
 post_passable (Recvs from head take refuse) at = absurd at
 post_passable (Bars comm after) at = absurd at
 
-pub posted_as : (n : Next Local) (u : Local) (p : OnItsWay) (bytes : List ℕ) → post_of n ≡ Some p → bytes ≡ bytes_out n
+pub posted_as : (n : Next Local) (u : Local) (p : InFlight) (bytes : List ℕ) → post_of n ≡ Some p → bytes ≡ bytes_out n
     → HasPosted n (record { to = p.to; head = p.head; bytes = bytes; line = p.line }) (after_pass n u)
 posted_as Ends u p bytes is same = absurd (cc)
 posted_as (Goes after) u p bytes is same = absurd (cc)
 posted_as (Posts message after) u p bytes is same =
-    let post : p ≡ on_its_way message = sym (same_Some (on_its_way message) p is) in
+    let post : p ≡ in_flight message = sym (same_Some (in_flight message) p is) in
     ((λ i. record { to = (post i).to; head = (post i).head; bytes = same i; line = (post i).line }), refl)
 posted_as (Sends other sent some after) u p bytes is same = absurd (cc)
 posted_as (Recvs from asked take refuse) u p bytes is same = absurd (cc)

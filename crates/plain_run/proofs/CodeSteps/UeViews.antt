@@ -16,12 +16,12 @@ pub to_shown : (u shown : Local) (same : u ≡ shown) (Is : Next Local → Type 
 to_shown u shown same Is so = subst (λ (x : Local). Is (local_next x)) same so
 
 -- a machine that comes to hold something else has the lengths that this has
-pub fits_behind : (m new : MachineView) (u : Local) → new ≡ record m { local = u } → Fits (reckoned_at m.script m.rank) u → Fits (reckoned_at new.script new.rank) new.local
-fits_behind m new u is fits = subst (λ (v : MachineView). Fits (reckoned_at v.script v.rank) v.local) (sym is) fits
+pub fits_after : (m new : MachineView) (u : Local) → new ≡ record m { local = u } → Fits (reckoned_at m.script m.rank) u → Fits (reckoned_at new.script new.rank) new.local
+fits_after m new u is fits = subst (λ (v : MachineView). Fits (reckoned_at v.script v.rank) v.local) (sym is) fits
 
 -- so it is where the machine goes past its next step
 pub passed_fits : (m new : MachineView) → Fits (reckoned_at m.script m.rank) m.local → is_passable (local_next m.local) ≡ true → new ≡ record m { local = after_pass (local_next m.local) m.local } → Fits (reckoned_at new.script new.rank) new.local
 passed_fits m new fits passable is =
     let had = reckoned_at m.script m.rank in
     let n = local_next m.local in
-    fits_behind m new (after_pass n m.local) is (fits_passed had n m.local (fits_next had m.local fits) passable)
+    fits_after m new (after_pass n m.local) is (fits_passed had n m.local (fits_next had m.local fits) passable)

@@ -5,7 +5,7 @@ use Rattle.scc_base.specs.Setups.{SetupView, IsSetup, setup_key}
 use Rattle.scc_base.specs.declared.events.Event.{Event}
 use Rattle.scc_base.specs.declared.signals.Signal.TheVariants.{Sent, Ready}
 use Rattle.scc_proto.specs.Tables.{table_with}
-use Rattle.scc_proto.specs.Stages.{Stage, Idle, Drafting, Sending, Between, Taking, Barrier, OnItsWay, FlagWords, Record}
+use Rattle.scc_proto.specs.Stages.{Stage, Idle, Drafting, Sending, Between, Taking, Barrier, InFlight, FlagWords, Record}
 use Rattle.scc_proto.specs.Moves.{Move, after}
 use Rattle.scc_proto.specs.Words.{Memory, memory_after, SameWords}
 use Rattle.scc_proto.specs.Records.{chunk_of, record_after}
@@ -81,7 +81,7 @@ module _ (s : SetupView) (held : ℕ → ℕ → Option FlagWords) (records : �
   open_holding r (Taking i message chunk) = refl
   open_holding r (Barrier comm seen released) = refl
 
-  slot_holding : (r : ℕ) (post : Option OnItsWay) → slot_by (chunk_of s) r post (holding held records) ≡ slot_by (chunk_of s) r post records
+  slot_holding : (r : ℕ) (post : Option InFlight) → slot_by (chunk_of s) r post (holding held records) ≡ slot_by (chunk_of s) r post records
   slot_holding r None = refl
   slot_holding r (Some post) = refl
 

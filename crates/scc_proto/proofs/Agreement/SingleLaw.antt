@@ -6,7 +6,7 @@ use Rattle.scc_base.proofs.GroupFacts.{place_below, size_same, root_with}
 use Rattle.scc_base.specs.declared.signals.Signal.TheVariants.{Sent, Ready}
 use Rattle.scc_proto.specs.Tables.{table_with}
 use Rattle.scc_proto.specs.Messages.{Notes, note_word, barriers_of}
-use Rattle.scc_proto.specs.Stages.{Stage, OnItsWay, Record, blank}
+use Rattle.scc_proto.specs.Stages.{Stage, InFlight, Record, blank}
 use Rattle.scc_proto.specs.Moves.{Move, DraftHeader, DraftChunk, RaiseSignal, LookSignal, ReadHeader, ReadChunk, LowerSignal, FlipGather, LookGather, WriteRelease, LookRelease, StoreHeap, NoMove, Misplaced, after, flip_gather, post_answered, finished_if}
 use Rattle.scc_proto.specs.Permission.{permits, drafts_header, drafts_chunk, is_idle}
 use Rattle.scc_proto.specs.Records.{chunk_of, last_of}
@@ -19,15 +19,15 @@ use Rattle.scc_proto.proofs.Agreement.StageMoves.{header_drafted, chunk_drafted,
 module _ (s : SetupView) (me : ℕ) where
   -- ---- the posted message
 
-  post_kept : (st new : Stage) (post : Option OnItsWay) → (is_free st ≡ true → is_free new ≡ true) → IsPosted s me st post → IsPosted s me new post
+  post_kept : (st new : Stage) (post : Option InFlight) → (is_free st ≡ true → is_free new ≡ true) → IsPosted s me st post → IsPosted s me new post
   post_kept st new None free posted = tt
   post_kept st new (Some post) free posted = record { peers = posted.peers; head = posted.head; whole = posted.whole; free = free posted.free }
 
-  post_none : (b : Bool) (new : Stage) (post : Option OnItsWay) → (is_none post && b) ≡ true → IsPosted s me new post
+  post_none : (b : Bool) (new : Stage) (post : Option InFlight) → (is_none post && b) ≡ true → IsPosted s me new post
   post_none b new None may = tt
   post_none b new (Some post) may = absurd (cc)
 
-  post_seen : (is_set : ℕ → Bool) (st new : Stage) (post : Option OnItsWay) → (is_free st ≡ true → is_free new ≡ true) → IsPosted s me st post → IsPosted s me new (option_map (post_answered is_set) post)
+  post_seen : (is_set : ℕ → Bool) (st new : Stage) (post : Option InFlight) → (is_free st ≡ true → is_free new ≡ true) → IsPosted s me st post → IsPosted s me new (option_map (post_answered is_set) post)
   post_seen is_set st new None free posted = tt
   post_seen is_set st new (Some post) free posted = record { peers = posted.peers; head = posted.head; whole = posted.whole; free = free posted.free }
 

@@ -9,7 +9,7 @@ use Rattle.scc_base.specs.Setups.{SetupView, host_of}
 use Rattle.scc_base.specs.declared.layouts.Layout.{Layout}
 use Rattle.scc_base.specs.declared.layouts.Layout.TheVariants.{LineFlags, BitFlags}
 use Rattle.scc_proto.specs.Messages.{Notes, StandsIn, Progress, fresh_message}
-use Rattle.scc_proto.specs.Stages.{Filling, Raised, Answered, Stage, Idle, Drafting, Sending, Between, Taking, Barrier, OnItsWay, FlagWords, Record}
+use Rattle.scc_proto.specs.Stages.{Filling, Raised, Answered, Stage, Idle, Drafting, Sending, Between, Taking, Barrier, InFlight, FlagWords, Record}
 use Rattle.scc_proto.specs.Permission.{is_answered_by}
 use Rattle.scc_proto.specs.Words.{Memory, are_peers}
 use Rattle.scc_proto.specs.Records.{chunk_of, flags_in}
@@ -46,7 +46,7 @@ seen_peer s me rec j header single is = by (are_peers s me j) refl
     by false e = absurd (cc (single.notes j e, is))
 
 -- a sender with no raised chunk rests toward each rank
-drafting_rests : (j : ℕ) (st : Stage) (post : Option OnItsWay) → is_drafting st post ≡ true → (m : Option Progress) × (sending_side j st post ≡ Resting m)
+drafting_rests : (j : ℕ) (st : Stage) (post : Option InFlight) → is_drafting st post ≡ true → (m : Option Progress) × (sending_side j st post ≡ Resting m)
 drafting_rests j Idle None t = (None, refl)
 drafting_rests j (Drafting h c) None t = (None, refl)
 drafting_rests j (Between i m) None t = (None, refl)
@@ -83,14 +83,14 @@ takes_from s me j (Taking i m c) stage t = record {
 takes_from s me j (Barrier c seen released) stage t = absurd (cc)
 
 -- a rank whose raised chunk was answered by another one
-record AnsweredBy (s : SetupView) (me j : ℕ) (st : Stage) (post : Option OnItsWay) : Type 0 where
+record AnsweredBy (s : SetupView) (me j : ℕ) (st : Stage) (post : Option InFlight) : Type 0 where
   is_post : Bool
   message : Progress
   chunk : Notes
   side : sending_side j st post ≡ Offering true is_post message chunk
   peers : are_peers s me j ≡ true
 
-answered_post : (s : SetupView) (me j : ℕ) (st : Stage) (post : Option OnItsWay) → sending_side j st post ≡ side_of_post j post → IsPosted s me st post → is_answered_by j post ≡ true → AnsweredBy s me j st post
+answered_post : (s : SetupView) (me j : ℕ) (st : Stage) (post : Option InFlight) → sending_side j st post ≡ side_of_post j post → IsPosted s me st post → is_answered_by j post ≡ true → AnsweredBy s me j st post
 answered_post s me j st None side posted t = absurd (cc)
 answered_post s me j st (Some post) side posted t =
     let here : (post.to == j) ≡ true = both_first (post.to == j) post.is_answered t in
@@ -102,7 +102,7 @@ answered_post s me j st (Some post) side posted t =
       peers = subst (λ x. are_peers s me x ≡ true) (same_by_eqb post.to j here) posted.peers;
     }
 
-answered_by : (s : SetupView) (me j : ℕ) (st : Stage) (post : Option OnItsWay) → IsStage s me st → IsPosted s me st post → is_answered j st post ≡ true → AnsweredBy s me j st post
+answered_by : (s : SetupView) (me j : ℕ) (st : Stage) (post : Option InFlight) → IsStage s me st → IsPosted s me st post → is_answered j st post ≡ true → AnsweredBy s me j st post
 answered_by s me j Idle post stage posted t = answered_post s me j Idle post refl posted t
 answered_by s me j (Drafting h c) post stage posted t = answered_post s me j (Drafting h c) post refl posted t
 answered_by s me j (Sending to Filling m c) None stage posted t = absurd (cc)

@@ -5,7 +5,7 @@ use Rattle.std.proofs.lemmas.List.Elements.{All-append, All-nil, All-cons}
 use Rattle.scc_base.specs.Calls.{DataCall, Bar}
 use Rattle.scc_base.specs.Setups.{SetupView, place_of}
 use Rattle.scc_proto.specs.Messages.{Notes, noted_word, note_word, has_all, Progress, fresh_message, chunk_bytes, is_last, is_whole, is_padded, with_chunk, byte_at, bytes_from, head_of, is_head, is_post_head, message_of, send_to, recv_from, post_to, barriers_of}
-use Rattle.scc_proto.specs.Stages.{Filling, Raised, Answered, Stage, Idle, Drafting, Sending, Between, Taking, Barrier, OnItsWay}
+use Rattle.scc_proto.specs.Stages.{Filling, Raised, Answered, Stage, Idle, Drafting, Sending, Between, Taking, Barrier, InFlight}
 use Rattle.scc_proto.specs.Moves.{draft_header, draft_chunk, raise_sent, read_chunk, lower_sent, raise_ready, look_ready, lower_ready, flip_gather, look_gather, write_release, look_release, post_raised, calls_raised, calls_received, calls_sent, calls_released, calls_let_go, finished_if, is_posted}
 use Rattle.scc_proto.specs.Permission.{drafts_header, drafts_chunk, may_raise, may_take, has_taken, may_release, is_idle, is_whole_header, is_post_word, is_drafted}
 use Rattle.scc_proto.specs.Words.{are_peers, is_present}
@@ -257,7 +257,7 @@ module _ (s : SetupView) (me : ℕ) where
 
   -- ---- raising `sent`
 
-  pub record Raises (st : Stage) (calls : List DataCall) (new : Stage) (late : List DataCall) (post : Option OnItsWay) : Type 0 where
+  pub record Raises (st : Stage) (calls : List DataCall) (new : Stage) (late : List DataCall) (post : Option InFlight) : Type 0 where
     pub stage : IsStage s me new
     pub count : (comm : ℕ) → barriers_of comm late + open_barriers comm new ≡ barriers_of comm calls + open_barriers comm st
     pub bytes : All (IsWholeCall s me) calls → All (IsWholeCall s me) late
@@ -287,7 +287,7 @@ module _ (s : SetupView) (me : ℕ) where
         posted = tt;
       }
 
-  pub sent_raised : (to : ℕ) (st : Stage) (post : Option OnItsWay) (calls : List DataCall) → (is_none post && may_raise (chunk_of s) to st) ≡ true → are_peers s me to ≡ true → IsStage s me st
+  pub sent_raised : (to : ℕ) (st : Stage) (post : Option InFlight) (calls : List DataCall) → (is_none post && may_raise (chunk_of s) to st) ≡ true → are_peers s me to ≡ true → IsStage s me st
       → Raises st calls (raise_sent to st) (calls_raised (chunk_of s) to st calls) (post_raised to st post)
   sent_raised to st (Some post) calls may peers stage = absurd (cc)
   sent_raised to Idle None calls may peers stage = absurd (cc)

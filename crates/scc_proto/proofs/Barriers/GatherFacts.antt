@@ -7,7 +7,7 @@ use Rattle.scc_base.proofs.Confluence.{equal_or_not}
 use Rattle.scc_base.proofs.ChangeLaws.{true_or_false}
 use Rattle.scc_proto.specs.Tables.{table_with}
 use Rattle.scc_proto.specs.Messages.{fresh_message, with_chunk, sent_messages, received_messages, send_to, message_of}
-use Rattle.scc_proto.specs.Stages.{Stage, Idle, Drafting, Sending, Between, Taking, Barrier, OnItsWay, Record}
+use Rattle.scc_proto.specs.Stages.{Stage, Idle, Drafting, Sending, Between, Taking, Barrier, InFlight, Record}
 use Rattle.scc_proto.specs.Moves.{finished_if, calls_released, calls_let_go, look_gather, look_release}
 use Rattle.scc_proto.specs.Records.{chunk_of, last_of}
 use Rattle.scc_proto.specs.Groups.{is_open}
@@ -43,7 +43,7 @@ open_bar s comm k (Barrier c seen released) records is =
     let same : c ≡ comm = grind (arith, nat_tests) in ap (λ (x : ℕ). if is_gathered s x k records then Bar x ∷ [] else []) same
 
 -- a posted message is received or not, where the lists of messages are the same
-pub slot_same : (s : SetupView) (k : ℕ) (post : Option OnItsWay) (old new : ℕ → Record) → ((i j : ℕ) → received_messages i (new j).calls ≡ received_messages i (old j).calls) → ((i j : ℕ) → sent_messages i (new j).calls ≡ sent_messages i (old j).calls)
+pub slot_same : (s : SetupView) (k : ℕ) (post : Option InFlight) (old new : ℕ → Record) → ((i j : ℕ) → received_messages i (new j).calls ≡ received_messages i (old j).calls) → ((i j : ℕ) → sent_messages i (new j).calls ≡ sent_messages i (old j).calls)
     → slot_by (chunk_of s) k post new ≡ slot_by (chunk_of s) k post old
 slot_same s k None old new received sent = refl
 slot_same s k (Some post) old new received sent =
@@ -191,7 +191,7 @@ module _ (s : SetupView) (me : ℕ) (records : ℕ → Record) (new : Record) wh
   pub slots_stay : ((i : ℕ) → received_messages i new.calls ≡ received_messages i (records me).calls) → ((i : ℕ) → sent_messages i new.calls ≡ sent_messages i (records me).calls) → new.post ≡ (records me).post
       → (k : ℕ) → slot_of s (table_with records me new) k ≡ slot_of s records k
   slots_stay received sent post k =
-      ap (λ (p : Option OnItsWay). slot_by (chunk_of s) k p (table_with records me new)) same
+      ap (λ (p : Option InFlight). slot_by (chunk_of s) k p (table_with records me new)) same
       ∙ slot_same s k (records k).post records (table_with records me new) (received_next received) (sent_next sent)
     where
       same : (table_with records me new k).post ≡ (records k).post

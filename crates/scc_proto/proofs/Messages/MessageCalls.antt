@@ -7,7 +7,7 @@ use Rattle.scc_base.proofs.ChangeLaws.{true_or_false}
 use Rattle.scc_base.specs.declared.signals.Signal.TheVariants.{Sent, Ready}
 use Rattle.scc_proto.specs.Tables.{table_with}
 use Rattle.scc_proto.specs.Messages.{Progress, fresh_message, with_chunk, message_of, sent_messages, received_messages, send_to, post_to, head_of, is_last}
-use Rattle.scc_proto.specs.Stages.{Filling, Raised, Answered, Stage, Idle, Drafting, Sending, Between, Taking, Barrier, OnItsWay, Record}
+use Rattle.scc_proto.specs.Stages.{Filling, Raised, Answered, Stage, Idle, Drafting, Sending, Between, Taking, Barrier, InFlight, Record}
 use Rattle.scc_proto.specs.Moves.{Move, DraftHeader, DraftChunk, RaiseSignal, LookSignal, ReadHeader, ReadChunk, LowerSignal, FlipGather, LookGather, WriteRelease, LookRelease, StoreHeap, NoMove, Misplaced, is_posted, raise_sent, lower_ready, post_raised, finished_if, calls_raised, calls_sent, after}
 use Rattle.scc_proto.specs.Permission.{is_drafted, may_raise, may_go_on, is_answered_by}
 use Rattle.scc_proto.specs.Words.{are_peers}
@@ -52,7 +52,7 @@ module _ (s : SetupView) (me : ℕ) (view : View) (records : ℕ → Record) (lo
       no_post : (records me).post ≡ None
       no_post = none_told (records me).post (both_first (is_none (records me).post) (may_raise (chunk_of s) to (records me).stage) permitted)
         where
-          none_told : (p : Option OnItsWay) → is_none p ≡ true → p ≡ None
+          none_told : (p : Option InFlight) → is_none p ≡ true → p ≡ None
           none_told None is = refl
           none_told (Some p) is = absurd (true≢false (sym is))
 
@@ -66,7 +66,7 @@ module _ (s : SetupView) (me : ℕ) (view : View) (records : ℕ → Record) (lo
       bars comm = bar_kept comm (chunk_of s) (RaiseSignal Sent to) (records me) refl
 
       empty : slot_of s records me ≡ None
-      empty = ap (λ (p : Option OnItsWay). slot_by (chunk_of s) me p records) no_post
+      empty = ap (λ (p : Option InFlight). slot_by (chunk_of s) me p records) no_post
 
       not_allowed : (st : Stage) → (records me).stage ≡ st → may_raise (chunk_of s) to st ≡ false → GrowsBy (RaiseSignal Sent to)
       not_allowed st is refused = absurd (true≢false (sym may ∙ ap (may_raise (chunk_of s) to) is ∙ refused))
@@ -78,7 +78,7 @@ module _ (s : SetupView) (me : ℕ) (view : View) (records : ℕ → Record) (lo
           (λ (sends : is_posted header ≡ false).
           quiet s me records (new_of (RaiseSignal Sent to)) refl bars
           (ap (λ (st : Stage). calls_raised (chunk_of s) to st (records me).calls) is ∙ ap (λ (b : Bool). finished_if b (post_to to (message_of (with_chunk (chunk_of s) (fresh_message (head_of header)) chunk))) (records me).calls) sends)
-          (ap (λ (p : Option OnItsWay). slot_by (chunk_of s) me p records) (ap (λ (st : Stage). post_raised to st (records me).post) is ∙ ap (λ (b : Bool). if b then Some (record { to = to; head = head_of header; chunk = chunk; is_answered = false }) else (records me).post) sends))
+          (ap (λ (p : Option InFlight). slot_by (chunk_of s) me p records) (ap (λ (st : Stage). post_raised to st (records me).post) is ∙ ap (λ (b : Bool). if b then Some (record { to = to; head = head_of header; chunk = chunk; is_answered = false }) else (records me).post) sends))
           (ap (λ (st : Stage). passed_open s me (raise_sent to st) records) is
           ∙ ap (λ (b : Bool). passed_open s me (if b then Idle else Sending to Raised (fresh_message (head_of header)) chunk) records) sends
           ∙ ap (λ (b : Bool). if b then send_to to (message_of (in_hand (chunk_of s) Raised (fresh_message (head_of header)) chunk)) ∷ [] else []) (not_received (received_messages me (records to).calls) (sent_messages to (records me).calls) at_level)
@@ -128,12 +128,12 @@ module _ (s : SetupView) (me : ℕ) (view : View) (records : ℕ → Record) (lo
               full : slot_of s (next_of (RaiseSignal Sent to)) me ≡ Some (record { to = to; head = head_of header; bytes = (with_chunk (chunk_of s) (fresh_message (head_of header)) chunk).bytes })
               full =
                   slot_now s me records (new_of (RaiseSignal Sent to)) refl bars
-                  ∙ ap (λ (p : Option OnItsWay). slot_by (chunk_of s) me p (next_of (RaiseSignal Sent to))) new_post
+                  ∙ ap (λ (p : Option InFlight). slot_by (chunk_of s) me p (next_of (RaiseSignal Sent to))) new_post
                   ∙ ap (λ (b : Bool). if b then None else Some (record { to = to; head = head_of header; bytes = (with_chunk (chunk_of s) (fresh_message (head_of header)) chunk).bytes })) apart
       by_stage (Sending j Filling message chunk) is =
           quiet s me records (new_of (RaiseSignal Sent to)) refl bars
           (ap (λ (st : Stage). calls_raised (chunk_of s) to st (records me).calls) is)
-          (ap (λ (p : Option OnItsWay). slot_by (chunk_of s) me p records) (ap (λ (st : Stage). post_raised to st (records me).post) is))
+          (ap (λ (p : Option InFlight). slot_by (chunk_of s) me p records) (ap (λ (st : Stage). post_raised to st (records me).post) is))
           (ap (λ (st : Stage). passed_open s me (raise_sent to st) records) is
           ∙ ap (λ (b : Bool). if b then send_to to (message_of (in_hand (chunk_of s) Raised message chunk)) ∷ [] else []) (not_received (received_messages me (records to).calls) (sent_messages to (records me).calls) at_level)
           ∙ sym (ap (λ (b : Bool). if b then send_to j (message_of (in_hand (chunk_of s) Filling message chunk)) ∷ [] else []) not_yet)
@@ -177,10 +177,10 @@ module _ (s : SetupView) (me : ℕ) (view : View) (records : ℕ → Record) (lo
       not_allowed st is refused = absurd (true≢false (sym may ∙ ap (λ (x : Stage). may_go_on by x (records me).post) is ∙ refused))
 
       -- a posted message was received
-      settled : (p : Option OnItsWay) → (records me).post ≡ p → is_answered_by by p ≡ true → sending_side by (records me).stage (records me).post ≡ side_of_post by p → slot_of s records me ≡ None
+      settled : (p : Option InFlight) → (records me).post ≡ p → is_answered_by by p ≡ true → sending_side by (records me).stage (records me).post ≡ side_of_post by p → slot_of s records me ≡ None
       settled None is answered side = absurd (true≢false (sym answered))
       settled (Some p) is answered side =
-          ap (λ (o : Option OnItsWay). slot_by (chunk_of s) me o records) is
+          ap (λ (o : Option InFlight). slot_by (chunk_of s) me o records) is
           ∙ ap (λ (b : Bool). if b then None else Some (record { to = p.to; head = p.head; bytes = (with_chunk (chunk_of s) (fresh_message p.head) p.chunk).bytes }))
           (ap (λ (j : ℕ). length (received_messages me (records j).calls) == length (sent_messages j (records me).calls)) target
           ∙ test_same (length (received_messages me (records by).calls)) (length (sent_messages by (records me).calls)) (ap length level))
@@ -233,7 +233,7 @@ module _ (s : SetupView) (me : ℕ) (view : View) (records : ℕ → Record) (lo
           no_post = no_post_beside s me (records me).post (records me).stage own_record.post (ap is_free is)
 
           empty : slot_of s records me ≡ None
-          empty = ap (λ (o : Option OnItsWay). slot_by (chunk_of s) me o records) no_post
+          empty = ap (λ (o : Option InFlight). slot_by (chunk_of s) me o records) no_post
 
           by_last : (b : Bool) → is_last (chunk_of s) message ≡ b → GrowsBy (LowerSignal Ready by)
           by_last false more =

@@ -3,11 +3,11 @@ use Rattle.std.proofs.Common.{◌≡◌, ◌⊎◌, ℕ, ◌==◌, Bool, true, f
 use Rattle.scc_base.specs.Calls.{DataCall, Send, Recv, Post, Bar, Message}
 use Rattle.scc_base.specs.Setups.{SetupView, setup_key}
 use Rattle.scc_proto.specs.Messages.{fresh_message, with_chunk, message_of, sent_messages, received_messages, send_to}
-use Rattle.scc_proto.specs.Stages.{Stage, Idle, Drafting, Sending, Between, Taking, Barrier, OnItsWay, Record}
+use Rattle.scc_proto.specs.Stages.{Stage, Idle, Drafting, Sending, Between, Taking, Barrier, InFlight, Record}
 use Rattle.scc_proto.specs.Singles.{IsConsistent, IsPosted, is_free}
 use Rattle.scc_proto.specs.Records.{chunk_of}
 use Rattle.scc_proto.specs.Passed.{in_hand, passed_open, passed_calls, slot_by, slot_of, is_received_ahead, is_gathered}
-use Rattle.scc_proto.specs.PairMessages.{open_message, posted_message, PairMessages, AllReceived, OpenReceived, OnItsWayYet}
+use Rattle.scc_proto.specs.PairMessages.{open_message, posted_message, PairMessages, AllReceived, OpenReceived, StillInFlight}
 use Rattle.scc_proto.specs.Legality.{slot_message}
 use Rattle.scc_proto.specs.Agreement.{CallsAgree}
 use Rattle.scc_proto.proofs.Legality.LegalMessages.{legal_messages}
@@ -68,12 +68,12 @@ passed_sent : (s : SetupView) (r me : ℕ) (records : ℕ → Record) → sent_m
 passed_sent s r me records = sent_messages-append r (records me).calls (passed_open s me (records me).stage records)
 
 -- beside an open message none is on its way
-no_post : (s : SetupView) (me : ℕ) (post : Option OnItsWay) (stage : Stage) → IsPosted s me stage post → (is_free stage ≡ false) → post ≡ None
+no_post : (s : SetupView) (me : ℕ) (post : Option InFlight) (stage : Stage) → IsPosted s me stage post → (is_free stage ≡ false) → post ≡ None
 no_post s me None stage posted busy = refl
 no_post s me (Some post) stage posted busy = absurd (true≢false (sym posted.free ∙ busy))
 
 -- what an open call that is passed sends to a rank: nothing, or the open message
-open_sent : (s : SetupView) (r me : ℕ) (records : ℕ → Record) (stage : Stage) (post : Option OnItsWay) → IsPosted s me stage post
+open_sent : (s : SetupView) (r me : ℕ) (records : ℕ → Record) (stage : Stage) (post : Option InFlight) → IsPosted s me stage post
     → (sent_messages r (passed_open s me stage records) ≡ []) ⊎ ((m : Message) × (open_message (chunk_of s) r stage ≡ Some m) × (sent_messages r (passed_open s me stage records) ≡ m ∷ []) × (post ≡ None))
 open_sent s r me records Idle post posted = inl refl
 open_sent s r me records (Drafting header chunk) post posted = inl refl
@@ -100,7 +100,7 @@ open_sent s r me records (Barrier c seen released) post posted = inl (none (is_g
     none false = refl
 
 -- the message in a slot was posted and is on its way
-slot_sent : (s : SetupView) (r me : ℕ) (records : ℕ → Record) (post : Option OnItsWay)
+slot_sent : (s : SetupView) (r me : ℕ) (records : ℕ → Record) (post : Option InFlight)
     → (slot_message r (slot_by (chunk_of s) me post records) ≡ []) ⊎ ((m : Message) × (posted_message (chunk_of s) r post ≡ Some m) × (slot_message r (slot_by (chunk_of s) me post records) ≡ m ∷ []))
 slot_sent s r me records None = inl refl
 slot_sent s r me records (Some post) = stands (length (received_messages me (records post.to).calls) == length (sent_messages post.to (records me).calls)) (post.to == r) refl
@@ -131,7 +131,7 @@ pair_messages s from to records legal consistent =
         AllReceived (sym (append-nil (received_messages from (records to).calls)) ∙ ap (λ (l : List Message). received_messages from (records to).calls ++ l) (sym empty) ∙ sym passed
         ∙ ap (λ (l : List Message). sent_messages to (records from).calls ++ l) none ∙ append-nil (sent_messages to (records from).calls))
     told (inl none) (inr (m, posted, full)) =
-        OnItsWayYet m posted (sym (append-nil (sent_messages to (records from).calls)) ∙ ap (λ (l : List Message). sent_messages to (records from).calls ++ l) (sym none) ∙ passed
+        StillInFlight m posted (sym (append-nil (sent_messages to (records from).calls)) ∙ ap (λ (l : List Message). sent_messages to (records from).calls ++ l) (sym none) ∙ passed
         ∙ ap (λ (l : List Message). received_messages from (records to).calls ++ l) full)
     told (inr (m, opened, sends, free)) (inl empty) =
         OpenReceived m opened (sym (append-nil (received_messages from (records to).calls)) ∙ ap (λ (l : List Message). received_messages from (records to).calls ++ l) (sym empty) ∙ sym passed

@@ -6,7 +6,7 @@ use Rattle.scc_base.specs.Setups.{SetupView, setup_key, root_of}
 use Rattle.scc_base.proofs.Confluence.{equal_or_not}
 use Rattle.scc_proto.specs.Tables.{table_with}
 use Rattle.scc_proto.specs.Messages.{Notes, Progress, fresh_message, with_chunk, message_of, sent_messages, received_messages, send_to, note_word}
-use Rattle.scc_proto.specs.Stages.{Part, Filling, Raised, Answered, Stage, Idle, Drafting, Sending, Between, Taking, Barrier, OnItsWay, Record}
+use Rattle.scc_proto.specs.Stages.{Part, Filling, Raised, Answered, Stage, Idle, Drafting, Sending, Between, Taking, Barrier, InFlight, Record}
 use Rattle.scc_proto.specs.Moves.{draft_header, draft_chunk, read_chunk, lower_sent, look_ready, post_answered}
 use Rattle.scc_proto.specs.Records.{chunk_of, last_of}
 use Rattle.scc_proto.specs.Pairs.{Resting, Offering, sending_side, side_of_part, side_of_post}
@@ -36,7 +36,7 @@ open_free s k (Between from message) old new free gathers = refl
 open_free s k (Taking from message chunk) old new free gathers = refl
 open_free s k (Barrier c seen released) old new free gathers = ap (λ (b : Bool). if b then Bar c ∷ [] else []) (gathers c)
 
-pub slot_at_rank : (s : SetupView) (k : ℕ) (post : Option OnItsWay) (old new : ℕ → Record) → ((to : ℕ) → received_messages k (new to).calls ≡ received_messages k (old to).calls) → ((to : ℕ) → sent_messages to (new k).calls ≡ sent_messages to (old k).calls)
+pub slot_at_rank : (s : SetupView) (k : ℕ) (post : Option InFlight) (old new : ℕ → Record) → ((to : ℕ) → received_messages k (new to).calls ≡ received_messages k (old to).calls) → ((to : ℕ) → sent_messages to (new k).calls ≡ sent_messages to (old k).calls)
     → slot_by (chunk_of s) k post new ≡ slot_by (chunk_of s) k post old
 slot_at_rank s k None old new received sent = refl
 slot_at_rank s k (Some post) old new received sent =
@@ -173,21 +173,21 @@ look_ready-passed s me is_set (Between i message) records = refl
 look_ready-passed s me is_set (Taking i message chunk) records = refl
 look_ready-passed s me is_set (Barrier c seen released) records = refl
 
-pub look_ready-slot : (size me : ℕ) (is_set : ℕ → Bool) (post : Option OnItsWay) (records : ℕ → Record) → slot_by size me (option_map (post_answered is_set) post) records ≡ slot_by size me post records
+pub look_ready-slot : (size me : ℕ) (is_set : ℕ → Bool) (post : Option InFlight) (records : ℕ → Record) → slot_by size me (option_map (post_answered is_set) post) records ≡ slot_by size me post records
 look_ready-slot size me is_set None records = refl
 look_ready-slot size me is_set (Some post) records = refl
 
 -- ---- the sides of a pair
 
-pub no_post_beside : (s : SetupView) (me : ℕ) (post : Option OnItsWay) (st : Stage) → IsPosted s me st post → is_free st ≡ false → post ≡ None
+pub no_post_beside : (s : SetupView) (me : ℕ) (post : Option InFlight) (st : Stage) → IsPosted s me st post → is_free st ≡ false → post ≡ None
 no_post_beside s me None st posted busy = refl
 no_post_beside s me (Some post) st posted busy = absurd (true≢false (sym posted.free ∙ busy))
 
 -- who offers a chunk that is not posted is in its send
-pub offering_sends : (r : ℕ) (st : Stage) (post : Option OnItsWay) (message : Progress) (chunk : Notes) → sending_side r st post ≡ Offering false false message chunk → st ≡ Sending r Raised message chunk
+pub offering_sends : (r : ℕ) (st : Stage) (post : Option InFlight) (message : Progress) (chunk : Notes) → sending_side r st post ≡ Offering false false message chunk → st ≡ Sending r Raised message chunk
 offering_sends r st post message chunk is = by_stage st is
   where
-    none_posted : (p : Option OnItsWay) → side_of_post r p ≡ Offering false false message chunk → ⊥
+    none_posted : (p : Option InFlight) → side_of_post r p ≡ Offering false false message chunk → ⊥
     none_posted None is = cc
     none_posted (Some p) is = by_test (p.to == r) is
       where
@@ -213,17 +213,17 @@ offering_sends r st post message chunk is = by_stage st is
     by_stage (Barrier c seen released) is = absurd (none_posted post is)
 
 -- what is posted where a posted chunk is offered
-pub record IsPostOf (r : ℕ) (post : Option OnItsWay) (message : Progress) (chunk : Notes) : Type 0 where
-  pub message_on_way : OnItsWay
+pub record IsPostOf (r : ℕ) (post : Option InFlight) (message : Progress) (chunk : Notes) : Type 0 where
+  pub message_on_way : InFlight
   pub is : post ≡ Some message_on_way
   pub to : message_on_way.to ≡ r
   pub begun_is : fresh_message message_on_way.head ≡ message
   pub chunk_is : message_on_way.chunk ≡ chunk
 
-pub offering_posts : (r : ℕ) (st : Stage) (post : Option OnItsWay) (a : Bool) (message : Progress) (chunk : Notes) → sending_side r st post ≡ Offering a true message chunk → IsPostOf r post message chunk
+pub offering_posts : (r : ℕ) (st : Stage) (post : Option InFlight) (a : Bool) (message : Progress) (chunk : Notes) → sending_side r st post ≡ Offering a true message chunk → IsPostOf r post message chunk
 offering_posts r st post a message chunk is = by_stage st is
   where
-    by_post : (p : Option OnItsWay) → side_of_post r p ≡ Offering a true message chunk → IsPostOf r p message chunk
+    by_post : (p : Option InFlight) → side_of_post r p ≡ Offering a true message chunk → IsPostOf r p message chunk
     by_post None is = absurd cc
     by_post (Some p) is = by_test (p.to == r) refl is
       where

@@ -6,7 +6,7 @@ use Rattle.scc_base.proofs.Confluence.{equal_or_not}
 use Rattle.scc_base.specs.declared.signals.Signal.TheVariants.{Ready}
 use Rattle.scc_proto.specs.Tables.{table_with}
 use Rattle.scc_proto.specs.Messages.{Notes, Progress, fresh_message, with_chunk, message_of, sent_messages, received_messages, send_to, recv_from, is_last, is_whole, chunk_bytes, chunk_words, bytes_from}
-use Rattle.scc_proto.specs.Stages.{Raised, Stage, Idle, Drafting, Sending, Between, Taking, Barrier, OnItsWay, Record}
+use Rattle.scc_proto.specs.Stages.{Raised, Stage, Idle, Drafting, Sending, Between, Taking, Barrier, InFlight, Record}
 use Rattle.scc_proto.specs.Moves.{Move, RaiseSignal, raise_ready, finished_if, calls_received, after}
 use Rattle.scc_proto.specs.Permission.{has_taken}
 use Rattle.scc_proto.specs.Words.{are_peers}
@@ -160,7 +160,7 @@ module _ (s : SetupView) (me : ℕ) (view : View) (records : ℕ → Record) (lo
                   post_to_none = no_post_beside s to (records to).post (records to).stage (consistent.0 to low_to).post (ap is_free stage_to)
 
                   empty : slot_of s records to ≡ None
-                  empty = ap (λ (p : Option OnItsWay). slot_by (chunk_of s) to p records) post_to_none
+                  empty = ap (λ (p : Option InFlight). slot_by (chunk_of s) to p records) post_to_none
 
                   level : sent_messages me (records to).calls ≡ received_messages to (records me).calls
                   level = taken.2.level ∙ ap (λ (b : Bool). received_messages to (records me).calls ++ pending (chunk_of s) b message taken.1) sends ∙ append-nil (received_messages to (records me).calls)
@@ -189,7 +189,7 @@ module _ (s : SetupView) (me : ℕ) (view : View) (records : ℕ → Record) (lo
                       ⊎_elim
                       (λ (same : k ≡ to). subst (λ (j : ℕ). slot_of s (next_of (RaiseSignal Ready to)) j ≡ slot_of s records j) (sym same)
                       (ap (λ (rec : Record). slot_by (chunk_of s) to rec.post (next_of (RaiseSignal Ready to))) (put_there records me to (new_of (RaiseSignal Ready to)) apart)
-                      ∙ ap (λ (p : Option OnItsWay). slot_by (chunk_of s) to p (next_of (RaiseSignal Ready to))) post_to_none ∙ sym empty))
+                      ∙ ap (λ (p : Option InFlight). slot_by (chunk_of s) to p (next_of (RaiseSignal Ready to))) post_to_none ∙ sym empty))
                       (λ (other : k ≢ to). slot_else k other)
                       (equal_or_not k to)
 
@@ -206,7 +206,7 @@ module _ (s : SetupView) (me : ℕ) (view : View) (records : ℕ → Record) (lo
                   posted : IsPostOf me (records to).post message taken.1
                   posted = offering_posts me (records to).stage (records to).post false message taken.1 sending
 
-                  on_way : OnItsWay
+                  on_way : InFlight
                   on_way = posted.message_on_way
 
                   whole_message : with_chunk (chunk_of s) message taken.1 ≡ with_chunk (chunk_of s) (fresh_message on_way.head) on_way.chunk
@@ -217,7 +217,7 @@ module _ (s : SetupView) (me : ℕ) (view : View) (records : ℕ → Record) (lo
 
                   full : slot_of s records to ≡ Some (record { to = on_way.to; head = on_way.head; bytes = (with_chunk (chunk_of s) (fresh_message on_way.head) on_way.chunk).bytes })
                   full =
-                      ap (λ (p : Option OnItsWay). slot_by (chunk_of s) to p records) posted.is
+                      ap (λ (p : Option InFlight). slot_by (chunk_of s) to p records) posted.is
                       ∙ ap (λ (b : Bool). if b then None else Some (record { to = on_way.to; head = on_way.head; bytes = (with_chunk (chunk_of s) (fresh_message on_way.head) on_way.chunk).bytes }))
                       (ap (λ (j : ℕ). length (received_messages to (records j).calls) == length (sent_messages j (records to).calls)) posted.to
                       ∙ test_apart (length (received_messages to (records me).calls)) (length (sent_messages me (records to).calls))
@@ -226,7 +226,7 @@ module _ (s : SetupView) (me : ℕ) (view : View) (records : ℕ → Record) (lo
                   empty : slot_of s (next_of (RaiseSignal Ready to)) to ≡ None
                   empty =
                       ap (λ (rec : Record). slot_by (chunk_of s) to rec.post (next_of (RaiseSignal Ready to))) (put_there records me to (new_of (RaiseSignal Ready to)) apart)
-                      ∙ ap (λ (p : Option OnItsWay). slot_by (chunk_of s) to p (next_of (RaiseSignal Ready to))) posted.is
+                      ∙ ap (λ (p : Option InFlight). slot_by (chunk_of s) to p (next_of (RaiseSignal Ready to))) posted.is
                       ∙ ap (λ (b : Bool). if b then None else Some (record { to = on_way.to; head = on_way.head; bytes = (with_chunk (chunk_of s) (fresh_message on_way.head) on_way.chunk).bytes }))
                       (ap (λ (j : ℕ). length (received_messages to (next_of (RaiseSignal Ready to) j).calls) == length (sent_messages j (next_of (RaiseSignal Ready to) to).calls)) posted.to
                       ∙ ap₂ (λ (a b : List Message). length a == length b) received_here (sent_at_rank s me records (new_of (RaiseSignal Ready to)) refl bars to apart me ∙ level)
@@ -240,7 +240,7 @@ module _ (s : SetupView) (me : ℕ) (view : View) (records : ℕ → Record) (lo
                   free : is_free (records to).stage ≡ true
                   free = free_of (records to).post (consistent.0 to low_to).post posted.is
                     where
-                      free_of : (p : Option OnItsWay) → IsPosted s to (records to).stage p → p ≡ Some on_way → is_free (records to).stage ≡ true
+                      free_of : (p : Option InFlight) → IsPosted s to (records to).stage p → p ≡ Some on_way → is_free (records to).stage ≡ true
                       free_of None beside is_some_post = absurd cc
                       free_of (Some p) beside is_some_post = beside.free
 

@@ -8,9 +8,9 @@ use Rattle.scc_base.specs.Setups.{SetupView}
 use Rattle.scc_base.specs.declared.layouts.Layout.{Layout}
 use Rattle.scc_base.specs.declared.layouts.Layout.TheVariants.{LineFlags, BitFlags}
 use Rattle.scc_proto.specs.Messages.{Notes, StandsIn, Progress, fresh_message, is_last, is_whole, is_head, is_post_head}
-use Rattle.scc_proto.specs.Stages.{Part, Filling, Raised, Answered, Stage, Idle, Drafting, Sending, Between, Taking, Barrier, OnItsWay, Record}
+use Rattle.scc_proto.specs.Stages.{Part, Filling, Raised, Answered, Stage, Idle, Drafting, Sending, Between, Taking, Barrier, InFlight, Record}
 use Rattle.scc_proto.specs.Records.{chunk_of}
-use Rattle.scc_proto.specs.Singles.{IsConsistent, IsStage, IsPart, IsPosted, IsOnItsWay, IsUnderWay}
+use Rattle.scc_proto.specs.Singles.{IsConsistent, IsStage, IsPart, IsPosted, IsInFlight, IsUnderWay}
 use Rattle.scc_proto.specs.Pairs.{Offering, side_of_part, side_of_post, sending_side, HeaderStands, DraftStands, PostStands, BufferStands}
 use Rattle.scc_proto.proofs.Tests.{same_or_other, both_second}
 use Rattle.scc_proto.proofs.Pairs.PhaseFacts.{sending_here, sending_there, post_here, post_there}
@@ -35,12 +35,12 @@ post_fits BitFlags head t = fits head.len (len head t)
 pub post_is_last : (s : SetupView) (head : MessageHead) → is_post_head head ≡ true → is_last (chunk_of s) (fresh_message head) ≡ true
 post_is_last s head t = post_fits s.layout head t
 
-pub posted_last : (s : SetupView) (me : ℕ) (rec : Record) → IsConsistent s me rec → (p : OnItsWay) → rec.post ≡ Some p → is_last (chunk_of s) (fresh_message p.head) ≡ true
+pub posted_last : (s : SetupView) (me : ℕ) (rec : Record) → IsConsistent s me rec → (p : InFlight) → rec.post ≡ Some p → is_last (chunk_of s) (fresh_message p.head) ≡ true
 posted_last s me rec single p is = post_is_last s p.head (of rec.post single.post is).head
   where
-    of : (o : Option OnItsWay) → IsPosted s me rec.stage o → o ≡ Some p → IsOnItsWay s me rec.stage p
+    of : (o : Option InFlight) → IsPosted s me rec.stage o → o ≡ Some p → IsInFlight s me rec.stage p
     of None posted e = absurd (cc)
-    of (Some q) posted e = let same : q ≡ p = cc in subst (λ (x : OnItsWay). IsOnItsWay s me rec.stage x) same posted
+    of (Some q) posted e = let same : q ≡ p = cc in subst (λ (x : InFlight). IsInFlight s me rec.stage x) same posted
 
 -- a raised chunk
 pub record Offers (s : SetupView) (is_post : Bool) (message : Progress) (chunk : Notes) (header buffer : ℕ → ℕ) : Type 0 where
@@ -56,7 +56,7 @@ pub post_head_is_head : (head : MessageHead) → is_post_head head ≡ true → 
 post_head_is_head head t = grind (arith, nat_tests)
 
 module _ (s : SetupView) (me to : ℕ) (a p : Bool) (m : Progress) (w : Notes) (header buffer : ℕ → ℕ) where
-  of_post : (st : Stage) (post : Option OnItsWay) → IsPosted s me st post → PostStands post header buffer → side_of_post to post ≡ Offering a p m w → Offers s p m w header buffer
+  of_post : (st : Stage) (post : Option InFlight) → IsPosted s me st post → PostStands post header buffer → side_of_post to post ≡ Offering a p m w → Offers s p m w header buffer
   of_post st None posted stands is = absurd (cc)
   of_post st (Some post) posted stands is = same_or_other (Offers s p m w header buffer) post.to to
       (λ here e.
@@ -80,7 +80,7 @@ module _ (s : SetupView) (me to : ℕ) (a p : Bool) (m : Progress) (w : Notes) (
       let offers : Offers s false message chunk header buffer = record { line = line; words = words; whole = is_part; valid = under.head; post = λ e. absurd (cc (e)); last = λ e. absurd (cc (e)) } in
       subst (λ (x : Bool). Offers s x m w header buffer) ep (subst (λ (x : Progress). Offers s false x w header buffer) em (subst (λ (x : Notes). Offers s false message x header buffer) ew offers))
 
-  of_side : (st : Stage) (post : Option OnItsWay) → IsStage s me st → IsPosted s me st post → DraftStands st header buffer → PostStands post header buffer
+  of_side : (st : Stage) (post : Option InFlight) → IsStage s me st → IsPosted s me st post → DraftStands st header buffer → PostStands post header buffer
       → sending_side to st post ≡ Offering a p m w → Offers s p m w header buffer
   of_side Idle post stage posted draft stands is = of_post Idle post posted stands is
   of_side (Drafting h c) post stage posted draft stands is = of_post (Drafting h c) post posted stands is

@@ -3,7 +3,7 @@
 use Rattle.std.proofs.Common.{◌≡◌, ℕ, suc, Bool, true, false, ◌&&◌, ◌==◌, if◌then◌else◌, List, [], ◌∷◌, ◌++◌, Option, None, refl, sym, subst}
 use Rattle.scc_base.specs.Calls.{DataCall, Bar}
 use Rattle.scc_proto.specs.Messages.{Notes, sent_messages, received_messages, is_last, with_chunk, message_of}
-use Rattle.scc_proto.specs.Stages.{Filling, Raised, Answered, Stage, Idle, Drafting, Sending, Between, Taking, Barrier, OnItsWay}
+use Rattle.scc_proto.specs.Stages.{Filling, Raised, Answered, Stage, Idle, Drafting, Sending, Between, Taking, Barrier, InFlight}
 use Rattle.scc_proto.specs.Moves.{draft_header, draft_chunk, raise_sent, read_chunk, lower_sent, raise_ready, look_ready, lower_ready, flip_gather, look_gather, write_release, look_release, finished_if, calls_released, calls_let_go, calls_raised, calls_received, calls_sent, is_posted}
 use Rattle.scc_proto.specs.Pairs.{Awaiting, sending_side, taking_side, side_of_post, Pair, Phase}
 use Rattle.scc_proto.proofs.Messages.MessageLists.{sent_messages-recv, sent_messages-bar, received_messages-send, received_messages-post, received_messages-bar}
@@ -26,7 +26,7 @@ either_calls P false call calls p q = p
 
 -- ---- the sender's side, where the move is none of a sender's
 
-module _ (to : ℕ) (post : Option OnItsWay) where
+module _ (to : ℕ) (post : Option InFlight) where
   pub sending-read_chunk : (from k v : ℕ) (st : Stage) → sending_side to (read_chunk from k v st) post ≡ sending_side to st post
   sending-read_chunk from k v Idle = refl
   sending-read_chunk from k v (Drafting header chunk) = refl

@@ -2,7 +2,7 @@
 use Rattle.std.proofs.Common.{◌≡◌, ℕ, Bool, true, false, ◌==◌, if◌then◌else◌, [], Option, Some, None, ap, subst, arith}
 use Rattle.scc_base.specs.Heads.{MessageHead}
 use Rattle.scc_proto.specs.Messages.{Notes, Progress}
-use Rattle.scc_proto.specs.Stages.{Part, Sending, OnItsWay}
+use Rattle.scc_proto.specs.Stages.{Part, Sending, InFlight}
 use Rattle.scc_proto.specs.Pairs.{Resting, Offering, Receiving, side_of_part, side_of_post, sending_side, Pair, AtRest, IsRaised, IsTaken, IsReady, Phase, InRest, InRaised, InTaken, InReady}
 
 -- nothing is raised to the receiver
@@ -78,16 +78,16 @@ when_ready size x is (InTaken m b c w p) = absurd (omega (arith, p.ready_flag, i
 when_ready size x is (InReady through a b m c p) = record { through = through; is_answered = a; is_post = b; message = m; chunk = c; is = p }
 
 -- a sender's side toward its receiver, and toward another rank
-pub sending_here : (to j : ℕ) (part : Part) (message : Progress) (chunk : Notes) (post : Option OnItsWay) → (j == to) ≡ true
+pub sending_here : (to j : ℕ) (part : Part) (message : Progress) (chunk : Notes) (post : Option InFlight) → (j == to) ≡ true
     → sending_side to (Sending j part message chunk) post ≡ side_of_part part message chunk
 sending_here to j part message chunk post t = ap (λ b. if b then side_of_part part message chunk else Resting None) t
 
-pub sending_there : (to j : ℕ) (part : Part) (message : Progress) (chunk : Notes) (post : Option OnItsWay) → (j == to) ≡ false
+pub sending_there : (to j : ℕ) (part : Part) (message : Progress) (chunk : Notes) (post : Option InFlight) → (j == to) ≡ false
     → sending_side to (Sending j part message chunk) post ≡ Resting None
 sending_there to j part message chunk post t = ap (λ b. if b then side_of_part part message chunk else Resting None) t
 
-pub post_here : (to : ℕ) (post : OnItsWay) → (post.to == to) ≡ true → side_of_post to (Some post) ≡ Offering post.is_answered true (record { head = post.head; chunks = 0; bytes = [] }) post.chunk
+pub post_here : (to : ℕ) (post : InFlight) → (post.to == to) ≡ true → side_of_post to (Some post) ≡ Offering post.is_answered true (record { head = post.head; chunks = 0; bytes = [] }) post.chunk
 post_here to post t = ap (λ b. if b then Offering post.is_answered true (record { head = post.head; chunks = 0; bytes = [] }) post.chunk else Resting None) t
 
-pub post_there : (to : ℕ) (post : OnItsWay) → (post.to == to) ≡ false → side_of_post to (Some post) ≡ Resting None
+pub post_there : (to : ℕ) (post : InFlight) → (post.to == to) ≡ false → side_of_post to (Some post) ≡ Resting None
 post_there to post t = ap (λ b. if b then Offering post.is_answered true (record { head = post.head; chunks = 0; bytes = [] }) post.chunk else Resting None) t

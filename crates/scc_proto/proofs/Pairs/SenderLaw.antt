@@ -5,7 +5,7 @@ use Rattle.scc_base.specs.Setups.{SetupView}
 use Rattle.scc_base.specs.declared.signals.Signal.TheVariants.{Sent, Ready}
 use Rattle.scc_proto.specs.Tables.{put_two}
 use Rattle.scc_proto.specs.Messages.{Notes, noted_word, StandsIn, has_all, fresh_message, is_last, head_of, is_head, is_post_head}
-use Rattle.scc_proto.specs.Stages.{Filling, Raised, Answered, Stage, Idle, Drafting, Sending, Between, Taking, Barrier, OnItsWay, Record}
+use Rattle.scc_proto.specs.Stages.{Filling, Raised, Answered, Stage, Idle, Drafting, Sending, Between, Taking, Barrier, InFlight, Record}
 use Rattle.scc_proto.specs.Moves.{Move, DraftHeader, DraftChunk, RaiseSignal, LookSignal, ReadHeader, ReadChunk, LowerSignal, FlipGather, LookGather, WriteRelease, LookRelease, StoreHeap, NoMove, Misplaced, draft_header, draft_chunk, raise_sent, read_chunk, lower_sent, raise_ready, look_ready, lower_ready, flip_gather, look_gather, write_release, look_release, post_raised, post_answered, after, is_posted}
 use Rattle.scc_proto.specs.Permission.{permits, drafts_header, drafts_chunk, may_raise, is_whole_header, is_post_word, is_drafted}
 use Rattle.scc_proto.specs.Records.{chunk_of}
@@ -96,7 +96,7 @@ module _ (h c : ℕ → ℕ) where
   draft-look_release comm value v (Taking i message chunk) d = tt
   draft-look_release comm value v (Barrier c' seen released) d = either (λ x. DraftStands x h c) ((c' == comm) && (value == v)) _ _ tt tt
 
-  post-answered : (is_set : ℕ → Bool) (post : Option OnItsWay) → PostStands post h c → PostStands (option_map (post_answered is_set) post) h c
+  post-answered : (is_set : ℕ → Bool) (post : Option InFlight) → PostStands post h c → PostStands (option_map (post_answered is_set) post) h c
   post-answered is_set None p = tt
   post-answered is_set (Some post) p = p
 
@@ -121,7 +121,7 @@ module _ (k v : ℕ) (h c new : ℕ → ℕ) (here : new k ≡ v) where
   chunk_stored there (Taking i message chunk) t d = absurd (cc)
   chunk_stored there (Barrier comm seen released) t d = absurd (cc)
 
-no_post : (b : Bool) (post : Option OnItsWay) (h c : ℕ → ℕ) → (is_none post && b) ≡ true → PostStands post h c
+no_post : (b : Bool) (post : Option InFlight) (h c : ℕ → ℕ) → (is_none post && b) ≡ true → PostStands post h c
 no_post b None h c may = tt
 no_post b (Some post) h c may = absurd (cc)
 
@@ -154,7 +154,7 @@ first_raised : (posted : Bool) (to : ℕ) (header chunk : Notes) (h c : ℕ → 
 first_raised true to header chunk h c whole is a b = (tt, (line_stands header h whole a true is, b))
 first_raised false to header chunk h c whole is a b = ((line_stands header h whole a false is, b), tt)
 
-raised_stands : (size to : ℕ) (h c : ℕ → ℕ) (st : Stage) (post : Option OnItsWay) → (is_none post && may_raise size to st) ≡ true → DraftStands st h c
+raised_stands : (size to : ℕ) (h c : ℕ → ℕ) (st : Stage) (post : Option InFlight) → (is_none post && may_raise size to st) ≡ true → DraftStands st h c
     → DraftStands (raise_sent to st) h c × PostStands (post_raised to st post) h c
 raised_stands size to h c st (Some post) may d = absurd (cc)
 raised_stands size to h c Idle None may d = absurd (cc)

@@ -2,7 +2,7 @@
 use Rattle.std.proofs.Common.{◌≡◌, ℕ, Bool, true, false, ◌&&◌, ◌==◌, if◌then◌else◌, List, [], ◌∷◌, ◌++◌, Option, Some, None, is_none, option_map, refl, sym, ◌∙◌, ap, subst, append-nil}
 use Rattle.scc_base.specs.Calls.{DataCall, Message}
 use Rattle.scc_proto.specs.Messages.{Notes, note_word, Progress, fresh_message, is_last, with_chunk, message_of, head_of, sent_messages, send_to, post_to}
-use Rattle.scc_proto.specs.Stages.{Filling, Raised, Answered, Stage, Idle, Drafting, Sending, Between, Taking, Barrier, OnItsWay}
+use Rattle.scc_proto.specs.Stages.{Filling, Raised, Answered, Stage, Idle, Drafting, Sending, Between, Taking, Barrier, InFlight}
 use Rattle.scc_proto.specs.Moves.{draft_header, draft_chunk, raise_sent, look_ready, lower_ready, post_raised, post_answered, calls_raised, calls_sent, finished_if, is_posted}
 use Rattle.scc_proto.specs.Permission.{drafts_header, drafts_chunk, may_raise, may_go_on, is_drafted}
 use Rattle.scc_proto.specs.Pairs.{Resting, Offering, TakingSide, Awaiting, side_of_post, sending_side, NotesStand, Pair, pending, HasArrived, Phase, InRest, InRaised, InReady}
@@ -12,7 +12,7 @@ use Rattle.scc_proto.proofs.Pairs.PairFrames.{same_pair}
 use Rattle.scc_proto.proofs.Pairs.PhaseFacts.{at_rest, when_answered, when_ready, sending_here, sending_there, post_here, post_there}
 
 -- a pair by what its sender changes
-abbrev pub from_sender : ℕ → (sent_flag ready_flag : ℕ) → Stage → Option OnItsWay → (header chunk : ℕ → ℕ) → List DataCall → TakingSide → Option Notes → List Message → Pair
+abbrev pub from_sender : ℕ → (sent_flag ready_flag : ℕ) → Stage → Option InFlight → (header chunk : ℕ → ℕ) → List DataCall → TakingSide → Option Notes → List Message → Pair
 from_sender to f g st post h c calls t n b = record {
   sent_flag = f;
   ready_flag = g;
@@ -26,7 +26,7 @@ from_sender to f g st post h c calls t n b = record {
 }
 
 -- with other words in the buffer, and a side that still rests
-pub rests_on : (size : ℕ) (to f g : ℕ) (st new : Stage) (post late : Option OnItsWay) (h c h' c' : ℕ → ℕ) (calls : List DataCall) (t : TakingSide) (n : Option Notes) (b : List Message) (m : Option Progress)
+pub rests_on : (size : ℕ) (to f g : ℕ) (st new : Stage) (post late : Option InFlight) (h c h' c' : ℕ → ℕ) (calls : List DataCall) (t : TakingSide) (n : Option Notes) (b : List Message) (m : Option Progress)
     → sending_side to st post ≡ Resting m → sending_side to new late ≡ Resting m
     → Phase size (from_sender to f g st post h c calls t n b) → Phase size (from_sender to f g new late h' c' calls t n b)
 rests_on size to f g st new post late h c h' c' calls t n b m was now phase =
@@ -65,14 +65,14 @@ drafts_chunk_rests to k v (Between i m) t = absurd (cc)
 drafts_chunk_rests to k v (Taking i m c) t = absurd (cc)
 drafts_chunk_rests to k v (Barrier comm seen released) t = absurd (cc)
 
-pub header_drafted : (size : ℕ) (to f g k v : ℕ) (st : Stage) (post : Option OnItsWay) (h c h' c' : ℕ → ℕ) (calls : List DataCall) (t : TakingSide) (n : Option Notes) (b : List Message)
+pub header_drafted : (size : ℕ) (to f g k v : ℕ) (st : Stage) (post : Option InFlight) (h c h' c' : ℕ → ℕ) (calls : List DataCall) (t : TakingSide) (n : Option Notes) (b : List Message)
     → (is_none post && drafts_header st) ≡ true
     → Phase size (from_sender to f g st post h c calls t n b) → Phase size (from_sender to f g (draft_header k v st) post h' c' calls t n b)
 header_drafted size to f g k v st None h c h' c' calls t n b may phase =
     let r = drafts_header_rests to k v st may in rests_on size to f g st (draft_header k v st) None None h c h' c' calls t n b r.through r.was r.now phase
 header_drafted size to f g k v st (Some post) h c h' c' calls t n b may phase = absurd (cc)
 
-pub chunk_drafted : (size : ℕ) (to f g k v : ℕ) (st : Stage) (post : Option OnItsWay) (h c h' c' : ℕ → ℕ) (calls : List DataCall) (t : TakingSide) (n : Option Notes) (b : List Message)
+pub chunk_drafted : (size : ℕ) (to f g k v : ℕ) (st : Stage) (post : Option InFlight) (h c h' c' : ℕ → ℕ) (calls : List DataCall) (t : TakingSide) (n : Option Notes) (b : List Message)
     → (is_none post && drafts_chunk st) ≡ true
     → Phase size (from_sender to f g st post h c calls t n b) → Phase size (from_sender to f g (draft_chunk k v st) post h' c' calls t n b)
 chunk_drafted size to f g k v st None h c h' c' calls t n b may phase =
@@ -85,7 +85,7 @@ chunk_drafted size to f g k v st (Some post) h c h' c' calls t n b may phase = a
 abbrev first_stage : Bool → ℕ → Notes → Notes → Stage
 first_stage posted j header chunk = if posted then Idle else Sending j Raised (fresh_message (head_of header)) chunk
 
-abbrev first_post : Bool → ℕ → Notes → Notes → Option OnItsWay
+abbrev first_post : Bool → ℕ → Notes → Notes → Option InFlight
 first_post posted j header chunk = if posted then Some (record { to = j; head = head_of header; chunk = chunk; is_answered = false }) else None
 
 module _ (size : ℕ) (to g j : ℕ) (header chunk : Notes) (h c : ℕ → ℕ) (calls : List DataCall) (t : TakingSide) (n : Option Notes) (b : List Message) where
@@ -153,7 +153,7 @@ module _ (size : ℕ) (to g j : ℕ) (h c : ℕ → ℕ) (calls : List DataCall)
   later_there f message chunk there phase = rests_on size to f g (Sending j Filling message chunk) (Sending j Raised message chunk) None None h c h c calls t n b None
       (sending_there to j Filling message chunk None there) (sending_there to j Raised message chunk None there) phase
 
-  pub sent_raised_here : (f flag : ℕ) (st : Stage) (post : Option OnItsWay) → (is_none post && may_raise size j st) ≡ true → (j == to) ≡ true → flag ≡ 1
+  pub sent_raised_here : (f flag : ℕ) (st : Stage) (post : Option InFlight) → (is_none post && may_raise size j st) ≡ true → (j == to) ≡ true → flag ≡ 1
       → Phase size (from_sender to f g st post h c calls t n b)
       → Phase size (from_sender to flag g (raise_sent j st) (post_raised j st post) h c (calls_raised size j st calls) t n b)
   sent_raised_here f flag st (Some post) may here set phase = absurd (cc)
@@ -168,7 +168,7 @@ module _ (size : ℕ) (to g j : ℕ) (h c : ℕ → ℕ) (calls : List DataCall)
   sent_raised_here f flag (Taking i message chunk) None may here set phase = absurd (cc)
   sent_raised_here f flag (Barrier comm seen released) None may here set phase = absurd (cc)
 
-  pub sent_raised_there : (f : ℕ) (st : Stage) (post : Option OnItsWay) → (is_none post && may_raise size j st) ≡ true → (j == to) ≡ false
+  pub sent_raised_there : (f : ℕ) (st : Stage) (post : Option InFlight) → (is_none post && may_raise size j st) ≡ true → (j == to) ≡ false
       → Phase size (from_sender to f g st post h c calls t n b)
       → Phase size (from_sender to f g (raise_sent j st) (post_raised j st post) h c (calls_raised size j st calls) t n b)
   sent_raised_there f st (Some post) may there phase = absurd (cc)
@@ -208,7 +208,7 @@ module _ (size : ℕ) (to f g : ℕ) (is_set : ℕ → Bool) (h c : ℕ → ℕ)
         arrived = arrived;
       }))
 
-  look_raised : (set : Bool) (i : ℕ) (message : Progress) (chunk : Notes) (post late : Option OnItsWay) → is_set i ≡ set
+  look_raised : (set : Bool) (i : ℕ) (message : Progress) (chunk : Notes) (post late : Option InFlight) → is_set i ≡ set
       → Phase size (from_sender to f g (Sending i Raised message chunk) post h c calls t n b)
       → Phase size (from_sender to f g (if set then Sending i Answered message chunk else Sending i Raised message chunk) late h c calls t n b)
   look_raised false i message chunk post late s phase = phase
@@ -220,7 +220,7 @@ module _ (size : ℕ) (to f g : ℕ) (is_set : ℕ → Bool) (h c : ℕ → ℕ)
       refl refl (sending_there to i Answered message chunk late there ∙ sym (sending_there to i Raised message chunk post there)) refl refl refl refl refl refl phase)
 
   -- the posted message, seen by the look or not
-  post_seen : (set : Bool) (post : OnItsWay) → is_set post.to ≡ set → (x : Pair) → x.ready_flag ≡ g → x.sending ≡ side_of_post to (Some post) → Phase size x
+  post_seen : (set : Bool) (post : InFlight) → is_set post.to ≡ set → (x : Pair) → x.ready_flag ≡ g → x.sending ≡ side_of_post to (Some post) → Phase size x
       → Phase size (record x { sending = side_of_post to (Some (record post { is_answered = if set then true else post.is_answered })) })
   post_seen false post s x flag was phase = same_pair size x (record x { sending = side_of_post to (Some post) }) refl refl (sym was) refl refl refl refl refl refl phase
   post_seen true post s x flag was phase = same_or_other (Phase size (record x { sending = side_of_post to (Some (record post { is_answered = true })) })) post.to to
@@ -229,11 +229,11 @@ module _ (size : ℕ) (to f g : ℕ) (is_set : ℕ → Bool) (h c : ℕ → ℕ)
       (λ there ne. same_pair size x (record x { sending = side_of_post to (Some (record post { is_answered = true })) })
       refl refl (post_there to (record post { is_answered = true }) there ∙ sym (was ∙ post_there to post there)) refl refl refl refl refl refl phase)
 
-  look_posted : (post : Option OnItsWay) → (x : Pair) → x.ready_flag ≡ g → x.sending ≡ side_of_post to post → Phase size x → Phase size (record x { sending = side_of_post to (option_map (post_answered is_set) post) })
+  look_posted : (post : Option InFlight) → (x : Pair) → x.ready_flag ≡ g → x.sending ≡ side_of_post to post → Phase size x → Phase size (record x { sending = side_of_post to (option_map (post_answered is_set) post) })
   look_posted None x flag was phase = same_pair size x (record x { sending = Resting None }) refl refl (sym was) refl refl refl refl refl refl phase
   look_posted (Some post) x flag was phase = post_seen (is_set post.to) post refl x flag was phase
 
-  pub ready_looked_at : (st : Stage) (post : Option OnItsWay) → Phase size (from_sender to f g st post h c calls t n b)
+  pub ready_looked_at : (st : Stage) (post : Option InFlight) → Phase size (from_sender to f g st post h c calls t n b)
       → Phase size (from_sender to f g (look_ready is_set st) (option_map (post_answered is_set) post) h c calls t n b)
   ready_looked_at Idle post phase = look_posted post (from_sender to f g Idle post h c calls t n b) refl refl phase
   ready_looked_at (Drafting header chunk) post phase = look_posted post (from_sender to f g (Drafting header chunk) post h c calls t n b) refl refl phase
@@ -248,7 +248,7 @@ module _ (size : ℕ) (to f g : ℕ) (is_set : ℕ → Bool) (h c : ℕ → ℕ)
 
 module _ (size : ℕ) (to f g j : ℕ) (h c : ℕ → ℕ) (calls : List DataCall) (t : TakingSide) (n : Option Notes) (b : List Message) where
   -- the chunk of a message that is not posted is through
-  through_here : (last : Bool) (flag : ℕ) (i : ℕ) (message : Progress) (chunk : Notes) (post : Option OnItsWay) → is_last size message ≡ last → (i == to) ≡ true → flag ≡ 0
+  through_here : (last : Bool) (flag : ℕ) (i : ℕ) (message : Progress) (chunk : Notes) (post : Option InFlight) → is_last size message ≡ last → (i == to) ≡ true → flag ≡ 0
       → Phase size (from_sender to f g (Sending i Answered message chunk) post h c calls t n b)
       → Phase size (from_sender to f flag (if last then Idle else Sending i Filling (with_chunk size message chunk) []) None h c
       (finished_if last (send_to i (message_of (with_chunk size message chunk))) calls) t n b)
@@ -275,7 +275,7 @@ module _ (size : ℕ) (to f g j : ℕ) (h c : ℕ → ℕ) (calls : List DataCal
         level = a.1;
       })
 
-  through_there : (last : Bool) (i : ℕ) (message : Progress) (chunk : Notes) (post : Option OnItsWay) → (i == to) ≡ false
+  through_there : (last : Bool) (i : ℕ) (message : Progress) (chunk : Notes) (post : Option InFlight) → (i == to) ≡ false
       → Phase size (from_sender to f g (Sending i Answered message chunk) post h c calls t n b)
       → Phase size (from_sender to f g (if last then Idle else Sending i Filling (with_chunk size message chunk) []) None h c
       (finished_if last (send_to i (message_of (with_chunk size message chunk))) calls) t n b)
@@ -285,7 +285,7 @@ module _ (size : ℕ) (to f g j : ℕ) (h c : ℕ → ℕ) (calls : List DataCal
       (sending_there to i Filling (with_chunk size message chunk) [] None there ∙ sym (sending_there to i Answered message chunk post there)) refl refl refl refl refl refl phase
 
   -- a posted message is on its way no more
-  post_through : (flag : ℕ) (st : Stage) (post : OnItsWay) → sending_side to st None ≡ Resting None → sending_side to st (Some post) ≡ side_of_post to (Some post)
+  post_through : (flag : ℕ) (st : Stage) (post : InFlight) → sending_side to st None ≡ Resting None → sending_side to st (Some post) ≡ side_of_post to (Some post)
       → is_last size (fresh_message post.head) ≡ true → ((post.to == j) && post.is_answered) ≡ true → ((j == to) ≡ true → flag ≡ 0) → ((j == to) ≡ false → flag ≡ g)
       → Phase size (from_sender to f g st (Some post) h c calls t n b) → Phase size (from_sender to f flag st None h c calls t n b)
   post_through flag st post none some last may clear kept phase = same_or_other (Phase size (from_sender to f flag st None h c calls t n b)) j to
@@ -308,7 +308,7 @@ module _ (size : ℕ) (to f g j : ℕ) (h c : ℕ → ℕ) (calls : List DataCal
       same_pair size (from_sender to f g st (Some post) h c calls t n b) (from_sender to f flag st None h c calls t n b) refl (kept there)
       (none ∙ sym (some ∙ post_there to post its)) refl refl refl refl refl refl phase)
 
-  pub ready_lowered : (flag : ℕ) (st : Stage) (post : Option OnItsWay) → may_go_on j st post ≡ true → ((p : OnItsWay) → post ≡ Some p → is_last size (fresh_message p.head) ≡ true)
+  pub ready_lowered : (flag : ℕ) (st : Stage) (post : Option InFlight) → may_go_on j st post ≡ true → ((p : InFlight) → post ≡ Some p → is_last size (fresh_message p.head) ≡ true)
       → ((j == to) ≡ true → flag ≡ 0) → ((j == to) ≡ false → flag ≡ g)
       → Phase size (from_sender to f g st post h c calls t n b) → Phase size (from_sender to f flag (lower_ready size st) None h c (calls_sent size st calls) t n b)
   ready_lowered flag Idle None may last clear kept phase = absurd (cc)

@@ -10,7 +10,7 @@ use Rattle.scc_base.specs.declared.events.Access.TheVariants.{Load, Store, Take,
 use Rattle.scc_base.specs.declared.events.Event.{Event}
 use Rattle.scc_base.specs.declared.signals.Signal.TheVariants.{Sent, Ready}
 use Rattle.scc_proto.specs.Messages.{note_word}
-use Rattle.scc_proto.specs.Stages.{Part, Filling, Raised, Answered, Stage, Idle, Drafting, Sending, Between, Taking, Barrier, OnItsWay, Record}
+use Rattle.scc_proto.specs.Stages.{Part, Filling, Raised, Answered, Stage, Idle, Drafting, Sending, Between, Taking, Barrier, InFlight, Record}
 use Rattle.scc_proto.specs.Moves.{Move, LookSignal, ReadHeader, ReadChunk, LookGather, LookRelease, NoMove, read_chunk, look_ready, look_gather, look_release, post_answered, calls_let_go, after}
 use Rattle.scc_proto.specs.Words.{Role, HeaderWord, ChunkWord, SignalFlag, SignalFlags, GatherFlag, ReleaseFlag, HeapWord, IdleWord, role_of}
 use Rattle.scc_proto.specs.Records.{chunk_of, leads, look_at, look_at_bits, load_by, EventAct, Moving, NotingSignal, load_act, act_by, act_of, after_act, is_permitted, record_after, record_from}
@@ -104,7 +104,7 @@ release_further comm value v calls (Barrier c seen released) = by ((c == comm) &
     by false = inl (refl, refl)
 
 -- whether its `ready` was seen makes no difference to a posted message
-answered_like : (is_set : ℕ → Bool) (post : Option OnItsWay) → option_map as_unanswered post ≡ option_map as_unanswered (option_map (post_answered is_set) post)
+answered_like : (is_set : ℕ → Bool) (post : Option InFlight) → option_map as_unanswered post ≡ option_map as_unanswered (option_map (post_answered is_set) post)
 answered_like is_set None = refl
 answered_like is_set (Some post) = refl
 

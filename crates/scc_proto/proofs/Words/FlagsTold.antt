@@ -7,7 +7,7 @@ use Rattle.scc_base.specs.Setups.{SetupView, place_of, root_of}
 use Rattle.scc_base.specs.declared.signals.Signal.{Signal}
 use Rattle.scc_base.specs.declared.signals.Signal.TheVariants.{Sent, Ready}
 use Rattle.scc_proto.specs.Messages.{Notes, Progress, fresh_message, is_last, with_chunk, sent_messages, received_messages}
-use Rattle.scc_proto.specs.Stages.{Stage, Idle, Drafting, Sending, Between, Taking, Barrier, OnItsWay, Record}
+use Rattle.scc_proto.specs.Stages.{Stage, Idle, Drafting, Sending, Between, Taking, Barrier, InFlight, Record}
 use Rattle.scc_proto.specs.Words.{Memory, are_peers}
 use Rattle.scc_proto.specs.Records.{chunk_of}
 use Rattle.scc_proto.specs.Views.{view_of, SameFlagWords}
@@ -93,16 +93,16 @@ unseen_post : (b a : Bool) (m : Progress) (c : Notes) → unseen (if b then Offe
 unseen_post true a m c = refl
 unseen_post false a m c = refl
 
-like_post : (r : ℕ) (p q : Option OnItsWay) → option_map as_unanswered p ≡ option_map as_unanswered q → unseen (side_of_post r p) ≡ unseen (side_of_post r q)
+like_post : (r : ℕ) (p q : Option InFlight) → option_map as_unanswered p ≡ option_map as_unanswered q → unseen (side_of_post r p) ≡ unseen (side_of_post r q)
 like_post r None None same = refl
 like_post r None (Some q) same = absurd (cc (same))
 like_post r (Some p) None same = absurd (cc (same))
 like_post r (Some p) (Some q) same =
     unseen_post (p.to == r) p.is_answered (fresh_message p.head) p.chunk
-    ∙ ap (λ (x : OnItsWay). if x.to == r then Offering false true (fresh_message x.head) x.chunk else Resting None) (same_Some (as_unanswered p) (as_unanswered q) same)
+    ∙ ap (λ (x : InFlight). if x.to == r then Offering false true (fresh_message x.head) x.chunk else Resting None) (same_Some (as_unanswered p) (as_unanswered q) same)
     ∙ sym (unseen_post (q.to == r) q.is_answered (fresh_message q.head) q.chunk)
 
-like_side : (r : ℕ) (st : Stage) (p q : Option OnItsWay) → option_map as_unanswered p ≡ option_map as_unanswered q → unseen (sending_side r st p) ≡ unseen (sending_side r st q)
+like_side : (r : ℕ) (st : Stage) (p q : Option InFlight) → option_map as_unanswered p ≡ option_map as_unanswered q → unseen (sending_side r st p) ≡ unseen (sending_side r st q)
 like_side r Idle p q same = like_post r p q same
 like_side r (Drafting header chunk) p q same = like_post r p q same
 like_side r (Sending to part message chunk) p q same = refl

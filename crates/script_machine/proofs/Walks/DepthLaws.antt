@@ -8,7 +8,7 @@ use Rattle.script_rules.specs.declared.effect.Nesting.TheVariants as nesting
 use Rattle.script_machine.specs.declared.course.Open.{Open}
 use Rattle.script_machine.specs.Depths.{AreHeld, HasRoom, IsDeep, depth_after, depth_at, depth_from}
 use Rattle.script_machine.specs.Program.{marks_of, nesting_at}
-use Rattle.script_machine.specs.Walk.{closed_by, next_pass, repeats_behind_begin, repeats_behind_marks, passed_to}
+use Rattle.script_machine.specs.Walk.{closed_by, next_pass, repeats_after_begin, repeats_after_marks, passed_to}
 use Rattle.script_machine.proofs.Walks.WalkLaws.{closes_by}
 
 module _ (rank : ℕ) where
@@ -45,7 +45,7 @@ module _ (rank : ℕ) where
 
   -- over an item that has no marks
   entered_by : (items : List Item) (at : ℕ) (item : Item) (repeats : List Open) (n : Nesting) → slice_get items at ≡ Some item → nesting_at rank item ≡ n
-      → ((place : ℕ) → n ≡ nesting.Closes place → ⊥) → IsDeep rank items at repeats → IsDeep rank items (at + 1) (repeats_behind_begin n at repeats)
+      → ((place : ℕ) → n ≡ nesting.Closes place → ⊥) → IsDeep rank items at repeats → IsDeep rank items (at + 1) (repeats_after_begin n at repeats)
   entered_by items at item repeats nesting.Stays here is stays deep =
       let next : depth_at rank items (at + 1) ≡ depth_at rank items at = depth_next items at item here ∙ ap (λ (n : Nesting). depth_after n (depth_at rank items at)) is in
       record { here = omega (arith, deep.here, next); held = deep.held }
@@ -55,7 +55,7 @@ module _ (rank : ℕ) where
       record { here = omega (arith, deep.here, next); held = (omega (arith, deep.here, next), deep.held) }
 
   pub deep_entered : (s : SetupView) (items : List Item) (at : ℕ) (item : Item) (before after : List Open) → slice_get items at ≡ Some item → length (marks_of s rank item) ≡ 0
-      → after ≡ repeats_behind_begin (nesting_at rank item) at before → IsDeep rank items at before → IsDeep rank items (at + 1) after
+      → after ≡ repeats_after_begin (nesting_at rank item) at before → IsDeep rank items at before → IsDeep rank items (at + 1) after
   deep_entered s items at item before after here none is deep =
       let P : List Open → Type 0 = λ r. IsDeep rank items (at + 1) r in
       let stays : (place : ℕ) → nesting_at rank item ≡ nesting.Closes place → ⊥ = λ place closes. absurd (omega (arith, none, closes_by s rank item place closes)) in
@@ -63,9 +63,9 @@ module _ (rank : ℕ) where
 
   -- there is room to enter
   pub room_entered : (s : SetupView) (items : List Item) (at room : ℕ) (item : Item) (repeats : List Open) → slice_get items at ≡ Some item → length (marks_of s rank item) ≡ 0
-      → IsDeep rank items at repeats → HasRoom rank items room → length (repeats_behind_begin (nesting_at rank item) at repeats) ≤ room
+      → IsDeep rank items at repeats → HasRoom rank items room → length (repeats_after_begin (nesting_at rank item) at repeats) ≤ room
   room_entered s items at room item repeats here none deep fits =
-      omega (arith, (deep_entered s items at item repeats (repeats_behind_begin (nesting_at rank item) at repeats) here none refl deep).here, fits (at + 1))
+      omega (arith, (deep_entered s items at item repeats (repeats_after_begin (nesting_at rank item) at repeats) here none refl deep).here, fits (at + 1))
 
   -- behind the end of a pass
   closed_by_deep : (items : List Item) (at start left : ℕ) (repeats : List Open) → length repeats < depth_at rank items start → length repeats ≤ depth_at rank items (at + 1) → AreHeld rank items repeats
@@ -74,7 +74,7 @@ module _ (rank : ℕ) where
   closed_by_deep items at start (suc left) repeats within here held = record { here = omega (arith, within); held = (within, held) }
 
   passed_by : (items : List Item) (at end : ℕ) (item : Item) (repeats : List Open) (n : Nesting) → slice_get items at ≡ Some item → nesting_at rank item ≡ n
-      → IsDeep rank items at repeats → IsDeep rank items (passed_to n at end repeats) (repeats_behind_marks n repeats)
+      → IsDeep rank items at repeats → IsDeep rank items (passed_to n at end repeats) (repeats_after_marks n repeats)
   passed_by items at end item repeats nesting.Stays here is deep =
       let next : depth_at rank items (at + 1) ≡ depth_at rank items at = depth_next items at item here ∙ ap (λ (n : Nesting). depth_after n (depth_at rank items at)) is in
       record { here = omega (arith, deep.here, next); held = deep.held }
@@ -87,7 +87,7 @@ module _ (rank : ℕ) where
       closed_by_deep items at o.start o.left repeats deep.held.0 (omega (arith, deep.here, next)) deep.held.1
 
   pub deep_passed : (items : List Item) (at end to : ℕ) (item : Item) (before after : List Open) → slice_get items at ≡ Some item
-      → to ≡ passed_to (nesting_at rank item) at end before → after ≡ repeats_behind_marks (nesting_at rank item) before → IsDeep rank items at before → IsDeep rank items to after
+      → to ≡ passed_to (nesting_at rank item) at end before → after ≡ repeats_after_marks (nesting_at rank item) before → IsDeep rank items at before → IsDeep rank items to after
   deep_passed items at end to item before after here goes now deep =
       let P : ℕ → Type 0 = λ n. IsDeep rank items n after in
       let Q : List Open → Type 0 = λ r. IsDeep rank items (passed_to (nesting_at rank item) at end before) r in
@@ -106,8 +106,8 @@ module _ (rank : ℕ) where
     where
       by : (at < place) ⊎ (place ≤ at) → depth_at rank items place ≤ more
       by (inr before) = omega (arith, so_far place before, wider)
-      by (inl behind) =
-          let here : place ≡ at + 1 = omega (arith, within, behind) in
+      by (inl afterwards) =
+          let here : place ≡ at + 1 = omega (arith, within, afterwards) in
           omega (arith, next, ap (depth_at rank items) here)
 
   -- at all places
@@ -116,6 +116,6 @@ module _ (rank : ℕ) where
     where
       by : (at < place) ⊎ (place ≤ at) → depth_at rank items place ≤ most
       by (inr before) = so_far place before
-      by (inl behind) =
-          let end : length items ≤ place = omega (arith, past, behind) in
+      by (inl afterwards) =
+          let end : length items ≤ place = omega (arith, past, afterwards) in
           omega (arith, so_far at (omega arith), depth_past items at past, depth_past items place end)

@@ -22,9 +22,9 @@ pub record EndsAt (rank : ℕ) (items : List Item) (at step : ℕ) : Type 0 wher
   pub first : step ≡ 0
 
 -- what is left behind the end of a pass
-abbrev pub behind_end : SetupView → ℕ → List Item → ℕ → List Open → List (Option Prim)
-behind_end s rank items at [] = []
-behind_end s rank items at (o ∷ repeats) = again s rank items o ++ left_of (unrolled_marks s rank (drop (at + 1) items)) (map (again s rank items) repeats)
+abbrev pub after_end : SetupView → ℕ → List Item → ℕ → List Open → List (Option Prim)
+after_end s rank items at [] = []
+after_end s rank items at (o ∷ repeats) = again s rank items o ++ left_of (unrolled_marks s rank (drop (at + 1) items)) (map (again s rank items) repeats)
 
 -- that is so where the end of a pass comes next
 pub ends_at : (s : SetupView) (rank : ℕ) (items : List Item) (at step : ℕ) (repeats : List Open) → HasMoreMarks s rank items at step
@@ -49,20 +49,20 @@ ends_within rank items at step ends = let inside = slice_get_within items at end
 
 -- what items make from the end of a pass on
 one_end : (s : SetupView) (rank : ℕ) (items : List Item) (at step : ℕ) → EndsAt rank items at step
-    → unrolled_marks s rank (drop at items) ≡ record { here = None ∷ []; behind = (unrolled_marks s rank (drop (at + 1) items)).here ∷ (unrolled_marks s rank (drop (at + 1) items)).behind }
+    → unrolled_marks s rank (drop at items) ≡ record { here = None ∷ []; afterwards = (unrolled_marks s rank (drop (at + 1) items)).here ∷ (unrolled_marks s rank (drop (at + 1) items)).afterwards }
 one_end s rank items at step ends =
     let u = unrolled_marks s rank (drop (at + 1) items) in
     let prims = prims_of s rank ends.item in
     marked-at s rank items at ends.item ends.here ∙ ap (λ (n : Nesting). in_front n (marks_by n prims) u) ends.closes
 
 -- the end comes first, and then what is left behind it
-end_here : (s : SetupView) (rank : ℕ) (items : List Item) (at step : ℕ) (repeats : List Open) → EndsAt rank items at step → left_at s rank items at repeats ≡ None ∷ behind_end s rank items at repeats
+end_here : (s : SetupView) (rank : ℕ) (items : List Item) (at step : ℕ) (repeats : List Open) → EndsAt rank items at step → left_at s rank items at repeats ≡ None ∷ after_end s rank items at repeats
 end_here s rank items at step [] ends = ap (λ (u : Unrolled (Option Prim)). left_of u []) (one_end s rank items at step ends)
 end_here s rank items at step (o ∷ repeats) ends =
     ap (λ (u : Unrolled (Option Prim)). left_of u (map (again s rank items) (o ∷ repeats))) (one_end s rank items at step ends)
 
 pub end_left : (s : SetupView) (rank : ℕ) (items : List Item) (at step : ℕ) (repeats : List Open) → EndsAt rank items at step
-    → drop step (left_at s rank items at repeats) ≡ None ∷ behind_end s rank items at repeats
+    → drop step (left_at s rank items at repeats) ≡ None ∷ after_end s rank items at repeats
 end_left s rank items at step repeats ends =
     ap (λ (n : ℕ). drop n (left_at s rank items at repeats)) ends.first ∙ end_here s rank items at step repeats ends
 
@@ -91,15 +91,15 @@ flat_body s rank items start at step flat ends =
     flat.same ∙ ap (λ (u : Unrolled (Option Prim)). map Some flat.prims ++ u.here) (one_end s rank items at step ends)
 
 -- what is left behind the passes of the innermost open repeat
-abbrev pub behind_passes : SetupView → ℕ → List Item → ℕ → List Open → List (Option Prim)
-behind_passes s rank items at around = left_of (unrolled_marks s rank (drop (at + 1) items)) (map (again s rank items) around)
+abbrev pub after_passes : SetupView → ℕ → List Item → ℕ → List Open → List (Option Prim)
+after_passes s rank items at around = left_of (unrolled_marks s rank (drop (at + 1) items)) (map (again s rank items) around)
 
 flat_left : (s : SetupView) (rank : ℕ) (items : List Item) (at step : ℕ) (repeats : List Open) (passes : ℕ) → EndsAt rank items at step → (front : IsFlatFront rank items at repeats passes)
-    → drop step (left_at s rank items at repeats) ≡ None ∷ (copies passes (flat_pass (front.flat s).prims) ++ behind_passes s rank items at front.around)
+    → drop step (left_at s rank items at repeats) ≡ None ∷ (copies passes (flat_pass (front.flat s).prims) ++ after_passes s rank items at front.around)
 flat_left s rank items at step repeats passes ends front =
     end_left s rank items at step repeats ends
-    ∙ ap (λ (r : List Open). None ∷ behind_end s rank items at r) front.front
-    ∙ ap (λ (body : List (Option Prim)). None ∷ (copies passes body ++ behind_passes s rank items at front.around)) (flat_body s rank items front.start at step (front.flat s) ends)
+    ∙ ap (λ (r : List Open). None ∷ after_end s rank items at r) front.front
+    ∙ ap (λ (body : List (Option Prim)). None ∷ (copies passes body ++ after_passes s rank items at front.around)) (flat_body s rank items front.start at step (front.flat s) ends)
 
 -- how many such passes come next
 pub no_passes : (left rest : List (Option Prim)) → left ≡ None ∷ rest → HasPasses left 0
@@ -108,10 +108,10 @@ no_passes left rest is = record { prims = []; rest = rest; same = is }
 pub passes_left : (s : SetupView) (rank : ℕ) (items : List Item) (at step : ℕ) (repeats : List Open) (left : List (Option Prim)) (passes : ℕ) → left ≡ drop step (left_at s rank items at repeats)
     → EndsAt rank items at step → (0 < passes → IsFlatFront rank items at repeats passes) → HasPasses left passes
 passes_left s rank items at step repeats left zero is ends front =
-    no_passes left (behind_end s rank items at repeats) (is ∙ end_left s rank items at step repeats ends)
+    no_passes left (after_end s rank items at repeats) (is ∙ end_left s rank items at step repeats ends)
 passes_left s rank items at step repeats left (suc passes) is ends front =
     let one = front (omega arith) in
-    record { prims = (one.flat s).prims; rest = behind_passes s rank items at one.around; same = is ∙ flat_left s rank items at step repeats (suc passes) ends one }
+    record { prims = (one.flat s).prims; rest = after_passes s rank items at one.around; same = is ∙ flat_left s rank items at step repeats (suc passes) ends one }
 
 -- they are left out, or there are none
 pub none_left_out : (left rest : List (Option Prim)) → left ≡ None ∷ rest → LeavesOut left left
@@ -123,22 +123,22 @@ left_out s rank items at step before after old new passes ends front is was now 
     record {
       passes = passes;
       prims = (front.flat s).prims;
-      rest = behind_passes s rank items at front.around;
+      rest = after_passes s rank items at front.around;
       was = was ∙ flat_left s rank items at step before passes ends front;
-      now = now ∙ end_left s rank items at step after ends ∙ ap (λ (r : List Open). None ∷ behind_end s rank items at r) (is ∙ ap last_pass front.front);
+      now = now ∙ end_left s rank items at step after ends ∙ ap (λ (r : List Open). None ∷ after_end s rank items at r) (is ∙ ap last_pass front.front);
     }
 
 -- the open repeats are those that were open
-open_last_by : (s : SetupView) (rank : ℕ) (items : List Item) (behind : List (List (Option Prim))) (start passes : ℕ) (around : List Open)
-    → AreOpen s rank items behind (record { start = start; left = passes } ∷ around) → AreOpen s rank items behind (record { start = start; left = 0 } ∷ around)
+open_last_by : (s : SetupView) (rank : ℕ) (items : List Item) (afterwards : List (List (Option Prim))) (start passes : ℕ) (around : List Open)
+    → AreOpen s rank items afterwards (record { start = start; left = passes } ∷ around) → AreOpen s rank items afterwards (record { start = start; left = 0 } ∷ around)
 open_last_by s rank items [] start passes around opens = tt
-open_last_by s rank items (next ∷ behind) start passes around opens = opens
+open_last_by s rank items (next ∷ afterwards) start passes around opens = opens
 
 pub open_last : (s : SetupView) (rank : ℕ) (items : List Item) (at : ℕ) (before after : List Open) (passes : ℕ) → IsFlatFront rank items at before passes → after ≡ last_pass before
     → AreOpenAt s rank items at before → AreOpenAt s rank items at after
 open_last s rank items at before after passes front is opens =
     let P : List Open → Type 0 = λ r. AreOpenAt s rank items at r in
-    subst P (sym (is ∙ ap last_pass front.front)) (open_last_by s rank items (unrolled_marks s rank (drop at items)).behind front.start passes front.around (subst P front.front opens))
+    subst P (sym (is ∙ ap last_pass front.front)) (open_last_by s rank items (unrolled_marks s rank (drop at items)).afterwards front.start passes front.around (subst P front.front opens))
 
 deep_last_by : (rank : ℕ) (items : List Item) (at start passes : ℕ) (around : List Open)
     → IsDeep rank items at (record { start = start; left = passes } ∷ around) → IsDeep rank items at (record { start = start; left = 0 } ∷ around)
@@ -162,8 +162,8 @@ pass_walked (p ∷ prims) [] rest after is none =
 pass_walked (p ∷ prims) (q ∷ walked) rest after is none =
     let parts : Some p ∷ (map Some prims ++ None ∷ rest) ≡ Some q ∷ (map Some walked ++ after) = is in
     let first : p ≡ q = cc in
-    let behind : map Some prims ++ None ∷ rest ≡ map Some walked ++ after = cc in
-    let more = pass_walked prims walked rest after behind none in
+    let afterwards : map Some prims ++ None ∷ rest ≡ map Some walked ++ after = cc in
+    let more = pass_walked prims walked rest after afterwards none in
     ((λ i. first i ∷ more.0 i), more.1)
 
 -- the first one of some passes

@@ -11,7 +11,7 @@ use Rattle.script_rules.specs.declared.effect.Nesting.TheVariants as nesting
 use Rattle.script_machine.specs.declared.course.Open.{Open}
 use Rattle.script_machine.specs.Depths.{IsDeep, IsIdleFrom, IsIdleTo, depth_after, depth_at}
 use Rattle.script_machine.specs.Program.{Act, Prim, Unrolled, acts_of, in_front, unrolled_marks, marks_by, marks_of, nesting_at, prims_of}
-use Rattle.script_machine.specs.Walk.{again, left_at, left_of, repeats_behind_begin}
+use Rattle.script_machine.specs.Walk.{again, left_at, left_of, repeats_after_begin}
 use Rattle.script_machine.proofs.Walks.DepthLaws.{depth_next, depth_past}
 use Rattle.script_machine.proofs.Walks.WalkLaws.{over_same, past_same, marked-at, marked-past}
 
@@ -27,14 +27,14 @@ idle_none s rank item idle =
     ap (λ (n : Nesting). marks_by n (prims_of s rank item)) (idle_stays rank item idle) ∙ ap (λ (l : List Prim). marks_by nesting.Stays l) (idle_prims s rank item idle)
 
 -- from a place on from which no item is one of the rank, nothing is made
-marked-idle : (s : SetupView) (rank : ℕ) (items : List Item) (end : ℕ) → IsIdleFrom rank items end → (more at : ℕ) → end ≤ at → length items ≤ at + more → unrolled_marks s rank (drop at items) ≡ record { here = []; behind = [] }
+marked-idle : (s : SetupView) (rank : ℕ) (items : List Item) (end : ℕ) → IsIdleFrom rank items end → (more at : ℕ) → end ≤ at → length items ≤ at + more → unrolled_marks s rank (drop at items) ≡ record { here = []; afterwards = [] }
 marked-idle s rank items end idle zero at past all = marked-past s rank items at (omega (arith, all))
 marked-idle s rank items end idle (suc more) at past all =
     by (marked-idle s rank items end idle more (at + 1) (omega (arith, past)) (omega (arith, all))) (slice_get_cases items at).1
   where
-    by : unrolled_marks s rank (drop (at + 1) items) ≡ record { here = []; behind = [] }
+    by : unrolled_marks s rank (drop (at + 1) items) ≡ record { here = []; afterwards = [] }
         → ((item : Item) × (at < length items) × (slice_get items at ≡ Some item) × (get_or items at item ≡ item)) ⊎ ((length items ≤ at) × (slice_get items at ≡ None))
-        → unrolled_marks s rank (drop at items) ≡ record { here = []; behind = [] }
+        → unrolled_marks s rank (drop at items) ≡ record { here = []; afterwards = [] }
     by on (inr none) = marked-past s rank items at none.0
     by on (inl found) =
         let item = found.0 in
@@ -67,7 +67,7 @@ left-first s rank items (suc at) idle = by (slice_get_cases items at).1 ∙ left
         let other = idle at item (omega arith) here in
         let next : suc at ≡ at + 1 = omega arith in
         ap (λ (n : ℕ). left_at s rank items n []) next
-        ∙ over_same s rank items at item [] [] here (ap length (idle_none s rank item other)) (sym (ap (λ (n : Nesting). repeats_behind_begin n at []) (idle_stays rank item other)))
+        ∙ over_same s rank items at item [] [] here (ap length (idle_none s rank item other)) (sym (ap (λ (n : Nesting). repeats_after_begin n at []) (idle_stays rank item other)))
 
 -- and as many repeats are open there as at the end
 depth-idle : (rank : ℕ) (items : List Item) (end : ℕ) → IsIdleFrom rank items end → (more at : ℕ) → end ≤ at → length items ≤ at + more → depth_at rank items at ≡ depth_at rank items (length items)

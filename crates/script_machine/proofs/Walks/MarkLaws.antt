@@ -37,19 +37,19 @@ item_prims s rank item nesting.Stays is = some_prims (prims_of s rank item)
 
 -- what is made without the marks
 abbrev without : Unrolled (Option Prim) → Unrolled Prim
-without u = record { here = prims_in u.here; behind = map prims_in u.behind }
+without u = record { here = prims_in u.here; afterwards = map prims_in u.afterwards }
 
-without_repeated : (times : ℕ) (here : List (Option Prim)) (behind : List (List (Option Prim))) → without (unrolled_repeat times here behind) ≡ unrolled_repeat times (prims_in here) (map prims_in behind)
+without_repeated : (times : ℕ) (here : List (Option Prim)) (afterwards : List (List (Option Prim))) → without (unrolled_repeat times here afterwards) ≡ unrolled_repeat times (prims_in here) (map prims_in afterwards)
 without_repeated times here [] = refl
-without_repeated times here (next ∷ behind) =
+without_repeated times here (next ∷ afterwards) =
     let all = both_prims here (copies (times - 1) here ++ next) ∙ ap (λ (l : List Prim). prims_in here ++ l)
     (both_prims (copies (times - 1) here) next ∙ ap (λ (l : List Prim). l ++ prims_in next) (copied_prims (times - 1) here)) in
-    ap (λ (l : List Prim). record { here = l; behind = map prims_in behind }) all
+    ap (λ (l : List Prim). record { here = l; afterwards = map prims_in afterwards }) all
 
 without_front : (n : Nesting) (marks : List (Option Prim)) (u : Unrolled (Option Prim)) → without (in_front n marks u) ≡ in_front n (prims_in marks) (without u)
-without_front (nesting.Opens times) marks u = without_repeated times u.here u.behind
+without_front (nesting.Opens times) marks u = without_repeated times u.here u.afterwards
 without_front (nesting.Closes start) marks u = refl
-without_front nesting.Stays marks u = ap (λ (l : List Prim). record { here = l; behind = map prims_in u.behind }) (both_prims marks u.here)
+without_front nesting.Stays marks u = ap (λ (l : List Prim). record { here = l; afterwards = map prims_in u.afterwards }) (both_prims marks u.here)
 
 without_marks : (s : SetupView) (rank : ℕ) (items : List Item) → without (unrolled_marks s rank items) ≡ unrolled_items s rank items
 unfolding unrolled_marks unrolled_items

@@ -7,7 +7,7 @@ use Rattle.script_rules.specs.declared.effect.Nesting.{Nesting}
 use Rattle.script_rules.specs.declared.effect.Nesting.TheVariants as nesting
 use Rattle.script_machine.specs.declared.course.Open.{Open}
 use Rattle.script_machine.specs.Program.{Prim}
-use Rattle.script_machine.specs.Walk.{HasMoreMarks, IsStand, is_closing, is_end, is_pass_end, left_at, passed_to, repeats_behind_marks}
+use Rattle.script_machine.specs.Walk.{HasMoreMarks, IsStand, is_closing, is_end, is_pass_end, left_at, passed_to, repeats_after_marks}
 use Rattle.script_machine.proofs.Walks.WalkLaws.{at_end, nothing_past, stands_there}
 
 -- behind the marks of an item that ends no pass the next item stands, and the same repeats are open
@@ -16,7 +16,7 @@ passed_on (nesting.Opens times) at end repeats other = refl
 passed_on (nesting.Closes start) at end repeats other = absurd (cc)
 passed_on nesting.Stays at end repeats other = refl
 
-pub open_on : (n : Nesting) (repeats : List Open) → is_closing n ≡ false → repeats_behind_marks n repeats ≡ repeats
+pub open_on : (n : Nesting) (repeats : List Open) → is_closing n ≡ false → repeats_after_marks n repeats ≡ repeats
 open_on (nesting.Opens times) repeats other = refl
 open_on (nesting.Closes start) repeats other = absurd (cc)
 open_on nesting.Stays repeats other = refl

@@ -17,23 +17,23 @@ module _ (Holds : List Prim → Type 0) (empty : Holds []) (both : (one two : Li
 
   record HoldsIn (u : Unrolled Prim) : Type 0 where
     here : Holds u.here
-    behind : AllHold u.behind
+    afterwards : AllHold u.afterwards
 
-  hold_repeated : (times : ℕ) (body : List Prim) (behind : List (List Prim)) → Holds body → AllHold behind → HoldsIn (unrolled_repeat times body behind)
-  hold_repeated times body [] one rest = record { here = one; behind = tt }
-  hold_repeated times body (next ∷ behind) one rest = record {
+  hold_repeated : (times : ℕ) (body : List Prim) (afterwards : List (List Prim)) → Holds body → AllHold afterwards → HoldsIn (unrolled_repeat times body afterwards)
+  hold_repeated times body [] one rest = record { here = one; afterwards = tt }
+  hold_repeated times body (next ∷ afterwards) one rest = record {
     here = both body (copies (times - 1) body ++ next) one (both (copies (times - 1) body) next (hold_copies (times - 1) body one) rest.0);
-    behind = rest.1;
+    afterwards = rest.1;
   }
 
   hold_front : (n : Nesting) (prims : List Prim) (u : Unrolled Prim) → Holds prims → HoldsIn u → HoldsIn (in_front n prims u)
-  hold_front (nesting.Opens times) prims u each all = hold_repeated times u.here u.behind all.here all.behind
-  hold_front (nesting.Closes start) prims u each all = record { here = each; behind = (all.here, all.behind) }
-  hold_front nesting.Stays prims u each all = record { here = both prims u.here each all.here; behind = all.behind }
+  hold_front (nesting.Opens times) prims u each all = hold_repeated times u.here u.afterwards all.here all.afterwards
+  hold_front (nesting.Closes start) prims u each all = record { here = each; afterwards = (all.here, all.afterwards) }
+  hold_front nesting.Stays prims u each all = record { here = both prims u.here each all.here; afterwards = all.afterwards }
 
   hold_unrolled : (s : SetupView) (rank : ℕ) (items : List Item) → ((k : ℕ) (item : Item) → slice_get items k ≡ Some item → Holds (prims_of s rank item)) → HoldsIn (unrolled_items s rank items)
   unfolding unrolled_items
-  hold_unrolled s rank [] each = record { here = empty; behind = tt }
+  hold_unrolled s rank [] each = record { here = empty; afterwards = tt }
   hold_unrolled s rank (item ∷ items) each =
       hold_front (nesting_at rank item) (prims_of s rank item) (unrolled_items s rank items) (each 0 item refl) (hold_unrolled s rank items (λ k other found. each (suc k) other found))
 

@@ -22,7 +22,7 @@ use Rattle.script_rules.specs.declared.effect.Nesting.TheVariants as nesting
 use Rattle.script_machine.specs.declared.prims.Operands.{Operands}
 use Rattle.script_machine.specs.declared.course.Open.{Open}
 use Rattle.script_machine.specs.Program.{Act, Prim, Unrolled, acts_of, begins, call_steps, can_call, copies, in_front, unrolled_marks, marks_by, marks_in, marks_of, nesting_at, part_of, parts_of, prims_of, unrolled_repeat, setup_of}
-use Rattle.script_machine.specs.Walk.{AreOpen, AreOpenAt, HasMore, is_closing, is_end, HasMoreMarks, again, closed_by, left_at, left_of, next_pass, repeats_behind_begin, repeats_behind_marks, passed_to, woven}
+use Rattle.script_machine.specs.Walk.{AreOpen, AreOpenAt, HasMore, is_closing, is_end, HasMoreMarks, again, closed_by, left_at, left_of, next_pass, repeats_after_begin, repeats_after_marks, passed_to, woven}
 
 -- the k-th of the parts of a collective call
 pub part_at : (o : Operands) (steps : List Step) (k : ℕ) (step : Step) → slice_get steps k ≡ Some step → slice_get (parts_of o steps) k ≡ Some (part_of o (begins steps) step)
@@ -45,22 +45,22 @@ module _ (s : SetupView) (rank : ℕ) where
       ∙ ap (λ (x : Item). in_front (nesting_at rank x) (marks_of s rank x) (unrolled_marks s rank (drop (at + 1) items))) (get_or_from_slice_get items at item item here)
 
   -- past the last item nothing is made
-  pub marked-past : (items : List Item) (at : ℕ) → length items ≤ at → unrolled_marks s rank (drop at items) ≡ record { here = []; behind = [] }
+  pub marked-past : (items : List Item) (at : ℕ) → length items ≤ at → unrolled_marks s rank (drop at items) ≡ record { here = []; afterwards = [] }
   unfolding unrolled_marks
   marked-past items at past = at_drop_all (unrolled_marks s rank) items at past
 
 -- what is left goes on behind what comes first
-woven-append : (marks here : List (Option Prim)) (behind more : List (List (Option Prim))) → woven (marks ++ here) behind more ≡ marks ++ woven here behind more
+woven-append : (marks here : List (Option Prim)) (afterwards more : List (List (Option Prim))) → woven (marks ++ here) afterwards more ≡ marks ++ woven here afterwards more
 woven-append marks here [] more = refl
-woven-append marks here (next ∷ behind) [] = refl
-woven-append marks here (next ∷ behind) (passes ∷ more) = append_assoc marks here _
+woven-append marks here (next ∷ afterwards) [] = refl
+woven-append marks here (next ∷ afterwards) (passes ∷ more) = append_assoc marks here _
 
 -- a repeat is one pass, and then the further ones
-woven-repeated : (times : ℕ) (here : List (Option Prim)) (behind more : List (List (Option Prim))) → left_of (unrolled_repeat times here behind) more ≡ woven here behind (copies (times - 1) here ∷ more)
+woven-repeated : (times : ℕ) (here : List (Option Prim)) (afterwards more : List (List (Option Prim))) → left_of (unrolled_repeat times here afterwards) more ≡ woven here afterwards (copies (times - 1) here ∷ more)
 woven-repeated times here [] more = refl
-woven-repeated times here (next ∷ behind) more =
-    woven-append here (copies (times - 1) here ++ next) behind more
-    ∙ ap (λ (l : List (Option Prim)). here ++ l) (woven-append (copies (times - 1) here) next behind more)
+woven-repeated times here (next ∷ afterwards) more =
+    woven-append here (copies (times - 1) here ++ next) afterwards more
+    ∙ ap (λ (l : List (Option Prim)). here ++ l) (woven-append (copies (times - 1) here) next afterwards more)
 
 -- past the end of the items nothing is left
 left-past : (s : SetupView) (rank : ℕ) (items : List Item) (at : ℕ) (repeats : List Open) → length items ≤ at → left_at s rank items at repeats ≡ []
@@ -68,7 +68,7 @@ left-past s rank items at repeats past = ap (λ (u : Unrolled (Option Prim)). le
 
 pub open-past : (s : SetupView) (rank : ℕ) (items : List Item) (at : ℕ) (repeats : List Open) → length items ≤ at → AreOpenAt s rank items at repeats
 open-past s rank items at repeats past =
-    let P : Unrolled (Option Prim) → Type 0 = λ u. AreOpen s rank items u.behind repeats in
+    let P : Unrolled (Option Prim) → Type 0 = λ u. AreOpen s rank items u.afterwards repeats in
     subst P (sym (marked-past s rank items at past)) tt
 
 stays_opens : (times : ℕ) → nesting.Stays ≡ nesting.Opens times → ⊥
@@ -113,35 +113,35 @@ empty [] none = refl
 empty (x ∷ marks) none = absurd (omega (arith, none))
 
 -- the repeats that stand open in a repeat
-entered : (s : SetupView) (rank : ℕ) (items : List Item) (start times : ℕ) (repeats : List Open) (here : List (Option Prim)) (behind : List (List (Option Prim))) → unrolled_marks s rank (drop start items) ≡ record { here = here; behind = behind } → AreOpen s rank items (unrolled_repeat times here behind).behind repeats → AreOpen s rank items behind (record { start = start; left = times - 1 } ∷ repeats)
+entered : (s : SetupView) (rank : ℕ) (items : List Item) (start times : ℕ) (repeats : List Open) (here : List (Option Prim)) (afterwards : List (List (Option Prim))) → unrolled_marks s rank (drop start items) ≡ record { here = here; afterwards = afterwards } → AreOpen s rank items (unrolled_repeat times here afterwards).afterwards repeats → AreOpen s rank items afterwards (record { start = start; left = times - 1 } ∷ repeats)
 entered s rank items start times repeats here [] is opens = tt
-entered s rank items start times repeats here (next ∷ behind) is opens = (ap (λ (u : Unrolled (Option Prim)). u.behind) is, opens)
+entered s rank items start times repeats here (next ∷ afterwards) is opens = (ap (λ (u : Unrolled (Option Prim)). u.afterwards) is, opens)
 
 -- over an item that has no primitives
 over_by : (s : SetupView) (rank : ℕ) (items : List Item) (at : ℕ) (item : Item) (repeats : List Open) (n : Nesting) → slice_get items at ≡ Some item → nesting_at rank item ≡ n → length (marks_of s rank item) ≡ 0
-    → (left_at s rank items (at + 1) (repeats_behind_begin n at repeats) ≡ left_at s rank items at repeats) × (AreOpenAt s rank items at repeats → AreOpenAt s rank items (at + 1) (repeats_behind_begin n at repeats))
+    → (left_at s rank items (at + 1) (repeats_after_begin n at repeats) ≡ left_at s rank items at repeats) × (AreOpenAt s rank items at repeats → AreOpenAt s rank items (at + 1) (repeats_after_begin n at repeats))
 over_by s rank items at item repeats nesting.Stays here is none =
     let u = unrolled_marks s rank (drop (at + 1) items) in
     let now : unrolled_marks s rank (drop at items) ≡ u =
     marked-at s rank items at item here ∙ ap (λ (n : Nesting). in_front n (marks_of s rank item) u) is ∙ ap (λ (l : List (Option Prim)). in_front nesting.Stays l u) (empty (marks_of s rank item) none) in
-    let P : Unrolled (Option Prim) → Type 0 = λ v. AreOpen s rank items v.behind repeats in
+    let P : Unrolled (Option Prim) → Type 0 = λ v. AreOpen s rank items v.afterwards repeats in
     (ap (λ (v : Unrolled (Option Prim)). left_of v (map (again s rank items) repeats)) (sym now), λ opens. subst P now opens)
 over_by s rank items at item repeats (nesting.Opens times) here is none =
     let u = unrolled_marks s rank (drop (at + 1) items) in
-    let now : unrolled_marks s rank (drop at items) ≡ unrolled_repeat times u.here u.behind =
+    let now : unrolled_marks s rank (drop at items) ≡ unrolled_repeat times u.here u.afterwards =
     marked-at s rank items at item here ∙ ap (λ (n : Nesting). in_front n (marks_of s rank item) u) is in
-    let P : Unrolled (Option Prim) → Type 0 = λ v. AreOpen s rank items v.behind repeats in (
-      sym (ap (λ (v : Unrolled (Option Prim)). left_of v (map (again s rank items) repeats)) now ∙ woven-repeated times u.here u.behind (map (again s rank items) repeats)),
-      λ opens. entered s rank items (at + 1) times repeats u.here u.behind refl (subst P now opens),
+    let P : Unrolled (Option Prim) → Type 0 = λ v. AreOpen s rank items v.afterwards repeats in (
+      sym (ap (λ (v : Unrolled (Option Prim)). left_of v (map (again s rank items) repeats)) now ∙ woven-repeated times u.here u.afterwards (map (again s rank items) repeats)),
+      λ opens. entered s rank items (at + 1) times repeats u.here u.afterwards refl (subst P now opens),
     )
 over_by s rank items at item repeats (nesting.Closes start) here is none =
     absurd (omega (arith, none, closes_by s rank item start is))
 
-pub over_same : (s : SetupView) (rank : ℕ) (items : List Item) (at : ℕ) (item : Item) (before after : List Open) → slice_get items at ≡ Some item → length (marks_of s rank item) ≡ 0 → after ≡ repeats_behind_begin (nesting_at rank item) at before → left_at s rank items (at + 1) after ≡ left_at s rank items at before
+pub over_same : (s : SetupView) (rank : ℕ) (items : List Item) (at : ℕ) (item : Item) (before after : List Open) → slice_get items at ≡ Some item → length (marks_of s rank item) ≡ 0 → after ≡ repeats_after_begin (nesting_at rank item) at before → left_at s rank items (at + 1) after ≡ left_at s rank items at before
 over_same s rank items at item before after here none now =
     ap (left_at s rank items (at + 1)) now ∙ (over_by s rank items at item before (nesting_at rank item) here refl none).0
 
-pub over_open : (s : SetupView) (rank : ℕ) (items : List Item) (at : ℕ) (item : Item) (before after : List Open) → slice_get items at ≡ Some item → length (marks_of s rank item) ≡ 0 → after ≡ repeats_behind_begin (nesting_at rank item) at before → AreOpenAt s rank items at before → AreOpenAt s rank items (at + 1) after
+pub over_open : (s : SetupView) (rank : ℕ) (items : List Item) (at : ℕ) (item : Item) (before after : List Open) → slice_get items at ≡ Some item → length (marks_of s rank item) ≡ 0 → after ≡ repeats_after_begin (nesting_at rank item) at before → AreOpenAt s rank items at before → AreOpenAt s rank items (at + 1) after
 over_open s rank items at item before after here none now opens =
     let P : List Open → Type 0 = λ r. AreOpenAt s rank items (at + 1) r in
     subst P (sym now) ((over_by s rank items at item before (nesting_at rank item) here refl none).1 opens)
@@ -153,7 +153,7 @@ front_by s rank items at item repeats nesting.Stays here is some =
     let now : unrolled_marks s rank (drop at items) ≡ in_front nesting.Stays (marks_of s rank item) u =
     marked-at s rank items at item here ∙ ap (λ (n : Nesting). in_front n (marks_of s rank item) u) is in (
       left_of u (map (again s rank items) repeats),
-      ap (λ (v : Unrolled (Option Prim)). left_of v (map (again s rank items) repeats)) now ∙ woven-append (marks_of s rank item) u.here u.behind (map (again s rank items) repeats),
+      ap (λ (v : Unrolled (Option Prim)). left_of v (map (again s rank items) repeats)) now ∙ woven-append (marks_of s rank item) u.here u.afterwards (map (again s rank items) repeats),
     )
 front_by s rank items at item repeats (nesting.Opens times) here is some =
     absurd (omega (arith, some, opens_by s rank item times is))
@@ -166,7 +166,7 @@ front_by s rank items at item (o ∷ repeats) (nesting.Closes start) here is som
     let u = unrolled_marks s rank (drop (at + 1) items) in
     let now : unrolled_marks s rank (drop at items) ≡ in_front (nesting.Closes start) (marks_of s rank item) u =
     marked-at s rank items at item here ∙ ap (λ (n : Nesting). in_front n (marks_of s rank item) u) is in
-    (again s rank items o ++ woven u.here u.behind (map (again s rank items) repeats), ap (λ (v : Unrolled (Option Prim)). left_of v (map (again s rank items) (o ∷ repeats))) now)
+    (again s rank items o ++ woven u.here u.afterwards (map (again s rank items) repeats), ap (λ (v : Unrolled (Option Prim)). left_of v (map (again s rank items) (o ∷ repeats))) now)
 
 get_within : (marks rest : List (Option Prim)) (step : ℕ) (mark : Option Prim) → slice_get marks step ≡ Some mark → slice_get (drop step (marks ++ rest)) 0 ≡ Some mark
 get_within [] rest step mark here = absurd (cc)
@@ -277,11 +277,11 @@ nothing_past s rank items at step repeats past = ap (drop step) (left-past s ran
 
 -- behind the end of a pass
 next_by : (s : SetupView) (rank : ℕ) (items : List Item) (at end start left : ℕ) (repeats : List Open) (u : Unrolled (Option Prim)) → unrolled_marks s rank (drop (at + 1) items) ≡ u
-    → ((unrolled_marks s rank (drop start items)).behind ≡ u.here ∷ u.behind) × AreOpen s rank items u.behind repeats
+    → ((unrolled_marks s rank (drop start items)).afterwards ≡ u.here ∷ u.afterwards) × AreOpen s rank items u.afterwards repeats
     → (left_at s rank items (next_pass at start left) (closed_by start left repeats) ≡ copies left (unrolled_marks s rank (drop start items)).here ++ left_of u (map (again s rank items) repeats))
     × AreOpenAt s rank items (next_pass at start left) (closed_by start left repeats)
 next_by s rank items at end start zero repeats u is opens =
-    let P : Unrolled (Option Prim) → Type 0 = λ v. AreOpen s rank items v.behind repeats in
+    let P : Unrolled (Option Prim) → Type 0 = λ v. AreOpen s rank items v.afterwards repeats in
     (ap (λ (v : Unrolled (Option Prim)). left_of v (map (again s rank items) repeats)) is, subst P (sym is) opens.1)
 next_by s rank items at end start (suc left) repeats u is opens =
     let body = unrolled_marks s rank (drop start items) in
@@ -292,50 +292,50 @@ next_by s rank items at end start (suc left) repeats u is opens =
     )
 
 -- the place behind an item that has primitives
-behind_by : (s : SetupView) (rank : ℕ) (items : List Item) (at end : ℕ) (item : Item) (repeats : List Open) (n : Nesting) → slice_get items at ≡ Some item → nesting_at rank item ≡ n → 0 < length (marks_of s rank item) → length items ≤ end → AreOpenAt s rank items at repeats
-    → (left_at s rank items (passed_to n at end repeats) (repeats_behind_marks n repeats) ≡ drop (length (marks_of s rank item)) (left_at s rank items at repeats)) × AreOpenAt s rank items (passed_to n at end repeats) (repeats_behind_marks n repeats)
-behind_by s rank items at end item repeats nesting.Stays here is some past opens =
+after_by : (s : SetupView) (rank : ℕ) (items : List Item) (at end : ℕ) (item : Item) (repeats : List Open) (n : Nesting) → slice_get items at ≡ Some item → nesting_at rank item ≡ n → 0 < length (marks_of s rank item) → length items ≤ end → AreOpenAt s rank items at repeats
+    → (left_at s rank items (passed_to n at end repeats) (repeats_after_marks n repeats) ≡ drop (length (marks_of s rank item)) (left_at s rank items at repeats)) × AreOpenAt s rank items (passed_to n at end repeats) (repeats_after_marks n repeats)
+after_by s rank items at end item repeats nesting.Stays here is some past opens =
     let u = unrolled_marks s rank (drop (at + 1) items) in
     let marks = marks_of s rank item in
     let now : unrolled_marks s rank (drop at items) ≡ in_front nesting.Stays marks u =
     marked-at s rank items at item here ∙ ap (λ (n : Nesting). in_front n marks u) is in
-    let P : Unrolled (Option Prim) → Type 0 = λ v. AreOpen s rank items v.behind repeats in (
+    let P : Unrolled (Option Prim) → Type 0 = λ v. AreOpen s rank items v.afterwards repeats in (
       sym (ap (λ (v : Unrolled (Option Prim)). drop (length marks) (left_of v (map (again s rank items) repeats))) now
-          ∙ ap (drop (length marks)) (woven-append marks u.here u.behind (map (again s rank items) repeats))
+          ∙ ap (drop (length marks)) (woven-append marks u.here u.afterwards (map (again s rank items) repeats))
           ∙ drop-append_seam marks (left_of u (map (again s rank items) repeats))),
       subst P now opens,
     )
-behind_by s rank items at end item repeats (nesting.Opens times) here is some past opens =
+after_by s rank items at end item repeats (nesting.Opens times) here is some past opens =
     absurd (omega (arith, some, opens_by s rank item times is))
-behind_by s rank items at end item [] (nesting.Closes start) here is some past opens =
+after_by s rank items at end item [] (nesting.Closes start) here is some past opens =
     let u = unrolled_marks s rank (drop (at + 1) items) in
     let marks = marks_of s rank item in
     let now : unrolled_marks s rank (drop at items) ≡ in_front (nesting.Closes start) marks u =
     marked-at s rank items at item here ∙ ap (λ (n : Nesting). in_front n marks u) is in
     (left-past s rank items end [] past ∙ sym (ap (λ (v : Unrolled (Option Prim)). drop (length marks) (left_of v [])) now ∙ drop_of_length-le marks (omega arith)), open-past s rank items end [] past)
-behind_by s rank items at end item (o ∷ repeats) (nesting.Closes start) here is some past opens =
+after_by s rank items at end item (o ∷ repeats) (nesting.Closes start) here is some past opens =
     let u = unrolled_marks s rank (drop (at + 1) items) in
     let marks = marks_of s rank item in
     let now : unrolled_marks s rank (drop at items) ≡ in_front (nesting.Closes start) marks u =
     marked-at s rank items at item here ∙ ap (λ (n : Nesting). in_front n marks u) is in
-    let P : Unrolled (Option Prim) → Type 0 = λ v. AreOpen s rank items v.behind (o ∷ repeats) in
+    let P : Unrolled (Option Prim) → Type 0 = λ v. AreOpen s rank items v.afterwards (o ∷ repeats) in
     let was : drop (length marks) (left_at s rank items at (o ∷ repeats)) ≡ again s rank items o ++ left_of u (map (again s rank items) repeats) =
     ap (λ (v : Unrolled (Option Prim)). drop (length marks) (left_of v (map (again s rank items) (o ∷ repeats)))) now ∙ drop-append_seam marks (again s rank items o ++ left_of u (map (again s rank items) repeats)) in
     let next = next_by s rank items at end o.start o.left repeats u refl (subst P now opens) in
     (next.0 ∙ sym was, next.1)
 
-pub behind_same : (s : SetupView) (rank : ℕ) (items : List Item) (at end to : ℕ) (item : Item) (before after : List Open) → slice_get items at ≡ Some item → 0 < length (marks_of s rank item) → length items ≤ end → AreOpenAt s rank items at before → to ≡ passed_to (nesting_at rank item) at end before → after ≡ repeats_behind_marks (nesting_at rank item) before
+pub after_same : (s : SetupView) (rank : ℕ) (items : List Item) (at end to : ℕ) (item : Item) (before after : List Open) → slice_get items at ≡ Some item → 0 < length (marks_of s rank item) → length items ≤ end → AreOpenAt s rank items at before → to ≡ passed_to (nesting_at rank item) at end before → after ≡ repeats_after_marks (nesting_at rank item) before
     → left_at s rank items to after ≡ drop (length (marks_of s rank item)) (left_at s rank items at before)
-behind_same s rank items at end to item before after here some past opens goes now =
+after_same s rank items at end to item before after here some past opens goes now =
     ap (λ (n : ℕ). left_at s rank items n after) goes ∙ ap (left_at s rank items (passed_to (nesting_at rank item) at end before)) now
-    ∙ (behind_by s rank items at end item before (nesting_at rank item) here refl some past opens).0
+    ∙ (after_by s rank items at end item before (nesting_at rank item) here refl some past opens).0
 
-pub behind_open : (s : SetupView) (rank : ℕ) (items : List Item) (at end to : ℕ) (item : Item) (before after : List Open) → slice_get items at ≡ Some item → 0 < length (marks_of s rank item) → length items ≤ end → AreOpenAt s rank items at before → to ≡ passed_to (nesting_at rank item) at end before → after ≡ repeats_behind_marks (nesting_at rank item) before
+pub after_open : (s : SetupView) (rank : ℕ) (items : List Item) (at end to : ℕ) (item : Item) (before after : List Open) → slice_get items at ≡ Some item → 0 < length (marks_of s rank item) → length items ≤ end → AreOpenAt s rank items at before → to ≡ passed_to (nesting_at rank item) at end before → after ≡ repeats_after_marks (nesting_at rank item) before
     → AreOpenAt s rank items to after
-behind_open s rank items at end to item before after here some past opens goes now =
+after_open s rank items at end to item before after here some past opens goes now =
     let P : ℕ → Type 0 = λ n. AreOpenAt s rank items n after in
     let Q : List Open → Type 0 = λ r. AreOpenAt s rank items (passed_to (nesting_at rank item) at end before) r in
-    subst P (sym goes) (subst Q (sym now) (behind_by s rank items at end item before (nesting_at rank item) here refl some past opens).1)
+    subst P (sym goes) (subst Q (sym now) (after_by s rank items at end item before (nesting_at rank item) here refl some past opens).1)
 
 -- past the end all places are one
 pub past_same : (s : SetupView) (rank : ℕ) (items : List Item) (at to : ℕ) (repeats : List Open) → length items ≤ at → length items ≤ to → left_at s rank items to repeats ≡ left_at s rank items at repeats
@@ -346,18 +346,18 @@ pub all_left : (s : SetupView) (rank : ℕ) (items : List Item) → left_at s ra
 all_left s rank items = no_more (unrolled_marks s rank items)
   where
     no_more : (u : Unrolled (Option Prim)) → left_of u [] ≡ u.here
-    no_more u = none u.here u.behind
+    no_more u = none u.here u.afterwards
       where
-        none : (here : List (Option Prim)) (behind : List (List (Option Prim))) → woven here behind [] ≡ here
+        none : (here : List (Option Prim)) (afterwards : List (List (Option Prim))) → woven here afterwards [] ≡ here
         none here [] = refl
-        none here (next ∷ behind) = refl
+        none here (next ∷ afterwards) = refl
 
 pub none_open : (s : SetupView) (rank : ℕ) (items : List Item) (at : ℕ) → AreOpenAt s rank items at []
-none_open s rank items at = none (unrolled_marks s rank (drop at items)).behind
+none_open s rank items at = none (unrolled_marks s rank (drop at items)).afterwards
   where
-    none : (behind : List (List (Option Prim))) → AreOpen s rank items behind []
+    none : (afterwards : List (List (Option Prim))) → AreOpen s rank items afterwards []
     none [] = tt
-    none (next ∷ behind) = tt
+    none (next ∷ afterwards) = tt
 
 -- past the last primitive of an item
 pub last_done : (l : List (Option Prim)) (step count : ℕ) → step < count → count ≤ step + 1 → drop count l ≡ drop 1 (drop step l)

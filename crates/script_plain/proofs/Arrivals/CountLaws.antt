@@ -77,7 +77,7 @@ module _ (script : Script) (rank : ℕ) (f g : State → ℕ) (a b : Act → ℕ
       let one = conserved f a by_f stood.way (start_of_rank script rank) refl in
       let two = conserved g b by_g stood.way (start_of_rank script rank) refl in
       let all = made_alike (program_of script rank) (program_made script rank) in
-      let rest = made_alike stood.rest stood.behind in
+      let rest = made_alike stood.rest stood.afterwards in
       let here = same statement in
       let first : total_left a u.local.left ≡ total_of a (acts_of (setup_of script) rank statement) + total_left a stood.rest = ap (total_left a) stood.next ∙ left_both a stood.item.line (acts_of (setup_of script) rank statement) stood.rest in
       let second : total_left b u.local.left ≡ total_of b (acts_of (setup_of script) rank statement) + total_left b stood.rest = ap (total_left b) stood.next ∙ left_both b stood.item.line (acts_of (setup_of script) rank statement) stood.rest in

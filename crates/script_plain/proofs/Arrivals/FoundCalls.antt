@@ -37,7 +37,7 @@ module _ (script : Script) (rank : ℕ) (measure : State → ℕ) (adds : Act �
 
   goes_on : (item : Item) (rest : List Prim) (u : State) (path : List (List ℕ)) → IsOfRank script.items rank item → MadeByItems (setup_of script) rank script.items rest → Facing item.line (acts_of (setup_of script) rank item.stmt) rest u
       → length path ≤ length (acts_of (setup_of script) rank item.stmt) → Sought u → Sought (gone_through path u)
-  goes_on item rest u path is behind facing low sought = record {
+  goes_on item rest u path is afterwards facing low sought = record {
     way = sought.way ++ path;
     reached = ap (gone_through path) sought.reached ∙ sym (through_both sought.way path (start_of_rank script rank));
     found = ⊎_elim (λ (few : measure u ≤ n). by few (makes item.stmt)) (λ (f : Found u). inr (more f)) sought.found;
@@ -64,7 +64,7 @@ module _ (script : Script) (rank : ℕ) (measure : State → ℕ) (adds : Act �
         statement = item.stmt;
         such = such;
         begun = u;
-        stood = record { way = sought.way; reached = sought.reached; item = item; listed = is; says = refl; rest = rest; behind = behind; running = facing.running; next = facing.left };
+        stood = record { way = sought.way; reached = sought.reached; item = item; listed = is; says = refl; rest = rest; afterwards = afterwards; running = facing.running; next = facing.left };
         later = path;
         since = refl;
         number = number;

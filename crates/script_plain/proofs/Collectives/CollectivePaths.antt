@@ -9,7 +9,7 @@ use Rattle.std.proofs.lemmas.Option.{same_Some, slice_get_past}
 use Rattle.scc_base.specs.Calls.{DataCall, Message}
 use Rattle.scc_base.specs.Calls.DataCall.{Send}
 use Rattle.scc_base.specs.Heads.{MessageHead}
-use Rattle.groups.proofs.StepLemmas.{get_front, get_behind}
+use Rattle.groups.proofs.StepLemmas.{get_front, get_after}
 use Rattle.script_machine.specs.declared.prims.Source.{Source}
 use Rattle.script_machine.specs.declared.prims.Source.TheVariants as source_of
 use Rattle.script_machine.specs.declared.prims.Standing.TheVariants as standing
@@ -47,7 +47,7 @@ chosen_one test part calls call m one passes =
 
 -- the entry behind a list
 pub get_last : (l : List Message) (m : Message) → slice_get (l ++ m ∷ []) (length l) ≡ Some m
-get_last l m = get_behind l (m ∷ []) (length l) 0 m (omega arith) refl
+get_last l m = get_after l (m ∷ []) (length l) 0 m (omega arith) refl
 
 -- what a rank has done is never undone
 pub grows_by : (bytes : List ℕ) (u : State) (n : Next State) → Logs u.matched n → (more : List DataCall) × ((gone_by bytes u n).matched ≡ u.matched ++ more)

@@ -274,5 +274,5 @@ module _ (script : Script) where
         cause = subst (λ (e : Ended). HasCause (keys_of script) (plain_ends script) rank e.end) (sym ended_is)
             (cause_local rank slot u.local (all.cells rank u at).1 aims (λ comm is.
             member_absent comm rank below (stands_by comm rank u at ∙ recorded_barrier comm u.matched (local_next u.local) ∙ is)));
-        on_its_way = subst (λ (e : Ended). IfSome e.on_its_way (λ to. IsPeer (length (plain_ends script)) rank to)) (sym ended_is) (slot_way rank slot aims);
+        in_flight = subst (λ (e : Ended). IfSome e.in_flight (λ to. IsPeer (length (plain_ends script)) rank to)) (sym ended_is) (slot_way rank slot aims);
       }

@@ -53,16 +53,16 @@ module _ (script : Script) (rank : ℕ) (statement : Stmt) (rest : List Prim) (u
       let sum : length (there.front ++ (made ++ rest)) ≡ length there.front + (length acts + length rest) =
       length-append there.front (made ++ rest) ∙ ap (λ (n : ℕ). length there.front + n) (length-append made rest ∙ ap (λ (n : ℕ). n + length rest) (length-map acts _)) in
       let left : length (gone_through path start).local.left ≡ length u.local.left = sym (ap length far.1) in
-      let (one, behind, first, even) = split_at (length there.front) path (omega (arith, long, sum, left, few)) in
-      let size : length path ≡ length one + length behind = ap length first ∙ length-append one behind in
-      let (two, three, second, equal) = split_at (length acts) behind (omega (arith, long, sum, left, few, size, even)) in
+      let (one, afterwards, first, even) = split_at (length there.front) path (omega (arith, long, sum, left, few)) in
+      let size : length path ≡ length one + length afterwards = ap length first ∙ length-append one afterwards in
+      let (two, three, second, equal) = split_at (length acts) afterwards (omega (arith, long, sum, left, few, size, even)) in
       let before = gone_through one start in
       let after = gone_through two before in
       let stood = past_all there.front (made ++ rest) one start even whole in
       let passed = past_all made rest two before (equal ∙ sym (length-map acts _)) stood in
       let way : gone_through path start ≡ gone_through three after =
       ap (λ (p : List (List ℕ)). gone_through p start) first
-      ∙ through_both one behind start
+      ∙ through_both one afterwards start
       ∙ ap (λ (p : List (List ℕ)). gone_through p before) second
       ∙ through_both two three before in
       let has : HasDone script rank there.item.stmt u before after = record {
@@ -73,7 +73,7 @@ module _ (script : Script) (rank : ℕ) (statement : Stmt) (rest : List Prim) (u
           listed = there.listed;
           says = refl;
           rest = rest;
-          behind = there.behind;
+          afterwards = there.afterwards;
           running = stood.running;
           next = stood.left_is;
         };

@@ -119,8 +119,8 @@ module _ (script : Script) (whole : IsWholeScript script.nue script.items) (rank
   too_few list none some = omega (arith, ap length none, some)
 
   -- the repeats that are open behind a statement
-  behind_is : (past : List Item) (item : Item) (s : Stmt) → item.stmt ≡ s → open_of (item ∷ past) ≡ repeats_after (effect_of s).nesting (length past) (open_of past)
-  behind_is past item s is = ap (λ (t : Stmt). repeats_after (effect_of t).nesting (length past) (open_of past)) is
+  after_is : (past : List Item) (item : Item) (s : Stmt) → item.stmt ≡ s → open_of (item ∷ past) ≡ repeats_after (effect_of s).nesting (length past) (open_of past)
+  after_is past item s is = ap (λ (t : Stmt). repeats_after (effect_of t).nesting (length past) (open_of past)) is
 
   -- behind a statement of other ranks
   outside : (past : List Item) (item : Item) → has_rank item.who rank ≡ false → 1 ≤ length (open_of (item ∷ past)) → Stands (item ∷ past) []
@@ -133,23 +133,23 @@ module _ (script : Script) (whole : IsWholeScript script.nue script.items) (rank
   beside_none : (past : List Item) (item : Item) → has_rank item.who rank ≡ false → IsPlaced past item → open_of past ≡ [] → Stands (item ∷ past) []
   beside_none past item has placed none =
       sorted (λ s. item.stmt ≡ s → Closes (open_of past) (effect_of s).nesting → Stands (item ∷ past) [])
-      (λ times end is closes. outside past item has (omega (arith, ap length (behind_is past item (stmt.Repeat times end) is), one_opened past times end (length past))))
+      (λ times end is closes. outside past item has (omega (arith, ap length (after_is past item (stmt.Repeat times end) is), one_opened past times end (length past))))
       (λ start is closes. absurd (too_few (open_of past) none closes.0))
-      (λ s other is closes. inside past item (behind_is past item s is ∙ other.opens (length past) past ∙ none))
+      (λ s other is closes. inside past item (after_is past item s is ∙ other.opens (length past) past ∙ none))
       item.stmt refl placed.closes
 
   -- one of others is open
   beside_some : (past : List Item) (item : Item) → has_rank item.who rank ≡ false → IsPlaced past item → 1 ≤ length (open_of past) → Stands (item ∷ past) []
   beside_some past item has placed some =
       sorted (λ s. item.stmt ≡ s → Stands (item ∷ past) [])
-      (λ times end is. outside past item has (omega (arith, ap length (behind_is past item (stmt.Repeat times end) is), one_opened past times end (length past))))
+      (λ times end is. outside past item has (omega (arith, ap length (after_is past item (stmt.Repeat times end) is), one_opened past times end (length past))))
       (λ start is.
-      let left = behind_is past item (stmt.End start) is in
+      let left = after_is past item (stmt.End start) is in
       elim (cases_lt 1 (length (open_of past))) [
         | inl many ↦ outside past item has (omega (arith, ap length left, length-take-le (length (open_of past) - 1) (open_of past) (omega arith), many))
         | inr one ↦ inside past item (none_of (open_of (item ∷ past)) (omega (arith, ap length left, length-take-le (length (open_of past) - 1) (open_of past) (omega arith), one)))
       ])
-      (λ s other is. outside past item has (omega (arith, ap length (behind_is past item s is ∙ other.opens (length past) past), some)))
+      (λ s other is. outside past item has (omega (arith, ap length (after_is past item s is ∙ other.opens (length past) past), some)))
       item.stmt refl
 
   -- a statement of other ranks: where the rank stood in repeats of its own, they were none
@@ -176,19 +176,19 @@ module _ (script : Script) (whole : IsWholeScript script.nue script.items) (rank
 
     own_repeat : (stack : List ℕ) → IsStack past stack → (times end : ℕ) → item.stmt ≡ stmt.Repeat times end → 1 ≤ times → Counts (turns * 0 + m) stack (in_front (nesting.Opens times) prims u)
     own_repeat stack stacked times end is once =
-        counts_repeated turns times m stack u.here u.behind (top_of past stack stacked) once
-        (on (turns * times ∷ stack) (ahead past item (turns * times ∷ stack) has (past, times, end, length past, behind_is past item (stmt.Repeat times end) is, refl, stacked)))
+        counts_repeated turns times m stack u.here u.afterwards (top_of past stack stacked) once
+        (on (turns * times ∷ stack) (ahead past item (turns * times ∷ stack) has (past, times, end, length past, after_is past item (stmt.Repeat times end) is, refl, stacked)))
 
     own_end : (stack : List ℕ) → IsStack past stack → (start : ℕ) → item.stmt ≡ stmt.End start → 1 ≤ length (open_of past) → length prims ≡ 1 → Counts (turns * 1 + m) stack (in_front (nesting.Closes start) prims u)
     own_end [] none start is some many = absurd (too_few (open_of past) none some)
     own_end (t ∷ stack) (before, times, end, place, repeats, turns_are, rest) start is some many =
-        let left : open_of (item ∷ past) ≡ open_of before = behind_is past item (stmt.End start) is ∙ ap (λ l. take (length l - 1) l) repeats ∙ popped (open_of before) _ in
+        let left : open_of (item ∷ past) ≡ open_of before = after_is past item (stmt.End start) is ∙ ap (λ l. take (length l - 1) l) repeats ∙ popped (open_of before) _ in
         counts_closes turns m t start stack prims u (top_of past (t ∷ stack) (before, times, end, place, repeats, turns_are, rest)) many
         (on stack (ahead past item stack has (same_stack (item ∷ past) before stack left rest)))
 
     own_other : (stack : List ℕ) → IsStack past stack → (s : Stmt) → IsOther s → item.stmt ≡ s → (cost : ℕ) → length prims ≡ cost → Counts (turns * cost + m) stack (in_front (effect_of s).nesting prims u)
     own_other stack stacked s other is cost many =
-        let left : open_of (item ∷ past) ≡ open_of past = behind_is past item s is ∙ other.opens (length past) past in
+        let left : open_of (item ∷ past) ≡ open_of past = after_is past item s is ∙ other.opens (length past) past in
         subst (λ (n : Nesting). Counts (turns * cost + m) stack (in_front n prims u)) (sym other.stays)
         (counts_stays turns cost m stack prims u (top_of past stack stacked) many (on stack (ahead past item stack has (same_stack (item ∷ past) past stack left stacked))))
 
@@ -225,7 +225,7 @@ module _ (script : Script) (whole : IsWholeScript script.nue script.items) (rank
       let c = on stack (beside past item stack has placed stands) in
       (omega (arith, c.0), c.1)
 
-  ended : (past : List Item) (stack : List ℕ) → open_of past ≡ [] → Stands past stack → Counts 0 stack (record { here = []; behind = [] })
+  ended : (past : List Item) (stack : List ℕ) → open_of past ≡ [] → Stands past stack → Counts 0 stack (record { here = []; afterwards = [] })
   ended past [] none stands = (refl, refl)
   ended past (t ∷ stack) none (Inside _ (before, times, end, place, is, turns, rest) own) = absurd (omega (arith, ap length none, ap length is, one_opened before times end place))
 

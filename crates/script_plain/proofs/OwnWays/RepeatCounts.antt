@@ -92,13 +92,13 @@ sorted P repeats ends others s = others s (record { opens = λ place past. refl;
 
 -- what stands behind the open repeats, each as often as it runs
 abbrev pub weigh : List ℕ → List (List (Option Prim)) → ℕ
-weigh [] behind = 0
+weigh [] afterwards = 0
 weigh (t ∷ stack) [] = 0
-weigh (t ∷ stack) (next ∷ behind) = top stack * length next + weigh stack behind
+weigh (t ∷ stack) (next ∷ afterwards) = top stack * length next + weigh stack afterwards
 
 -- what items make is as much as they cost
 abbrev pub Counts : ℕ → List ℕ → Unrolled (Option Prim) → Type 0
-Counts m stack u = (m ≡ top stack * length u.here + weigh stack u.behind) × (length u.behind ≡ length stack)
+Counts m stack u = (m ≡ top stack * length u.here + weigh stack u.afterwards) × (length u.afterwards ≡ length stack)
 
 pub counts_stays : (turns cost m : ℕ) (stack : List ℕ) (prims : List (Option Prim)) (u : Unrolled (Option Prim)) → turns ≡ top stack → length prims ≡ cost → Counts m stack u
     → Counts (turns * cost + m) stack (in_front nesting.Stays prims u)
@@ -122,10 +122,10 @@ passes t (suc k) b once =
     let all : t * suc k * b ≡ t * (k * b + b) = mul_assoc t (suc k) b ∙ ap (λ (n : ℕ). t * n) (suc-mul k b) in
     omega (arith, far, all, spread t (k * b) b)
 
-pub counts_repeated : (turns times m : ℕ) (stack : List ℕ) (here : List (Option Prim)) (behind : List (List (Option Prim))) → turns ≡ top stack → 1 ≤ times
-    → Counts m (turns * times ∷ stack) (record { here = here; behind = behind }) → Counts (turns * 0 + m) stack (unrolled_repeat times here behind)
+pub counts_repeated : (turns times m : ℕ) (stack : List ℕ) (here : List (Option Prim)) (afterwards : List (List (Option Prim))) → turns ≡ top stack → 1 ≤ times
+    → Counts m (turns * times ∷ stack) (record { here = here; afterwards = afterwards }) → Counts (turns * 0 + m) stack (unrolled_repeat times here afterwards)
 counts_repeated turns times m stack here [] is once c = absurd (omega (arith, c.1))
-counts_repeated turns times m stack here (next ∷ behind) is once c =
+counts_repeated turns times m stack here (next ∷ afterwards) is once c =
     let t = top stack in
     let b = length here in
     let rest = length (copies (times - 1) here ++ next) in

@@ -10,7 +10,7 @@ use Rattle.send_recv.specs.Bytes.{byte_of_line}
 pub record Puts (old : List ℕ) (at word : ℕ) (new : List ℕ) : Type 0 where
   pub put : (k : ℕ) → k < 8 → at + k < length old → slice_index new (at + k) ≡ byte_of_word word k
   pub before : (k : ℕ) → k < at → slice_index new k ≡ slice_index old k
-  pub behind : (k : ℕ) → at + 8 ≤ k → slice_index new k ≡ slice_index old k
+  pub afterwards : (k : ℕ) → at + 8 ≤ k → slice_index new k ≡ slice_index old k
   pub same : length new ≡ length old
 
 -- a byte of a line is one of the eight of one of its words
@@ -56,8 +56,8 @@ module _ (words : List ℕ) (at : ℕ) (s t u v w : List ℕ) (one : Puts s at (
   pub line_before : (k : ℕ) → k < at → slice_index w k ≡ slice_index s k
   line_before k low = four.before k (omega (arith, low)) ∙ three.before k (omega (arith, low)) ∙ two.before k (omega (arith, low)) ∙ one.before k low
 
-  pub line_behind : (k : ℕ) → at + 32 ≤ k → slice_index w k ≡ slice_index s k
-  line_behind k high = four.behind k (omega (arith, high)) ∙ three.behind k (omega (arith, high)) ∙ two.behind k (omega (arith, high)) ∙ one.behind k (omega (arith, high))
+  pub line_after : (k : ℕ) → at + 32 ≤ k → slice_index w k ≡ slice_index s k
+  line_after k high = four.afterwards k (omega (arith, high)) ∙ three.afterwards k (omega (arith, high)) ∙ two.afterwards k (omega (arith, high)) ∙ one.afterwards k (omega (arith, high))
 
 -- ---- a part of a message that is written as a slice of its own
 
@@ -77,8 +77,8 @@ module _ (xs ys : List ℕ) (at n : ℕ) (fits : at + n ≤ length xs) (long : l
   pub part_before : (k : ℕ) → k < at → slice_index whole k ≡ slice_index xs k
   part_before k low = get_or_append_left (take at xs) (ys ++ drop n (drop at xs)) 0 k (omega (arith, first, low)) ∙ get_or-take at xs k 0 low
 
-  pub part_behind : (k : ℕ) → at + n ≤ k → slice_index whole k ≡ slice_index xs k
-  part_behind k high =
+  pub part_after : (k : ℕ) → at + n ≤ k → slice_index whole k ≡ slice_index xs k
+  part_after k high =
       let there : at + (n + (k - at - n)) ≡ k = omega (arith, high) in
       get_or-append_right (take at xs) (ys ++ drop n (drop at xs)) at k 0 first (omega (arith, high))
       ∙ get_or-append_right ys (drop n (drop at xs)) n (k - at) 0 long (omega (arith, high))
@@ -106,7 +106,7 @@ le_byte word (suc (suc (suc (suc (suc (suc (suc (suc k)))))))) low = absurd (ome
 pub record IsPutting (old : List ℕ) (at word n : ℕ) (new : List ℕ) : Type 0 where
   pub put : (k : ℕ) → k < n → at + k < length new → slice_index new (at + k) ≡ byte_of_word word k
   pub before : (k : ℕ) → k < at → slice_index new k ≡ slice_index old k
-  pub behind : (k : ℕ) → at + n ≤ k → slice_index new k ≡ slice_index old k
+  pub afterwards : (k : ℕ) → at + n ≤ k → slice_index new k ≡ slice_index old k
 
 module _ (old new : List ℕ) (at word n : ℕ) (is : IsPutting old at word n new) where
   pub putting_more : (byte : ℕ) → byte ≡ byte_of_word word n → at + n < length new → IsPutting old at word (n + 1) (set new (at + n) byte)
@@ -119,14 +119,14 @@ module _ (old new : List ℕ) (at word n : ℕ) (is : IsPutting old at word n ne
     before = λ k below.
         let apart : k ≢ at + n = omega (arith, below) in
         get_or-set_other new (at + n) k byte 0 apart ∙ is.before k below;
-    behind = λ k high.
+    afterwards = λ k high.
         let apart : k ≢ at + n = omega (arith, high) in
-        get_or-set_other new (at + n) k byte 0 apart ∙ is.behind k (omega (arith, high));
+        get_or-set_other new (at + n) k byte 0 apart ∙ is.afterwards k (omega (arith, high));
   }
 
   pub putting_past : length new ≤ at + n → IsPutting old at word (n + 1) new
   putting_past end = record {
     put = below_more _ _ is.put (λ within. absurd (omega (arith, end, within)));
     before = is.before;
-    behind = λ k high. is.behind k (omega (arith, high));
+    afterwards = λ k high. is.afterwards k (omega (arith, high));
   }

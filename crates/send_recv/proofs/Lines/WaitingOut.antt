@@ -7,7 +7,7 @@ use Rattle.scc_base.specs.Setups.{IsSetup}
 use Rattle.scc_base.specs.Events.{store_of}
 use Rattle.scc_base.specs.declared.events.Event.{Event}
 use Rattle.scc_proto.specs.Messages.{Notes, note_word, header_word, Progress}
-use Rattle.scc_proto.specs.Stages.{Filling, Stage, Idle, Drafting, Sending, OnItsWay, Record}
+use Rattle.scc_proto.specs.Stages.{Filling, Stage, Idle, Drafting, Sending, InFlight, Record}
 use Rattle.scc_proto.specs.Moves.{draft_chunk}
 use Rattle.scc_proto.specs.Permission.{drafts_chunk}
 use Rattle.scc_proto.specs.Records.{chunk_of}
@@ -35,7 +35,7 @@ header_made seat rec head posted valid below none =
     let n3 : Notes = note_word 3 (header_word head posted 3) [] in
     let n2 = note_word 2 (header_word head posted 2) n3 in
     let n1 = note_word 1 (header_word head posted 1) n2 in
-    let may : (is_none rec.post && true) ≡ true = ap (λ (o : Option OnItsWay). is_none o && true) none in
+    let may : (is_none rec.post && true) ≡ true = ap (λ (o : Option InFlight). is_none o && true) none in
     four_made seat (record rec { stage = Idle }) (record rec { stage = Drafting n3 [] }) (record rec { stage = Drafting n2 [] }) (record rec { stage = Drafting n1 [] })
     (record rec { stage = Drafting (header_drafted head posted) [] }) _ _ _ _
     (header_stored seat (record rec { stage = Idle }) valid 3 (header_word head posted 3) below may)

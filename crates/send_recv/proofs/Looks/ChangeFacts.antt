@@ -22,7 +22,7 @@ use Rattle.sync_flags.specs.Flags.{with_bit}
 use Rattle.sync_flags.specs.Writes.{change_events, TriesChange, RegisterTaken, BitChanged}
 use Rattle.send_recv.proofs.Looks.SignalFlags.{ChangesBy}
 use Rattle.send_recv.specs.Receiving.{flag_lines}
-use Rattle.sync_flags.specs.Tries.{Aim, AtFlag, AtWord, AtRegister, tries_at, vain_from, all_vain, changing_after}
+use Rattle.sync_flags.specs.Tries.{Aim, AtFlag, AtWord, AtRegister, tries_at, failed_from, all_failed, changing_after}
 use Rattle.send_recv.specs.Tries.{aim_of}
 use Rattle.send_recv.specs.Turns.{LastHeld, NoLoad, Last, IsOneTry, stored_since}
 use Rattle.put_get.proofs.FillLemmas.{fills_out, fills_evictions}
@@ -49,10 +49,10 @@ pub record ChangeFacts (layout : Layout) (s : Sight) (c : Private) (core : ℕ) 
   pub work : load_count events + 4 * c.evictions ≤ 4 * d.evictions + 4 * (if done then flag_lines layout else 0)
   pub out : d.out ≡ None
   pub tries : layout ≡ BitFlags → tries_at (AtRegister core) events ≡ 1
-  pub vain : layout ≡ BitFlags → all_vain (AtRegister core) false events ≡ not done
+  pub failed : layout ≡ BitFlags → all_failed (AtRegister core) false events ≡ not done
   pub freed : changing_after false events ≡ false
   pub elsewhere : (at : Spot) → (layout ≡ BitFlags → at ≢ Register core) → tries_at (aim_of layout at) events ≡ 0
-  pub ends : done ≡ true → (aim : Aim) (n : ℕ) → vain_from aim false n events ≡ 0
+  pub ends : done ≡ true → (aim : Aim) (n : ℕ) → failed_from aim false n events ≡ 0
   pub lines : layout ≡ LineFlags → done ≡ true
   pub rests : done ≡ false → list_all is_resting events ≡ true
   pub only : done ≡ false → IsOneTry (AtRegister core) events
@@ -62,7 +62,7 @@ store_elsewhere : (p : WordAt) (v : ℕ) (at : Spot) → tries_at (aim_of LineFl
 store_elsewhere p v (Flag place bit) = refl
 store_elsewhere p v (Register core) = refl
 
-pub store_ends : (p : WordAt) (v : ℕ) (aim : Aim) (changing : Bool) (n : ℕ) → vain_from aim changing n (store_of p v ∷ []) ≡ 0
+pub store_ends : (p : WordAt) (v : ℕ) (aim : Aim) (changing : Bool) (n : ℕ) → failed_from aim changing n (store_of p v ∷ []) ≡ 0
 store_ends p v (AtFlag place bit want) true n = refl
 store_ends p v (AtFlag place bit want) false n = refl
 store_ends p v (AtWord place value) true n = refl
@@ -81,7 +81,7 @@ changed_elsewhere : (core : ℕ) (flag : FlagPlace) (b : ℕ) (set : Bool) (word
 changed_elsewhere core flag b set words (Flag place bit) ne = refl
 changed_elsewhere core flag b set words (Register other) ne = λ i. if other_register core other ne i then 1 else 0
 
-changed_ends : (core : ℕ) (flag : FlagPlace) (b : ℕ) (set : Bool) (words : List ℕ) (aim : Aim) (n : ℕ) → vain_from aim false n (change_events (flag_word core flag) b set words) ≡ 0
+changed_ends : (core : ℕ) (flag : FlagPlace) (b : ℕ) (set : Bool) (words : List ℕ) (aim : Aim) (n : ℕ) → failed_from aim false n (change_events (flag_word core flag) b set words) ≡ 0
 changed_ends core flag b set words (AtFlag place bit want) n = refl
 changed_ends core flag b set words (AtWord place value) n = refl
 changed_ends core flag b set words (AtRegister other) n = refl
@@ -96,7 +96,7 @@ flag_facts s t c d core flag set empty w =
       work = omega (arith, same);
       out = ap (λ (x : Private). x.out) w.is;
       tries = λ e. absurd (cc);
-      vain = λ e. absurd (cc);
+      failed = λ e. absurd (cc);
       freed = refl;
       elsewhere = λ at ne. store_elsewhere (flag_word core flag) (if set then 1 else 0) at;
       ends = λ made aim n. store_ends (flag_word core flag) (if set then 1 else 0) aim false n;
@@ -108,11 +108,11 @@ flag_facts s t c d core flag set empty w =
 missed_tries : (core : ℕ) → tries_at (AtRegister core) (take_of core false ∷ []) ≡ 1
 missed_tries core = λ i. if eqb_same core i then 1 else 0
 
-missed_vain : (core : ℕ) → all_vain (AtRegister core) false (take_of core false ∷ []) ≡ true
-missed_vain core = λ i. (not (eqb_same core i) || true) && true
+missed_failed : (core : ℕ) → all_failed (AtRegister core) false (take_of core false ∷ []) ≡ true
+missed_failed core = λ i. (not (eqb_same core i) || true) && true
 
-changed_vain : (core : ℕ) (flag : FlagPlace) (b : ℕ) (set : Bool) (words : List ℕ) → all_vain (AtRegister core) false (change_events (flag_word core flag) b set words) ≡ false
-changed_vain core flag b set words = λ i. (not (eqb_same core i) || false) && true
+changed_failed : (core : ℕ) (flag : FlagPlace) (b : ℕ) (set : Bool) (words : List ℕ) → all_failed (AtRegister core) false (change_events (flag_word core flag) b set words) ≡ false
+changed_failed core flag b set words = λ i. (not (eqb_same core i) || false) && true
 
 changed_tries : (core : ℕ) (flag : FlagPlace) (b : ℕ) (set : Bool) (words : List ℕ) → tries_at (AtRegister core) (change_events (flag_word core flag) b set words) ≡ 1
 changed_tries core flag b set words = λ i. if eqb_same core i then 1 else 0
@@ -142,7 +142,7 @@ bit_facts s t c d core flag b set done empty (RegisterTaken missed did e) =
       work = subst (λ x. 0 + 4 * c.evictions ≤ 4 * d.evictions + 4 * (if x then 1 else 0)) (sym missed) (omega (arith, same));
       out = ap (λ (x : Private). x.out) e ∙ empty;
       tries = λ x. missed_tries core;
-      vain = λ x. missed_vain core ∙ ap (λ (y : Bool). not y) (sym missed);
+      failed = λ x. missed_failed core ∙ ap (λ (y : Bool). not y) (sym missed);
       freed = refl;
       elsewhere = λ at ne. missed_elsewhere core at (ne refl);
       ends = λ made. absurd (let e : false ≡ true = sym missed ∙ made in cc);
@@ -163,7 +163,7 @@ bit_facts s t c d core flag b set done empty (BitChanged made words loaded did m
       work = subst (λ x. 4 + 4 * c.evictions ≤ 4 * d.evictions + 4 * (if x then 1 else 0)) (sym made) (omega (arith, grown, same));
       out = ap (λ (x : Private). x.out) e ∙ fills_out fills ∙ empty;
       tries = λ x. changed_tries core flag b set words;
-      vain = λ x. changed_vain core flag b set words ∙ ap (λ (y : Bool). not y) (sym made);
+      failed = λ x. changed_failed core flag b set words ∙ ap (λ (y : Bool). not y) (sym made);
       freed = refl;
       elsewhere = λ at ne. changed_elsewhere core flag b set words at (ne refl);
       ends = λ done aim n. changed_ends core flag b set words aim n;

@@ -9,7 +9,7 @@ use Rattle.scc_base.specs.Events.{load_of}
 use Rattle.scc_base.specs.declared.events.Event.{Event}
 use Rattle.scc_base.specs.declared.layouts.Layout.{Layout}
 use Rattle.scc_base.specs.declared.layouts.Layout.TheVariants.{LineFlags, BitFlags}
-use Rattle.scc_proto.specs.Stages.{Filling, Raised, Answered, Stage, Idle, Drafting, Sending, Between, Taking, Barrier, OnItsWay, Record}
+use Rattle.scc_proto.specs.Stages.{Filling, Raised, Answered, Stage, Idle, Drafting, Sending, Between, Taking, Barrier, InFlight, Record}
 use Rattle.scc_proto.specs.Moves.{LookSignal, look_ready, post_answered, after}
 use Rattle.scc_proto.specs.Tables.{put_signal}
 use Rattle.scc_proto.specs.Words.{are_peers}
@@ -58,7 +58,7 @@ seen_none (Between from message) = refl
 seen_none (Taking from message chunk) = refl
 seen_none (Barrier comm seen released) = refl
 
-answered_none : (post : Option OnItsWay) → option_map (post_answered none_set) post ≡ post
+answered_none : (post : Option InFlight) → option_map (post_answered none_set) post ≡ post
 answered_none None = refl
 answered_none (Some post) = refl
 

@@ -13,7 +13,7 @@ use Rattle.put_get.specs.Accesses.{loads_of}
 use Rattle.put_get.specs.Cores.{Private, Fills}
 use Rattle.put_get.proofs.FillLemmas.{fills_held}
 use Rattle.sync_flags.specs.Flags.{is_set_in}
-use Rattle.sync_flags.specs.Tries.{Aim, AtFlag, tries_at, all_vain, spot_of, Tried, Vain, Fruitful}
+use Rattle.sync_flags.specs.Tries.{Aim, AtFlag, tries_at, all_failed, spot_of, Tried, Failed, Fruitful}
 use Rattle.sync_flags.proofs.RowLemmas.{flag_tried}
 use Rattle.send_recv.specs.declared.stages.RecvStage.{RecvStage}
 use Rattle.send_recv.specs.declared.stages.RecvStage.TheVariants.{Look, Header, Lower, Lines, Raise, Finished}
@@ -33,14 +33,14 @@ look_tried layout core flag words found spot below tells at aims = by found tell
     aimed = ap (λ (o : Option Spot). aim_at layout o) at ∙ ap (λ (x : Aim). Some x) aims
 
     tried : (tries_at (AtFlag (flag_word core flag) flag.bit true) (loads_of (line_of_word (flag_word core flag)) words) ≡ 1)
-        × (all_vain (AtFlag (flag_word core flag) flag.bit true) false (loads_of (line_of_word (flag_word core flag)) words)
+        × (all_failed (AtFlag (flag_word core flag) flag.bit true) false (loads_of (line_of_word (flag_word core flag)) words)
         ≡ not (is_set_in flag.bit (slice_index words flag.word)))
     tried = flag_tried (flag_word core flag) flag.bit true words below
 
     by : (b : Bool) → b ≡ is_set_in flag.bit (slice_index words flag.word)
         → Tried (aim_at layout spot) (loads_of (line_of_word (flag_word core flag)) words) (if b then None else Some (flag_spot core flag))
     by true t = Fruitful (AtFlag (flag_word core flag) flag.bit true) aimed tried.0 (tried.1 ∙ ap (λ (x : Bool). not x) (sym t)) refl
-    by false t = Vain (AtFlag (flag_word core flag) flag.bit true) aimed tried.0 (tried.1 ∙ ap (λ (x : Bool). not x) (sym t)) refl
+    by false t = Failed (AtFlag (flag_word core flag) flag.bit true) aimed tried.0 (tried.1 ∙ ap (λ (x : Bool). not x) (sym t)) refl
 
 -- a try at the spot of a signal's flag is one at the flag
 pub signal_aims : (layout : Layout) (signal : Signal) (core j : ℕ)

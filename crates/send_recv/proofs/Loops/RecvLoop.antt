@@ -11,15 +11,15 @@ use Rattle.scc_base.specs.declared.events.Event.{Event}
 use Rattle.scc_base.specs.declared.events.Spot.{Spot}
 use Rattle.scc_base.specs.declared.layouts.Layout.{Layout}
 use Rattle.scc_proto.specs.Resting.{is_resting_by, is_resting}
-use Rattle.scc_proto.specs.Stages.{OnItsWay, Record}
+use Rattle.scc_proto.specs.Stages.{InFlight, Record}
 use Rattle.scc_proto.specs.Records.{chunk_of}
 use Rattle.scc_proto.specs.Ports.{Seat, Sight, record_in}
 use Rattle.scc_proto.proofs.PortLaws.{did_both, seat_kept}
 use Rattle.put_get.specs.Cores.{Private}
 use Rattle.put_get.specs.Transfers.{load_count}
 use Rattle.put_get.proofs.WorkLemmas.{load_count-append}
-use Rattle.sync_flags.specs.Tries.{Aim, is_write, tries_from, tries_at, vain_from, vain_tries, changing_after, has_write, spot_of, Tried, NoTry, Vain, Fruitful}
-use Rattle.sync_flags.proofs.VainLemmas.{vain-append}
+use Rattle.sync_flags.specs.Tries.{Aim, is_write, tries_from, tries_at, failed_from, failed_tries, changing_after, has_write, spot_of, Tried, NoTry, Failed, Fruitful}
+use Rattle.sync_flags.proofs.FailedLemmas.{failed-append}
 use Rattle.sync_flags.proofs.RowLemmas.{tries-append, tries_add, none_tried, none_left, some_aim, waited, went_on}
 use Rattle.sync_flags.proofs.LoopLemmas.{Row, row_none, row_moved, row_waited}
 use Rattle.send_recv.specs.declared.stages.RecvStage.{RecvStage}
@@ -41,10 +41,10 @@ use Rattle.send_recv.proofs.Looks.TryLemmas.{spot_cases, signal_aimed, le_self}
 
 -- ---- what stays
 
-pub post_both : (a b c : Option OnItsWay) → IsSamePost a b → IsSamePost b c → IsSamePost a c
-post_both None b c x y = subst (λ (o : Option OnItsWay). IsSamePost o c) x y
+pub post_both : (a b c : Option InFlight) → IsSamePost a b → IsSamePost b c → IsSamePost a c
+post_both None b c x y = subst (λ (o : Option InFlight). IsSamePost o c) x y
 post_both (Some post) b c x y =
-    let z : IsSamePost (Some (record post { is_answered = x.0 })) c = subst (λ (o : Option OnItsWay). IsSamePost o c) x.1 y in
+    let z : IsSamePost (Some (record post { is_answered = x.0 })) c = subst (λ (o : Option InFlight). IsSamePost o c) x.1 y in
     (z.0, z.1, λ h. z.2 (x.2 h))
 
 pub rest_both : (a b c : Record) → KeepsAllButMessages a b → KeepsAllButMessages b c → KeepsAllButMessages a c
@@ -89,11 +89,11 @@ aimed layout None aim e = absurd (cc)
 aimed layout (Some at) aim e = record { at = at; is = refl; aim_is = cc }
 
 -- no register is held between two parts, so rows go on from one to the other
-pub row_on : (aim : Aim) (a b : List Event) → changing_after false a ≡ false → vain_tries aim (a ++ b) ≡ vain_from aim false (vain_tries aim a) b
-row_on aim a b freed = vain-append aim false 0 a b ∙ ap (λ (c : Bool). vain_from aim c (vain_tries aim a) b) freed
+pub row_on : (aim : Aim) (a b : List Event) → changing_after false a ≡ false → failed_tries aim (a ++ b) ≡ failed_from aim false (failed_tries aim a) b
+row_on aim a b freed = failed-append aim false 0 a b ∙ ap (λ (c : Bool). failed_from aim c (failed_tries aim a) b) freed
 
-pub still_none : (aim : Aim) (a b : List Event) → changing_after false a ≡ false → vain_tries aim a ≡ 0 → tries_at aim b ≡ 0 → vain_tries aim (a ++ b) ≡ 0
-still_none aim a b freed before none = row_on aim a b freed ∙ ap (λ (n : ℕ). vain_from aim false n b) before ∙ (none_tried aim false b none).1
+pub still_none : (aim : Aim) (a b : List Event) → changing_after false a ≡ false → failed_tries aim a ≡ 0 → tries_at aim b ≡ 0 → failed_tries aim (a ++ b) ≡ 0
+still_none aim a b freed before none = row_on aim a b freed ∙ ap (λ (n : ℕ). failed_from aim false n b) before ∙ (none_tried aim false b none).1
 
 pub tries_both : (aim : Aim) (a b : List Event) → changing_after false a ≡ false → tries_at aim (a ++ b) ≡ tries_at aim a + tries_at aim b
 tries_both aim a b freed = tries-append aim false 0 a b ∙ ap (λ (c : Bool). tries_from aim c (tries_at aim a) b) freed ∙ tries_add aim false (tries_at aim a) b
@@ -101,22 +101,22 @@ tries_both aim a b freed = tries-append aim false 0 a b ∙ ap (λ (c : Bool). t
 -- a turn that has an aim has made one try
 pub tried_once : {aim : Option Aim} {events : List Event} {waits : Option Spot} → Tried aim events waits → (at : Aim) → aim ≡ Some at → tries_at at events ≡ 1
 tried_once (NoTry none w) at is = absurd (cc)
-tried_once {events = events} (Vain other is one vain w) at here = ap (λ (x : Aim). tries_at x events) (some_aim at other (sym here ∙ is)) ∙ one
-tried_once {events = events} (Fruitful other is one vain w) at here = ap (λ (x : Aim). tries_at x events) (some_aim at other (sym here ∙ is)) ∙ one
+tried_once {events = events} (Failed other is one failed w) at here = ap (λ (x : Aim). tries_at x events) (some_aim at other (sym here ∙ is)) ∙ one
+tried_once {events = events} (Fruitful other is one failed w) at here = ap (λ (x : Aim). tries_at x events) (some_aim at other (sym here ∙ is)) ∙ one
 
 -- ---- the turns so far
 
-pub record Underway (s : Sight) (c : Private) (op : RecvAt) (bytes : List ℕ) (vain : ℕ) (t : Sight) (d : Private) (now : RecvAt) (after : List ℕ) : Type 0 where
+pub record Underway (s : Sight) (c : Private) (op : RecvAt) (bytes : List ℕ) (failed : ℕ) (t : Sight) (d : Private) (now : RecvAt) (after : List ℕ) : Type 0 where
   -- so many vain tries are at the end, at the spot where the op stands, and none at another
-  pub row : Row (aim_at s.seat.setup.layout (recv_spot s.seat now)) vain s t
-  pub elsewhere : (at : Spot) → IsRecvSpot s.seat op at → recv_spot s.seat now ≢ Some at → vain_tries (aim_of s.seat.setup.layout at) row.events ≡ 0
+  pub row : Row (aim_at s.seat.setup.layout (recv_spot s.seat now)) failed s t
+  pub elsewhere : (at : Spot) → IsRecvSpot s.seat op at → recv_spot s.seat now ≢ Some at → failed_tries (aim_of s.seat.setup.layout at) row.events ≡ 0
   pub stands : RecvStands t d now after
   pub from : now.from ≡ op.from
   pub head : now.head ≡ op.head
   pub calls : (record_in t).calls ≡ (record_in s).calls
   pub call_left : (x : List ℕ) → recv_call now x ≡ recv_call op x
   pub fuller : filled_to (chunk_of s.seat.setup) op ≤ filled_to (chunk_of s.seat.setup) now
-  pub behind : (k : ℕ) → filled_to (chunk_of s.seat.setup) now ≤ k → slice_index after k ≡ slice_index bytes k
+  pub afterwards : (k : ℕ) → filled_to (chunk_of s.seat.setup) now ≤ k → slice_index after k ≡ slice_index bytes k
   pub rest : KeepsAllButMessages (record_in s) (record_in t)
   pub post : IsSamePost (record_in s).post (record_in t).post
   pub work : load_count row.events + 4 * c.evictions + 4 * lines_left s.seat.setup.layout (chunk_of s.seat.setup) now
@@ -136,7 +136,7 @@ underway_none {s} {c} {op} {bytes} st = record {
   calls = refl;
   call_left = λ x. refl;
   fuller = le_self _;
-  behind = λ k le. refl;
+  afterwards = λ k le. refl;
   rest = rest_itself (record_in s);
   post = post_itself (record_in s).post;
   work = start_work c.evictions (lines_left s.seat.setup.layout (chunk_of s.seat.setup) op);
@@ -150,7 +150,7 @@ spot_now seat op now at from spot = (spot.0, ap (λ (f : ℕ). spot_by seat.setu
 record Turn (seat : Seat) (m : Sight) (b : Private) (cur : RecvAt) (mid : List ℕ) (t : Sight) (d : Private) (now : RecvAt) (after : List ℕ) (answer : RecvTurn) (events : List Event) : Type 0 where
   tried : Tried (aim_at seat.setup.layout (recv_spot seat cur)) events (recv_waits answer)
   elsewhere : (at : Spot) → IsRecvSpot seat cur at → recv_spot seat cur ≢ Some at → tries_at (aim_of seat.setup.layout at) events ≡ 0
-  behind : (k : ℕ) → filled_to (chunk_of seat.setup) now ≤ k → slice_index after k ≡ slice_index mid k
+  afterwards : (k : ℕ) → filled_to (chunk_of seat.setup) now ≤ k → slice_index after k ≡ slice_index mid k
   fuller : filled_to (chunk_of seat.setup) cur ≤ filled_to (chunk_of seat.setup) now
   fewer : lines_left seat.setup.layout (chunk_of seat.setup) now ≤ lines_left seat.setup.layout (chunk_of seat.setup) cur
   work : LoadsLines events b d ((lines_left seat.setup.layout (chunk_of seat.setup) cur - lines_left seat.setup.layout (chunk_of seat.setup) now) + extra_line cur.stage answer)
@@ -159,23 +159,23 @@ turn_says : {m t : Sight} {b d : Private} {cur now : RecvAt} {mid after : List �
     → Turn seat m b cur mid t d now after answer u.events
 turn_says {m} {t} {b} {d} {cur} {now} {mid} {after} {answer} seat same u =
     subst (λ (x : Seat). Turn x m b cur mid t d now after answer u.events) same
-    (record { tried = u.tried; elsewhere = u.elsewhere; behind = u.behind; fuller = u.fuller; fewer = u.fewer; work = u.work })
+    (record { tried = u.tried; elsewhere = u.elsewhere; afterwards = u.afterwards; fuller = u.fuller; fewer = u.fewer; work = u.work })
 
 -- a turn that does not wait leaves no vain try at any spot of the receive
-pub none_vain : {s m t : Sight} {c b d : Private} {op cur now : RecvAt} {bytes mid after : List ℕ} {vain : ℕ} {answer : RecvTurn} (u : Underway s c op bytes vain m b cur mid)
+pub none_failed : {s m t : Sight} {c b d : Private} {op cur now : RecvAt} {bytes mid after : List ℕ} {failed : ℕ} {answer : RecvTurn} (u : Underway s c op bytes failed m b cur mid)
     → (v : RecvTurned (receiving m b cur mid) (receiving t d now after) answer) → recv_waits answer ≡ None → (at : Spot) → IsRecvSpot s.seat op at
-    → vain_tries (aim_of s.seat.setup.layout at) (u.row.events ++ v.events) ≡ 0
-none_vain {s} {m} {t} {c} {b} {d} {op} {cur} {now} {bytes} {mid} {after} {vain} {answer} u v goes at spot =
+    → failed_tries (aim_of s.seat.setup.layout at) (u.row.events ++ v.events) ≡ 0
+none_failed {s} {m} {t} {c} {b} {d} {op} {cur} {now} {bytes} {mid} {after} {failed} {answer} u v goes at spot =
     let same : m.seat ≡ s.seat = seat_kept s u.row.events m u.row.did in
     let says = turn_says s.seat same v in
     let aim = aim_of s.seat.setup.layout at in
     let tried : Tried (aim_at s.seat.setup.layout (recv_spot s.seat cur)) v.events None = subst (λ (o : Option Spot). Tried (aim_at s.seat.setup.layout (recv_spot s.seat cur)) v.events o) goes says.tried in
-    stable_zero (vain_tries aim (u.row.events ++ v.events)) (λ some.
+    stable_zero (failed_tries aim (u.row.events ++ v.events)) (λ some.
     some (still_none aim u.row.events v.events u.row.freed
     (u.elsewhere at spot (λ here. some (ended tried here)))
     (says.elsewhere at (spot_now s.seat op cur at u.from spot) (λ here. some (ended tried here)))))
   where
-    ended : Tried (aim_at s.seat.setup.layout (recv_spot s.seat cur)) v.events None → recv_spot s.seat cur ≡ Some at → vain_tries (aim_of s.seat.setup.layout at) (u.row.events ++ v.events) ≡ 0
+    ended : Tried (aim_at s.seat.setup.layout (recv_spot s.seat cur)) v.events None → recv_spot s.seat cur ≡ Some at → failed_tries (aim_of s.seat.setup.layout at) (u.row.events ++ v.events) ≡ 0
     ended tried here =
         let w = went_on tried (aim_of s.seat.setup.layout at) (ap (λ (o : Option Spot). aim_at s.seat.setup.layout o) here) in
         none_left (aim_of s.seat.setup.layout at) u.row.events v.events u.row.freed w.0 w.1
@@ -202,11 +202,11 @@ tally : (a e c b d lc ln l0 x t0 t1 : ℕ) → a + 4 * c + 4 * lc ≤ 4 * b + 4 
     → (a + e) + 4 * c + 4 * ln ≤ 4 * d + 4 * (l0 + (t0 + t1))
 tally a e c b d lc ln l0 x t0 t1 before more few fewer = omega (arith, before, more, few, fewer)
 
-pub work_on : {s m t : Sight} {c b d : Private} {op cur now : RecvAt} {bytes mid after : List ℕ} {vain : ℕ} {answer : RecvTurn} (u : Underway s c op bytes vain m b cur mid)
+pub work_on : {s m t : Sight} {c b d : Private} {op cur now : RecvAt} {bytes mid after : List ℕ} {failed : ℕ} {answer : RecvTurn} (u : Underway s c op bytes failed m b cur mid)
     → (v : RecvTurned (receiving m b cur mid) (receiving t d now after) answer) → extra_line cur.stage answer ≡ (if is_look cur.stage then 1 else 0)
     → load_count (u.row.events ++ v.events) + 4 * c.evictions + 4 * lines_left s.seat.setup.layout (chunk_of s.seat.setup) now
     ≤ 4 * d.evictions + 4 * (lines_left s.seat.setup.layout (chunk_of s.seat.setup) op + tries_at (sent_aim s.seat op) (u.row.events ++ v.events))
-work_on {s} {m} {t} {c} {b} {d} {op} {cur} {now} {bytes} {mid} {after} {vain} {answer} u v extra =
+work_on {s} {m} {t} {c} {b} {d} {op} {cur} {now} {bytes} {mid} {after} {failed} {answer} u v extra =
     let same : m.seat ≡ s.seat = seat_kept s u.row.events m u.row.did in
     let says = turn_says s.seat same v in
     let looked = look_counted (is_look cur.stage) s.seat cur v.events (recv_waits answer) refl says.tried in
@@ -227,7 +227,7 @@ work_on {s} {m} {t} {c} {b} {d} {op} {cur} {now} {bytes} {mid} {after} {vain} {a
 calls_open : (op : RecvAt) (x : List ℕ) → is_received op.stage ≡ false → recv_call op x ≡ Recv op.from op.head x ∷ []
 calls_open op x e = ap (λ (b : Bool). if b then [] else Recv op.from op.head x ∷ []) e
 
-pub underway_moved : {s m t : Sight} {c b d : Private} {op cur now : RecvAt} {bytes mid after : List ℕ} {vain : ℕ} → Underway s c op bytes vain m b cur mid
+pub underway_moved : {s m t : Sight} {c b d : Private} {op cur now : RecvAt} {bytes mid after : List ℕ} {failed : ℕ} → Underway s c op bytes failed m b cur mid
     → RecvStands t d now after → RecvTurned (receiving m b cur mid) (receiving t d now after) turn.Moved → Underway s c op bytes 0 t d now after
 unfolding row_moved
 underway_moved {s} {m} {t} {c} {b} {d} {op} {cur} {now} {bytes} {mid} {after} u st v =
@@ -235,29 +235,29 @@ underway_moved {s} {m} {t} {c} {b} {d} {op} {cur} {now} {bytes} {mid} {after} u 
     let says = turn_says s.seat same v in
     record {
       row = row_moved u.row v.did v.freed;
-      elsewhere = λ at spot ne. none_vain u v refl at spot;
+      elsewhere = λ at spot ne. none_failed u v refl at spot;
       stands = st;
       from = v.same.0 ∙ u.from;
       head = v.same.1 ∙ u.head;
       calls = v.means.1 ∙ u.calls;
       call_left = λ x. calls_open now x v.means.3 ∙ (λ i. Recv (v.same.0 i) (v.same.1 i) x ∷ []) ∙ sym (calls_open cur x v.means.2) ∙ u.call_left x;
       fuller = let before = u.fuller in let full = says.fuller in omega (arith, before, full);
-      behind = λ k le. let full = says.fuller in says.behind k le ∙ u.behind k (omega (arith, full, le));
+      afterwards = λ k le. let full = says.fuller in says.afterwards k le ∙ u.afterwards k (omega (arith, full, le));
       rest = rest_both (record_in s) (record_in m) (record_in t) u.rest v.rest;
       post = post_both (record_in s).post (record_in m).post (record_in t).post u.post v.post;
       work = work_on u v refl;
     }
 
-pub none_moved : {s m t : Sight} {c b d : Private} {op cur now : RecvAt} {bytes mid after : List ℕ} {vain : ℕ} (u : Underway s c op bytes vain m b cur mid)
+pub none_moved : {s m t : Sight} {c b d : Private} {op cur now : RecvAt} {bytes mid after : List ℕ} {failed : ℕ} (u : Underway s c op bytes failed m b cur mid)
     → (st : RecvStands t d now after) (v : RecvTurned (receiving m b cur mid) (receiving t d now after) turn.Moved) → (at : Spot) → IsRecvSpot s.seat op at
-    → vain_tries (aim_of s.seat.setup.layout at) (underway_moved u st v).row.events ≡ 0
+    → failed_tries (aim_of s.seat.setup.layout at) (underway_moved u st v).row.events ≡ 0
 unfolding underway_moved row_moved
-none_moved u st v at spot = none_vain u v refl at spot
+none_moved u st v at spot = none_failed u v refl at spot
 
-pub underway_waited : {s m t : Sight} {c b d : Private} {op cur now : RecvAt} {bytes mid after : List ℕ} {vain : ℕ} {spot : Spot} → Underway s c op bytes vain m b cur mid
-    → RecvStands t d now after → RecvTurned (receiving m b cur mid) (receiving t d now after) (turn.Waiting spot) → Underway s c op bytes (vain + 1) t d now after
+pub underway_waited : {s m t : Sight} {c b d : Private} {op cur now : RecvAt} {bytes mid after : List ℕ} {failed : ℕ} {spot : Spot} → Underway s c op bytes failed m b cur mid
+    → RecvStands t d now after → RecvTurned (receiving m b cur mid) (receiving t d now after) (turn.Waiting spot) → Underway s c op bytes (failed + 1) t d now after
 unfolding row_waited
-underway_waited {s} {m} {t} {c} {b} {d} {op} {cur} {now} {bytes} {mid} {after} {vain} {spot} u st v =
+underway_waited {s} {m} {t} {c} {b} {d} {op} {cur} {now} {bytes} {mid} {after} {failed} {spot} u st v =
     let same : m.seat ≡ s.seat = seat_kept s u.row.events m u.row.did in
     let says = turn_says s.seat same v in
     let rests : IsAtRest (record_in m) (record_in t) = v.means.2 in
@@ -272,7 +272,7 @@ underway_waited {s} {m} {t} {c} {b} {d} {op} {cur} {now} {bytes} {mid} {after} {
       calls = rests.calls ∙ u.calls;
       call_left = λ x. ap (λ (o : RecvAt). recv_call o x) v.means.0 ∙ u.call_left x;
       fuller = let before = u.fuller in let full = says.fuller in omega (arith, before, full);
-      behind = λ k le. let full = says.fuller in says.behind k le ∙ u.behind k (omega (arith, full, le));
+      afterwards = λ k le. let full = says.fuller in says.afterwards k le ∙ u.afterwards k (omega (arith, full, le));
       rest = rest_both (record_in s) (record_in m) (record_in t) u.rest v.rest;
       post = post_both (record_in s).post (record_in m).post (record_in t).post u.post v.post;
       work = work_on u v refl;
@@ -280,11 +280,11 @@ underway_waited {s} {m} {t} {c} {b} {d} {op} {cur} {now} {bytes} {mid} {after} {
 
 -- ---- the ends
 
-not_stalled : {s m t : Sight} {c b d : Private} {op cur now : RecvAt} {bytes mid after : List ℕ} {vain : ℕ} {answer : RecvTurn} (polls : ℕ) → 1 ≤ polls → (u : Underway s c op bytes vain m b cur mid)
+not_stalled : {s m t : Sight} {c b d : Private} {op cur now : RecvAt} {bytes mid after : List ℕ} {failed : ℕ} {answer : RecvTurn} (polls : ℕ) → 1 ≤ polls → (u : Underway s c op bytes failed m b cur mid)
     → (v : RecvTurned (receiving m b cur mid) (receiving t d now after) answer) → recv_waits answer ≡ None → HasNotStalled s.seat op polls (u.row.events ++ v.events)
-not_stalled polls some u v goes spot is tried = let none = none_vain u v goes spot is in absurd (omega (arith, some, none, tried))
+not_stalled polls some u v goes spot is tried = let none = none_failed u v goes spot is in absurd (omega (arith, some, none, tried))
 
-pub underway_ends : {s m t : Sight} {c b d : Private} {op cur now : RecvAt} {bytes mid after : List ℕ} {vain : ℕ} (polls : ℕ) → 1 ≤ polls → Underway s c op bytes vain m b cur mid
+pub underway_ends : {s m t : Sight} {c b d : Private} {op cur now : RecvAt} {bytes mid after : List ℕ} {failed : ℕ} (polls : ℕ) → 1 ≤ polls → Underway s c op bytes failed m b cur mid
     → RecvStands t d now after → RecvTurned (receiving m b cur mid) (receiving t d now after) turn.Done → Received (receiving s c op bytes) polls (with_bytes t d after)
 underway_ends {s} {m} {t} {c} {b} {d} {op} {cur} {now} {bytes} {mid} {after} polls some u st v =
     let sum = work_on u v refl in
@@ -305,9 +305,9 @@ spot_told seat op at is =
     spot_cases (λ (x : Spot). x ≡ spot_of (aim_of seat.setup.layout x)) seat.setup.layout (own_core seat) (core_of seat op.from) op.from op.stage at is
     (signal_aimed seat.setup.layout Sent (own_core seat) op.from) (λ core. refl)
 
-pub underway_stalls : {s m t : Sight} {c b d : Private} {op cur now : RecvAt} {bytes mid after : List ℕ} {vain : ℕ} {spot : Spot} → Underway s c op bytes vain m b cur mid
-    → RecvStands t d now after → RecvTurned (receiving m b cur mid) (receiving t d now after) (turn.Waiting spot) → (polls : ℕ) → polls ≤ vain + 1 → RecvStalled (receiving s c op bytes) polls (receiving t d now after) spot
-underway_stalls {s} {m} {t} {c} {b} {d} {op} {cur} {now} {bytes} {mid} {after} {vain} {spot} u st v polls enough =
+pub underway_stalls : {s m t : Sight} {c b d : Private} {op cur now : RecvAt} {bytes mid after : List ℕ} {failed : ℕ} {spot : Spot} → Underway s c op bytes failed m b cur mid
+    → RecvStands t d now after → RecvTurned (receiving m b cur mid) (receiving t d now after) (turn.Waiting spot) → (polls : ℕ) → polls ≤ failed + 1 → RecvStalled (receiving s c op bytes) polls (receiving t d now after) spot
+underway_stalls {s} {m} {t} {c} {b} {d} {op} {cur} {now} {bytes} {mid} {after} {failed} {spot} u st v polls enough =
     let same : m.seat ≡ s.seat = seat_kept s u.row.events m u.row.did in
     let says = turn_says s.seat same v in
     let w = waited says.tried in
@@ -319,14 +319,14 @@ underway_stalls {s} {m} {t} {c} {b} {d} {op} {cur} {now} {bytes} {mid} {after} {
     record {
       events = n.row.events;
       did = n.row.did;
-      tried = subst (λ (p : Spot). polls ≤ vain_tries (aim_of s.seat.setup.layout p) n.row.events) spot_is (omega (arith, enough, many));
+      tried = subst (λ (p : Spot). polls ≤ failed_tries (aim_of s.seat.setup.layout p) n.row.events) spot_is (omega (arith, enough, many));
       at = now_at ∙ ap (λ (p : Spot). Some p) spot_is;
       stands = st;
       same = (n.from, n.head);
       calls = n.calls;
       call_left = n.call_left;
       fuller = n.fuller;
-      behind = n.behind;
+      afterwards = n.afterwards;
       rest = n.rest;
       post = n.post;
     }
@@ -343,10 +343,10 @@ take_whole (x ∷ xs) = ap (λ (ys : List ℕ). x ∷ ys) (take_whole xs)
 pub lists_agree : (xs ys : List ℕ) → length xs ≡ length ys → ((k : ℕ) → slice_index xs k ≡ slice_index ys k) → xs ≡ ys
 lists_agree xs ys long same = sym (take_whole xs) ∙ take_agree (length xs) xs ys long (λ k low. same k) ∙ ap (λ (n : ℕ). take n ys) long ∙ take_whole ys
 
-pub underway_differs : {s m t : Sight} {c b d : Private} {op cur now : RecvAt} {bytes mid after : List ℕ} {vain : ℕ} {sent : MessageHead} (polls : ℕ) → 1 ≤ polls → Underway s c op bytes vain m b cur mid
+pub underway_differs : {s m t : Sight} {c b d : Private} {op cur now : RecvAt} {bytes mid after : List ℕ} {failed : ℕ} {sent : MessageHead} (polls : ℕ) → 1 ≤ polls → Underway s c op bytes failed m b cur mid
     → length bytes ≡ op.head.len → RecvStands t d now after → RecvTurned (receiving m b cur mid) (receiving t d now after) (turn.Mismatch sent) → (asked : MessageHead) → asked ≡ op.head
     → RecvDiffers (receiving s c op bytes) polls (with_bytes t d after) sent asked
-underway_differs {s} {m} {t} {c} {b} {d} {op} {cur} {now} {bytes} {mid} {after} {vain} {sent} polls some u long st v asked is =
+underway_differs {s} {m} {t} {c} {b} {d} {op} {cur} {now} {bytes} {mid} {after} {failed} {sent} polls some u long st v asked is =
     let same : m.seat ≡ s.seat = seat_kept s u.row.events m u.row.did in
     let says = turn_says s.seat same v in
     let means = v.means in
@@ -355,7 +355,7 @@ underway_differs {s} {m} {t} {c} {b} {d} {op} {cur} {now} {bytes} {mid} {after} 
     let at : IsAtRecvStage t.seat (record_in t) d now after Header = subst (λ (x : RecvStage). IsAtRecvStage t.seat (record_in t) d now after x) header st.at in
     let filled = header_filled (chunk_of s.seat.setup) now header at.0 in
     let whole : after ≡ bytes = lists_agree after bytes (st.long ∙ ap (λ (h : MessageHead). h.len) (v.same.1 ∙ u.head) ∙ sym long)
-    (λ k. let full = says.fuller in says.behind k (omega (arith, filled)) ∙ u.behind k (omega (arith, filled, full))) in
+    (λ k. let full = says.fuller in says.afterwards k (omega (arith, filled)) ∙ u.afterwards k (omega (arith, filled, full))) in
     record {
       events = u.row.events ++ v.events;
       did = did_both s u.row.events m v.events t u.row.did v.did;
@@ -376,6 +376,6 @@ underway_differs {s} {m} {t} {c} {b} {d} {op} {cur} {now} {bytes} {mid} {after} 
 
 -- ---- the measure
 
-pub left_falls : {s m t : Sight} {c b d : Private} {op cur now : RecvAt} {bytes mid after : List ℕ} {vain : ℕ} → Underway s c op bytes vain m b cur mid
+pub left_falls : {s m t : Sight} {c b d : Private} {op cur now : RecvAt} {bytes mid after : List ℕ} {failed : ℕ} → Underway s c op bytes failed m b cur mid
     → RecvTurned (receiving m b cur mid) (receiving t d now after) turn.Moved → recv_left (chunk_of s.seat.setup) cur ≡ recv_left (chunk_of s.seat.setup) now + 1
 left_falls {s} {m} {cur = cur} {now = now} u v = subst (λ (x : Seat). recv_left (chunk_of x.setup) cur ≡ recv_left (chunk_of x.setup) now + 1) (seat_kept s u.row.events m u.row.did) v.means.0

@@ -13,7 +13,7 @@ use Rattle.scc_proto.specs.Records.{chunk_of}
 use Rattle.scc_proto.specs.Ports.{Seat, Sight, record_in}
 use Rattle.scc_proto.proofs.PortLaws.{did_both, seat_kept}
 use Rattle.put_get.specs.Cores.{Private}
-use Rattle.sync_flags.specs.Tries.{vain_tries, spot_of, Tried}
+use Rattle.sync_flags.specs.Tries.{failed_tries, spot_of, Tried}
 use Rattle.sync_flags.proofs.RowLemmas.{waited}
 use Rattle.sync_flags.proofs.LoopLemmas.{Row, row_none, row_moved, row_waited}
 use Rattle.send_recv.specs.declared.stages.SendStage.{SendStage}
@@ -28,9 +28,9 @@ use Rattle.send_recv.specs.Ranks.{sending, holding_slot}
 use Rattle.send_recv.proofs.Looks.TryLemmas.{signal_aimed}
 use Rattle.send_recv.proofs.Loops.RecvLoop.{rest_both, rest_itself, resting_quiet, aimed, row_on}
 
-pub record SendWay (s : Sight) (op : SendAt) (bytes : List ℕ) (vain : ℕ) (t : Sight) (d : Private) (now : SendAt) (after : SlotAt) : Type 0 where
+pub record SendWay (s : Sight) (op : SendAt) (bytes : List ℕ) (failed : ℕ) (t : Sight) (d : Private) (now : SendAt) (after : SlotAt) : Type 0 where
   -- so many vain tries are at the end, at the spot where the op stands
-  pub row : Row (aim_at s.seat.setup.layout (send_spot s.seat now after)) vain s t
+  pub row : Row (aim_at s.seat.setup.layout (send_spot s.seat now after)) failed s t
   pub stands : SendStands t d now after bytes
   pub same : (now.to ≡ op.to) × (now.head ≡ op.head) × (now.posted ≡ op.posted)
   pub finished : is_sent now.stage ≡ is_sent op.stage
@@ -47,7 +47,7 @@ way_none {s} st = record {
   rest = rest_itself (record_in s);
 }
 
-pub way_moved : {s m t : Sight} {b d : Private} {op cur now : SendAt} {slot after : SlotAt} {bytes : List ℕ} {vain : ℕ} → SendWay s op bytes vain m b cur slot
+pub way_moved : {s m t : Sight} {b d : Private} {op cur now : SendAt} {slot after : SlotAt} {bytes : List ℕ} {failed : ℕ} → SendWay s op bytes failed m b cur slot
     → SendStands t d now after bytes → SendTurned (sending m b cur slot bytes) (sending t d now after bytes) turn.Moved → SendWay s op bytes 0 t d now after
 way_moved {s} {m} {t} u st v = record {
   row = row_moved u.row v.did v.freed;
@@ -59,14 +59,14 @@ way_moved {s} {m} {t} u st v = record {
 }
 
 -- what a turn that waits has tried, at the seat of the call's start
-waits : {s m t : Sight} {b d : Private} {op cur now : SendAt} {slot after : SlotAt} {bytes : List ℕ} {vain : ℕ} {spot : Spot} (u : SendWay s op bytes vain m b cur slot)
+waits : {s m t : Sight} {b d : Private} {op cur now : SendAt} {slot after : SlotAt} {bytes : List ℕ} {failed : ℕ} {spot : Spot} (u : SendWay s op bytes failed m b cur slot)
     → (v : SendTurned (sending m b cur slot bytes) (sending t d now after bytes) (turn.Waiting spot)) → Tried (aim_at s.seat.setup.layout (send_spot s.seat cur slot)) v.events (Some spot)
 waits {s} {m} {cur = cur} {slot = slot} {spot = spot} u v =
     subst (λ (x : Seat). Tried (aim_at x.setup.layout (send_spot x cur slot)) v.events (Some spot)) (seat_kept s u.row.events m u.row.did) v.tried
 
-pub way_waited : {s m t : Sight} {b d : Private} {op cur now : SendAt} {slot after : SlotAt} {bytes : List ℕ} {vain : ℕ} {spot : Spot} → SendWay s op bytes vain m b cur slot
-    → SendStands t d now after bytes → SendTurned (sending m b cur slot bytes) (sending t d now after bytes) (turn.Waiting spot) → SendWay s op bytes (vain + 1) t d now after
-way_waited {s} {m} {t} {b} {d} {op} {cur} {now} {slot} {after} {bytes} {vain} {spot} u st v =
+pub way_waited : {s m t : Sight} {b d : Private} {op cur now : SendAt} {slot after : SlotAt} {bytes : List ℕ} {failed : ℕ} {spot : Spot} → SendWay s op bytes failed m b cur slot
+    → SendStands t d now after bytes → SendTurned (sending m b cur slot bytes) (sending t d now after bytes) (turn.Waiting spot) → SendWay s op bytes (failed + 1) t d now after
+way_waited {s} {m} {t} {b} {d} {op} {cur} {now} {slot} {after} {bytes} {failed} {spot} u st v =
     let rests : IsAtRest (record_in m) (record_in t) = v.means.2 in
     record {
       row = row_waited u.row v.did v.freed (waits u v) (resting_quiet v.events (v.rests spot refl)) (λ i. aim_at s.seat.setup.layout (send_spot s.seat (v.means.0 i) (v.means.1 i)));
@@ -92,7 +92,7 @@ slot_by true posted to slot after is p f = absurd (cc)
 slot_by false true to slot after is p f = is
 slot_by false false to slot after is p f = absurd (cc)
 
-pub way_ends : {s m t : Sight} {c b d : Private} {op cur now : SendAt} {begun slot after : SlotAt} {bytes : List ℕ} {vain : ℕ} → SendWay s op bytes vain m b cur slot
+pub way_ends : {s m t : Sight} {c b d : Private} {op cur now : SendAt} {begun slot after : SlotAt} {bytes : List ℕ} {failed : ℕ} → SendWay s op bytes failed m b cur slot
     → SendStands t d now after bytes → SendTurned (sending m b cur slot bytes) (sending t d now after bytes) turn.Done → Sent (sending s c op begun bytes) (holding_slot t d after)
 way_ends {s} {m} {t} {d = d} {op = op} {cur = cur} {now = now} {slot = slot} {after = after} {bytes = bytes} u st v =
     let at : IsAtSendStage t.seat (record_in t) d now bytes Finished = subst (λ (x : SendStage). IsAtSendStage t.seat (record_in t) d now bytes x) v.means.0 st.at in
@@ -107,7 +107,7 @@ way_ends {s} {m} {t} {d = d} {op = op} {cur = cur} {now = now} {slot = slot} {af
           ∙ ap (λ (k : ℕ). record { to = Some k; seen = false }) u.same.0;
       plain = λ p f. v.means.3 (u.same.2 ∙ p) (u.finished ∙ f);
       rest = rest_both (record_in s) (record_in m) (record_in t) u.rest v.rest;
-      no_row = λ f aim. row_on aim u.row.events v.events u.row.freed ∙ v.ends refl (u.finished ∙ f) aim (vain_tries aim u.row.events);
+      no_row = λ f aim. row_on aim u.row.events v.events u.row.freed ∙ v.ends refl (u.finished ∙ f) aim (failed_tries aim u.row.events);
     }
 
 some_at : (a b : Spot) → Some a ≡ Some b → a ≡ b
@@ -138,8 +138,8 @@ send_told BitFlags own other to slot Look at told e = subst (λ (x : Spot). x �
 send_told BitFlags own other to slot Lower at told e = subst (λ (x : Spot). x ≡ spot_of (aim_of BitFlags x)) (some_at (Register own) at e) refl
 send_told BitFlags own other to slot Finished at told e = absurd (cc)
 
-pub way_stalls : {s m t : Sight} {c b d : Private} {op cur now : SendAt} {begun slot after : SlotAt} {bytes : List ℕ} {vain : ℕ} {spot : Spot} → SendWay s op bytes vain m b cur slot
-    → SendStands t d now after bytes → SendTurned (sending m b cur slot bytes) (sending t d now after bytes) (turn.Waiting spot) → (polls : ℕ) → polls ≤ vain + 1 → SendStalled (sending s c op begun bytes) polls (sending t d now after bytes) spot
+pub way_stalls : {s m t : Sight} {c b d : Private} {op cur now : SendAt} {begun slot after : SlotAt} {bytes : List ℕ} {failed : ℕ} {spot : Spot} → SendWay s op bytes failed m b cur slot
+    → SendStands t d now after bytes → SendTurned (sending m b cur slot bytes) (sending t d now after bytes) (turn.Waiting spot) → (polls : ℕ) → polls ≤ failed + 1 → SendStalled (sending s c op begun bytes) polls (sending t d now after bytes) spot
 way_stalls {s} {cur = cur} {now = now} {slot = slot} {after = after} {spot = spot} u st v polls enough =
     let layout = s.seat.setup.layout in
     let w = waited (waits u v) in
@@ -152,7 +152,7 @@ way_stalls {s} {cur = cur} {now = now} {slot = slot} {after = after} {spot = spo
     record {
       events = n.row.events;
       did = n.row.did;
-      tried = subst (λ (p : Spot). polls ≤ vain_tries (aim_of layout p) n.row.events) spot_is (omega (arith, enough, many));
+      tried = subst (λ (p : Spot). polls ≤ failed_tries (aim_of layout p) n.row.events) spot_is (omega (arith, enough, many));
       at = now_at ∙ ap (λ (p : Spot). Some p) spot_is;
       stands = st;
       same = n.same;
@@ -163,7 +163,7 @@ way_stalls {s} {cur = cur} {now = now} {slot = slot} {after = after} {spot = spo
 
 -- ---- the measure
 
-pub send_falls : {s m t : Sight} {b d : Private} {op cur now : SendAt} {slot after : SlotAt} {bytes : List ℕ} {vain : ℕ} → SendWay s op bytes vain m b cur slot
+pub send_falls : {s m t : Sight} {b d : Private} {op cur now : SendAt} {slot after : SlotAt} {bytes : List ℕ} {failed : ℕ} → SendWay s op bytes failed m b cur slot
     → SendTurned (sending m b cur slot bytes) (sending t d now after bytes) turn.Moved → send_left s.seat.setup.layout (chunk_of s.seat.setup) cur slot ≡ send_left s.seat.setup.layout (chunk_of s.seat.setup) now after + 1
 send_falls {s} {m} {cur = cur} {now = now} {slot = slot} {after = after} u v =
     subst (λ (x : Seat). send_left x.setup.layout (chunk_of x.setup) cur slot ≡ send_left x.setup.layout (chunk_of x.setup) now after + 1) (seat_kept s u.row.events m u.row.did) v.means.0

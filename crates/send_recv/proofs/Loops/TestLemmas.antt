@@ -9,7 +9,7 @@ use Rattle.scc_proto.proofs.PortLaws.{did_nothing, did_both, seat_kept}
 use Rattle.put_get.specs.Cores.{Private}
 use Rattle.put_get.specs.Transfers.{load_count}
 use Rattle.put_get.proofs.WorkLemmas.{load_count-append}
-use Rattle.sync_flags.specs.Tries.{Aim, tries_at, vain_from, vain_tries, Tried}
+use Rattle.sync_flags.specs.Tries.{Aim, tries_at, failed_from, failed_tries, Tried}
 use Rattle.sync_flags.proofs.RowLemmas.{went_on}
 use Rattle.send_recv.specs.declared.answers.RecvTurn.{RecvTurn}
 use Rattle.send_recv.specs.declared.answers.RecvTurn.TheVariants as turn
@@ -30,14 +30,14 @@ use Rattle.send_recv.proofs.Loops.RecvLoop.{Underway, underway_none, underway_mo
 -- the turns so far left no vain try at any spot of the receive
 pub record Begun (s : Sight) (c : Private) (op : RecvAt) (bytes : List ℕ) (m : Sight) (b : Private) (cur : RecvAt) (mid : List ℕ) : Type 0 where
   pub way : Underway s c op bytes 0 m b cur mid
-  pub none : (at : Spot) → IsRecvSpot s.seat op at → vain_tries (aim_of s.seat.setup.layout at) way.row.events ≡ 0
+  pub none : (at : Spot) → IsRecvSpot s.seat op at → failed_tries (aim_of s.seat.setup.layout at) way.row.events ≡ 0
   pub long : length bytes ≡ op.head.len
 
 -- so the tries at its end are those of what comes after
 row_after : {s m : Sight} {c b : Private} {op cur : RecvAt} {bytes mid : List ℕ} (g : Begun s c op bytes m b cur mid) → (at : Spot) → IsRecvSpot s.seat op at → (es : List Event)
-    → vain_tries (aim_of s.seat.setup.layout at) (g.way.row.events ++ es) ≡ vain_tries (aim_of s.seat.setup.layout at) es
+    → failed_tries (aim_of s.seat.setup.layout at) (g.way.row.events ++ es) ≡ failed_tries (aim_of s.seat.setup.layout at) es
 row_after {s} g at spot es =
-    row_on (aim_of s.seat.setup.layout at) g.way.row.events es g.way.row.freed ∙ ap (λ (n : ℕ). vain_from (aim_of s.seat.setup.layout at) false n es) (g.none at spot)
+    row_on (aim_of s.seat.setup.layout at) g.way.row.events es g.way.row.freed ∙ ap (λ (n : ℕ). failed_from (aim_of s.seat.setup.layout at) false n es) (g.none at spot)
 
 not_stalled_after : {s m : Sight} {c b : Private} {op cur : RecvAt} {bytes mid : List ℕ} (polls : ℕ) (g : Begun s c op bytes m b cur mid) → (es : List Event)
     → HasNotStalled m.seat cur polls es → HasNotStalled s.seat op polls (g.way.row.events ++ es)
@@ -88,14 +88,14 @@ then_stalled {s} {m} {t} {c} {b} {d} {op} {cur} {now} {bytes} {mid} {after} {pol
     record {
       events = u.row.events ++ r.events;
       did = did_both s u.row.events m r.events t u.row.did r.did;
-      tried = subst (λ (n : ℕ). polls ≤ n) (sym (row_after g spot own r.events)) (subst (λ (x : Seat). polls ≤ vain_tries (aim_of x.setup.layout spot) r.events) same r.tried);
+      tried = subst (λ (n : ℕ). polls ≤ n) (sym (row_after g spot own r.events)) (subst (λ (x : Seat). polls ≤ failed_tries (aim_of x.setup.layout spot) r.events) same r.tried);
       at = at;
       stands = r.stands;
       same = (r.same.0 ∙ u.from, r.same.1 ∙ u.head);
       calls = r.calls ∙ u.calls;
       call_left = λ x. r.call_left x ∙ u.call_left x;
       fuller = omega (arith, before, full);
-      behind = λ k le. subst (λ (x : Seat). (j : ℕ) → filled_to (chunk_of x.setup) now ≤ j → slice_index after j ≡ slice_index mid j) same r.behind k le ∙ u.behind k (omega (arith, full, le));
+      afterwards = λ k le. subst (λ (x : Seat). (j : ℕ) → filled_to (chunk_of x.setup) now ≤ j → slice_index after j ≡ slice_index mid j) same r.afterwards k le ∙ u.afterwards k (omega (arith, full, le));
       rest = rest_both (record_in s) (record_in m) (record_in t) u.rest r.rest;
       post = post_both (record_in s).post (record_in m).post (record_in t).post u.post r.post;
     }
@@ -107,7 +107,7 @@ then_differs {s} {m} {t} {c} {b} {d} {op} {cur} {bytes} {mid} {after} {polls} {s
     let same : m.seat ≡ s.seat = seat_kept s u.row.events m u.row.did in
     let none : filled_to (chunk_of s.seat.setup) cur ≡ 0 = subst (λ (x : Seat). filled_to (chunk_of x.setup) cur ≡ 0) same r.none_filled in
     let before = u.fuller in
-    let unread : mid ≡ bytes = lists_agree mid bytes (u.stands.long ∙ ap (λ (h : MessageHead). h.len) u.head ∙ sym g.long) (λ k. u.behind k (omega (arith, none))) in
+    let unread : mid ≡ bytes = lists_agree mid bytes (u.stands.long ∙ ap (λ (h : MessageHead). h.len) u.head ∙ sym g.long) (λ k. u.afterwards k (omega (arith, none))) in
     record {
       events = u.row.events ++ r.events;
       did = did_both s u.row.events m r.events t u.row.did r.did;

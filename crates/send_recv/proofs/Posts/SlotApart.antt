@@ -8,7 +8,7 @@ use Rattle.scc_base.specs.declared.events.Access.TheVariants.{Load, Store, Take,
 use Rattle.scc_base.specs.declared.events.Event.{Event}
 use Rattle.scc_base.specs.declared.signals.Signal.TheVariants.{Sent, Ready}
 use Rattle.scc_proto.specs.Messages.{Notes, note_word, Progress, is_last, with_chunk}
-use Rattle.scc_proto.specs.Stages.{Filling, Raised, Answered, Stage, Idle, Drafting, Sending, Between, Taking, Barrier, OnItsWay, Record, blank}
+use Rattle.scc_proto.specs.Stages.{Filling, Raised, Answered, Stage, Idle, Drafting, Sending, Between, Taking, Barrier, InFlight, Record, blank}
 use Rattle.scc_proto.specs.Moves.{Move, DraftHeader, DraftChunk, RaiseSignal, LookSignal, ReadHeader, ReadChunk, LowerSignal, FlipGather, LookGather, WriteRelease, LookRelease, StoreHeap, NoMove, Misplaced, after, is_posted, read_chunk, lower_sent, raise_ready, look_ready, flip_gather, look_gather, write_release, look_release}
 use Rattle.scc_proto.specs.Permission.{permits, may_raise}
 use Rattle.scc_proto.specs.Singles.{is_free}
@@ -17,7 +17,7 @@ use Rattle.scc_proto.specs.Records.{look_at, look_at_bits, leads, EventAct, Movi
 use Rattle.scc_proto.specs.Ports.{Sight, record_in}
 
 -- no message is on its way, or no other one is drafted or raised
-abbrev pub is_apart : Option OnItsWay → Stage → Bool
+abbrev pub is_apart : Option InFlight → Stage → Bool
 is_apart None stage = true
 is_apart (Some post) stage = is_free stage
 
@@ -26,11 +26,11 @@ IsApart rec = is_apart rec.post rec.stage ≡ true
 
 -- ---- moves
 
-none_apart : (post : Option OnItsWay) (b : Bool) (stage : Stage) → (is_none post && b) ≡ true → is_apart post stage ≡ true
+none_apart : (post : Option InFlight) (b : Bool) (stage : Stage) → (is_none post && b) ≡ true → is_apart post stage ≡ true
 none_apart None b stage may = refl
 none_apart (Some post) b stage may = absurd (cc)
 
-free_kept : (post : Option OnItsWay) (stage new : Stage) → is_free new ≡ is_free stage → is_apart post stage ≡ true → is_apart post new ≡ true
+free_kept : (post : Option InFlight) (stage new : Stage) → is_free new ≡ is_free stage → is_apart post stage ≡ true → is_apart post new ≡ true
 free_kept None stage new same h = refl
 free_kept (Some post) stage new same h = same ∙ h
 
@@ -108,16 +108,16 @@ release_free comm value v (Between i message) = refl
 release_free comm value v (Taking i message chunk) = refl
 release_free comm value v (Barrier c seen released) = free_if ((c == comm) && (value == v)) Idle (Barrier c seen released) refl refl
 
-answered_apart : (q : ℕ → Bool) (post : Option OnItsWay) (stage : Stage) → is_apart post stage ≡ true
-    → is_apart (option_map (λ (p : OnItsWay). record p { is_answered = if q p.to then true else p.is_answered }) post) (look_ready q stage) ≡ true
+answered_apart : (q : ℕ → Bool) (post : Option InFlight) (stage : Stage) → is_apart post stage ≡ true
+    → is_apart (option_map (λ (p : InFlight). record p { is_answered = if q p.to then true else p.is_answered }) post) (look_ready q stage) ≡ true
 answered_apart q None stage h = refl
 answered_apart q (Some post) stage h = look_free q stage ∙ h
 
-posted_apart : (b : Bool) (post : OnItsWay) (stage : Stage) → is_apart (if b then Some post else None) (if b then Idle else stage) ≡ true
+posted_apart : (b : Bool) (post : InFlight) (stage : Stage) → is_apart (if b then Some post else None) (if b then Idle else stage) ≡ true
 posted_apart true post stage = refl
 posted_apart false post stage = refl
 
-raised_apart : (size to : ℕ) (rec : Record) (post : Option OnItsWay) (stage : Stage) → (is_none post && may_raise size to stage) ≡ true
+raised_apart : (size to : ℕ) (rec : Record) (post : Option InFlight) (stage : Stage) → (is_none post && may_raise size to stage) ≡ true
     → IsApart (after size (RaiseSignal Sent to) (record rec { post = post; stage = stage }))
 raised_apart size to rec (Some post) stage may = absurd (cc)
 raised_apart size to rec None Idle may = refl

@@ -12,7 +12,7 @@ use Rattle.scc_base.specs.declared.events.Turn.{Turn}
 use Rattle.scc_base.specs.declared.events.Turn.TheVariants.{Moved, Waiting, Done}
 use Rattle.scc_base.specs.declared.layouts.Layout.{Layout}
 use Rattle.scc_base.specs.declared.layouts.Layout.TheVariants.{LineFlags, BitFlags}
-use Rattle.scc_proto.specs.Stages.{Stage, Idle, Drafting, Sending, Between, Taking, Barrier, OnItsWay, Record}
+use Rattle.scc_proto.specs.Stages.{Stage, Idle, Drafting, Sending, Between, Taking, Barrier, InFlight, Record}
 use Rattle.scc_proto.specs.Moves.{LowerSignal, look_ready, lower_ready, calls_sent, post_answered}
 use Rattle.scc_proto.specs.Permission.{may_go_on, is_answered_by}
 use Rattle.scc_proto.specs.Singles.{is_free}
@@ -55,13 +55,13 @@ pub record SlotTurns (s : Sight) (c : Private) (slot : SlotAt) (t : Sight) (d : 
 
 -- ---- the message on its way
 
-way_by : (post : Option OnItsWay) (to : ℕ) → option_map (λ (p : OnItsWay). p.to) post ≡ Some to → (p : OnItsWay) × (post ≡ Some p) × (p.to ≡ to)
+way_by : (post : Option InFlight) (to : ℕ) → option_map (λ (p : InFlight). p.to) post ≡ Some to → (p : InFlight) × (post ≡ Some p) × (p.to ≡ to)
 way_by None to e = absurd (cc)
 way_by (Some p) to e = (p, refl, cc (e))
 
 -- what a full slot has of the record
 pub record IsFull (rec : Record) (slot : SlotAt) (to : ℕ) : Type 0 where
-  pub post : OnItsWay
+  pub post : InFlight
   pub is : rec.post ≡ Some post
   pub to_is : post.to ≡ to
   pub free : is_free rec.stage ≡ true
@@ -69,7 +69,7 @@ pub record IsFull (rec : Record) (slot : SlotAt) (to : ℕ) : Type 0 where
 pub is_full : (s : Sight) (slot : SlotAt) (to : ℕ) → SlotStands s.seat (record_in s) slot → slot.to ≡ Some to → IsFull (record_in s) slot to
 is_full s slot to h full =
     let w = way_by (record_in s).post to (sym h.to ∙ full) in
-    record { post = w.0; is = w.1; to_is = w.2; free = ap (λ (o : Option OnItsWay). is_apart o (record_in s).stage) (sym w.1) ∙ apart_in s }
+    record { post = w.0; is = w.1; to_is = w.2; free = ap (λ (o : Option InFlight). is_apart o (record_in s).stage) (sym w.1) ∙ apart_in s }
 
 looked_free : (q : ℕ → Bool) (stage : Stage) → is_free stage ≡ true → look_ready q stage ≡ stage
 looked_free q Idle free = refl
@@ -95,7 +95,7 @@ calls_free size (Between from message) calls free = refl
 calls_free size (Taking from message chunk) calls free = refl
 calls_free size (Barrier comm seen released) calls free = refl
 
-goes_on_free : (by : ℕ) (stage : Stage) (post : Option OnItsWay) → is_free stage ≡ true → is_answered_by by post ≡ true → (may_go_on by stage post ≡ true) × (is_answered by stage post ≡ true)
+goes_on_free : (by : ℕ) (stage : Stage) (post : Option InFlight) → is_free stage ≡ true → is_answered_by by post ≡ true → (may_go_on by stage post ≡ true) × (is_answered by stage post ≡ true)
 goes_on_free by Idle post free answered = (answered, answered)
 goes_on_free by (Drafting header chunk) post free answered = absurd (cc)
 goes_on_free by (Sending to part message chunk) post free answered = absurd (cc)
@@ -103,7 +103,7 @@ goes_on_free by (Between from message) post free answered = (answered, answered)
 goes_on_free by (Taking from message chunk) post free answered = (answered, answered)
 goes_on_free by (Barrier comm seen released) post free answered = (answered, answered)
 
-same_to : (q : ℕ → Bool) (post : Option OnItsWay) → option_map (λ (p : OnItsWay). p.to) (option_map (post_answered q) post) ≡ option_map (λ (p : OnItsWay). p.to) post
+same_to : (q : ℕ → Bool) (post : Option InFlight) → option_map (λ (p : InFlight). p.to) (option_map (post_answered q) post) ≡ option_map (λ (p : InFlight). p.to) post
 same_to q None = refl
 same_to q (Some p) = refl
 
@@ -165,12 +165,12 @@ pub tried_by : (found : Bool) (spot : Spot) (aim : Option Aim) (es : List Event)
 tried_by true spot aim es tried = tried
 tried_by false spot aim es tried = tried
 
-seen_answered : (q : ℕ → Bool) (post : Option OnItsWay) (p : OnItsWay) (to : ℕ) → post ≡ Some p → p.to ≡ to → q to ≡ true → was_answered (option_map (post_answered q) post) ≡ true
+seen_answered : (q : ℕ → Bool) (post : Option InFlight) (p : InFlight) (to : ℕ) → post ≡ Some p → p.to ≡ to → q to ≡ true → was_answered (option_map (post_answered q) post) ≡ true
 seen_answered q post p to is to_is set =
-    ap (λ (o : Option OnItsWay). was_answered (option_map (post_answered q) o)) is ∙ if_yes (q p.to) true p.is_answered (ap q to_is ∙ set)
+    ap (λ (o : Option InFlight). was_answered (option_map (post_answered q) o)) is ∙ if_yes (q p.to) true p.is_answered (ap q to_is ∙ set)
 
 -- the slot after a look
-looked_seen : (found : Bool) (slot : SlotAt) (q : ℕ → Bool) (post new : Option OnItsWay) (p : OnItsWay) (to : ℕ) → slot.seen ≡ false → new ≡ option_map (post_answered q) post → post ≡ Some p → p.to ≡ to → q to ≡ found
+looked_seen : (found : Bool) (slot : SlotAt) (q : ℕ → Bool) (post new : Option InFlight) (p : InFlight) (to : ℕ) → slot.seen ≡ false → new ≡ option_map (post_answered q) post → post ≡ Some p → p.to ≡ to → q to ≡ found
     → (slot_seen found slot).seen ≡ true → was_answered new ≡ true
 looked_seen true slot q post new p to unseen now is to_is tells seen = ap was_answered now ∙ seen_answered q post p to is to_is tells
 looked_seen false slot q post new p to unseen now is to_is tells seen = absurd (cc (sym unseen ∙ seen))
@@ -182,8 +182,8 @@ looked_to false slot = refl
 look_means : (found : Bool) (slot : SlotAt) (spot : Spot) (to : ℕ) → slot.to ≡ Some to → slot.seen ≡ false → SlotMeans slot (slot_seen found slot) (moved_or_waits found spot)
 look_means true slot spot to full unseen =
     let before : slot_left slot ≡ 2 = ap (λ (o : Option ℕ). slot_left_by o slot.seen) full ∙ ap (λ b. if b then 1 else 2) unseen in
-    let behind : slot_left_by slot.to true ≡ 1 = ap (λ (o : Option ℕ). slot_left_by o true) full in
-    (omega (arith, before, behind), inr refl)
+    let afterwards : slot_left_by slot.to true ≡ 1 = ap (λ (o : Option ℕ). slot_left_by o true) full in
+    (omega (arith, before, afterwards), inr refl)
 look_means false slot spot to full unseen = refl
 
 pub never_done : {P : Type 0} (found : Bool) (spot : Spot) → moved_or_waits found spot ≡ Done → P
@@ -210,7 +210,7 @@ slot_look_turn found s t c d slot to valid h empty hands full unseen looks =
     let spot : slot_spot s.seat slot ≡ Some (flag_spot own flag) = ap (λ (o : Option ℕ). slot_spot_by layout own o slot.seen) full ∙ ap (λ b. slot_spot_by layout own (Some to) b) unseen ∙ spot_unseen layout own to in
     record {
       stands = subst (λ (x : Seat). SlotStands x (record_in t) now) (sym (seat_kept s _ t looks.looks.did)) (record {
-        to = looked_to found slot ∙ h.to ∙ sym (same_to (l.looked.seen Ready) (record_in s).post) ∙ ap (λ (o : Option OnItsWay). option_map (λ (p : OnItsWay). p.to) o) (sym post);
+        to = looked_to found slot ∙ h.to ∙ sym (same_to (l.looked.seen Ready) (record_in s).post) ∙ ap (λ (o : Option InFlight). option_map (λ (p : InFlight). p.to) o) (sym post);
         seen = looked_seen found slot (l.looked.seen Ready) (record_in s).post (record_in t).post f.post to unseen post f.is f.to_is l.tells;
         peers = subst (λ (o : Option ℕ). IfSome o (λ j. are_peers s.seat.setup s.seat.rank j ≡ true)) (sym (looked_to found slot)) h.peers;
       });
@@ -243,7 +243,7 @@ answered_is : (s : Sight) (slot : SlotAt) (to : ℕ) → SlotStands s.seat (reco
 answered_is s slot to h full seen =
     let f = is_full s slot to h full in
     let answered : f.post.is_answered ≡ true = ap was_answered (sym f.is) ∙ h.seen seen in
-    ap (λ (o : Option OnItsWay). is_answered_by to o) f.is ∙ (λ i. (f.to_is i == to) && answered i) ∙ ap (λ b. b && true) (eqb_same to)
+    ap (λ (o : Option InFlight). is_answered_by to o) f.is ∙ (λ i. (f.to_is i == to) && answered i) ∙ ap (λ b. b && true) (eqb_same to)
 
 -- lowering the flag is this move
 lowers_ready : (s : Sight) (slot : SlotAt) (to : ℕ) → IsSetup s.seat.setup → SlotStands s.seat (record_in s) slot → slot.to ≡ Some to → slot.seen ≡ true
@@ -282,12 +282,12 @@ lower_goes s t c d slot to valid h empty hands full seen changes =
     let facts = change_facts layout s t c d own Ready to false true empty changes in
     let before : slot_left slot ≡ 1 = ap (λ (o : Option ℕ). slot_left_by o slot.seen) full ∙ ap (λ b. if b then 1 else 2) seen in
     record {
-      stands = record { to = sym (ap (λ (r : Record). option_map (λ (p : OnItsWay). p.to) r.post) is); seen = λ e. absurd (cc); peers = tt };
+      stands = record { to = sym (ap (λ (r : Record). option_map (λ (p : InFlight). p.to) r.post) is); seen = λ e. absurd (cc); peers = tt };
       turned = record {
         events = facts.events;
         did = facts.did;
         does = slot_does (holding_slot s c slot) (Some to) true true true t d full seen refl changes;
-        tried = went_on layout (slot_spot s.seat slot) own facts.events (λ e. spot_seen s.seat slot to full seen ∙ spot_lines layout own to e) (λ e. spot_seen s.seat slot to full seen ∙ spot_bits layout own to e) facts.tries facts.vain;
+        tried = went_on layout (slot_spot s.seat slot) own facts.events (λ e. spot_seen s.seat slot to full seen ∙ spot_lines layout own to e) (λ e. spot_seen s.seat slot to full seen ∙ spot_bits layout own to e) facts.tries facts.failed;
         freed = facts.freed;
         rests = λ spot e. absurd (cc);
         only = tt;
@@ -319,7 +319,7 @@ lower_waits s t c d slot to valid h empty hands full seen changes =
         events = facts.events;
         did = facts.did;
         does = slot_does (holding_slot s c slot) (Some to) true false false t d full seen refl changes;
-        tried = waits_tried layout (slot_spot s.seat slot) own facts.events (λ e. spot_seen s.seat slot to full seen ∙ spot_bits layout own to e) facts.tries facts.vain facts.lines;
+        tried = waits_tried layout (slot_spot s.seat slot) own facts.events (λ e. spot_seen s.seat slot to full seen ∙ spot_bits layout own to e) facts.tries facts.failed facts.lines;
         freed = facts.freed;
         rests = λ spot e. facts.rests refl;
         only = facts.only refl;

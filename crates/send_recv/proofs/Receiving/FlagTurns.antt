@@ -26,7 +26,7 @@ use Rattle.send_recv.specs.Flags.{Changes, MayChange}
 use Rattle.send_recv.specs.Ops.{RecvAt, is_received}
 use Rattle.send_recv.specs.Receiving.{IsAtRecvStage, IsReceiving, RecvStands, IsRead, SaysHead, between, progress_at, lines_now, spot_by, recv_spot, recv_left, recv_left_by, lines_left, lines_left_by, flag_lines, is_look, filled_to, filled_by}
 use Rattle.send_recv.specs.Steps.{own_core, core_of, signal_flag}
-use Rattle.sync_flags.specs.Tries.{AtRegister, tries_at, all_vain, Tried, NoTry, Fruitful}
+use Rattle.sync_flags.specs.Tries.{AtRegister, tries_at, all_failed, Tried, NoTry, Fruitful}
 use Rattle.send_recv.specs.Tries.{aim_of, aim_at}
 use Rattle.send_recv.specs.Turns.{KeepsAllButMessages}
 use Rattle.send_recv.specs.Ranks.{receiving}
@@ -140,9 +140,9 @@ gain_work events a b x y z f le gain = omega (arith, le, gain)
 
 -- the try of a turn that changes a flag and goes on
 pub went_on : (layout : Layout) (spot : Option Spot) (core : ℕ) (events : List Event) → (layout ≡ LineFlags → spot ≡ None) → (layout ≡ BitFlags → spot ≡ Some (Register core))
-    → (layout ≡ BitFlags → tries_at (AtRegister core) events ≡ 1) → (layout ≡ BitFlags → all_vain (AtRegister core) false events ≡ false) → Tried (aim_at layout spot) events None
-went_on LineFlags spot core events none some tries vain = NoTry (ap (λ (o : Option Spot). aim_at LineFlags o) (none refl)) refl
-went_on BitFlags spot core events none some tries vain = Fruitful (AtRegister core) (ap (λ (o : Option Spot). aim_at BitFlags o) (some refl)) (tries refl) (vain refl) refl
+    → (layout ≡ BitFlags → tries_at (AtRegister core) events ≡ 1) → (layout ≡ BitFlags → all_failed (AtRegister core) false events ≡ false) → Tried (aim_at layout spot) events None
+went_on LineFlags spot core events none some tries failed = NoTry (ap (λ (o : Option Spot). aim_at LineFlags o) (none refl)) refl
+went_on BitFlags spot core events none some tries failed = Fruitful (AtRegister core) (ap (λ (o : Option Spot). aim_at BitFlags o) (some refl)) (tries refl) (failed refl) refl
 
 -- no other spot of the receive is tried at
 pub change_elsewhere : (layout : Layout) (spot : Option Spot) (core : ℕ) (events : List Event) → (layout ≡ BitFlags → spot ≡ Some (Register core))
@@ -203,7 +203,7 @@ lower_goes b s t c d op bytes lines valid r lower changes =
         does = recv_does (receiving s c op bytes) Lower true t d lower changes;
         tried = went_on layout (recv_spot s.seat op) (own_core s.seat) facts.events
             (λ e. ap (λ (st : RecvStage). spot_by layout (own_core s.seat) (core_of s.seat op.from) op.from st) lower ∙ spot_lower_lines layout (own_core s.seat) (core_of s.seat op.from) op.from e)
-            (at_lower s.seat op lower) facts.tries facts.vain;
+            (at_lower s.seat op lower) facts.tries facts.failed;
         freed = facts.freed;
         elsewhere = λ at spot ne. change_elsewhere layout (recv_spot s.seat op) (own_core s.seat) facts.events (at_lower s.seat op lower) facts.elsewhere at ne;
         fuller = taken_fuller b size op lines lower;
@@ -216,7 +216,7 @@ lower_goes b s t c d op bytes lines valid r lower changes =
         rest = rest;
         post = post_kept (record_in s).post (record_in t).post (ap (λ (x : Record). x.post) is);
         before = λ k low. refl;
-        behind = λ k high. refl;
+        afterwards = λ k high. refl;
         held = facts.held;
         work = gain_work (load_count facts.events) c.evictions d.evictions (lines_left layout size now) (lines_left layout size op) (if is_look op.stage then 1 else 0) (flag_lines layout) facts.work
             (taken_gain b layout size op lines lower r.in_hand);

@@ -10,7 +10,7 @@ use Rattle.scc_base.specs.declared.layouts.Layout.{Layout}
 use Rattle.scc_base.specs.declared.layouts.Layout.TheVariants.{LineFlags, BitFlags}
 use Rattle.scc_proto.specs.Tables.{table_with}
 use Rattle.scc_proto.specs.Messages.{Notes, noted_word, has_all, head_of, is_head}
-use Rattle.scc_proto.specs.Stages.{Stage, Idle, Between, OnItsWay, Record}
+use Rattle.scc_proto.specs.Stages.{Stage, Idle, Between, InFlight, Record}
 use Rattle.scc_proto.specs.Words.{are_peers}
 use Rattle.scc_proto.specs.Soundness.{AreOfHead}
 use Rattle.scc_proto.specs.Records.{chunk_of}
@@ -47,12 +47,12 @@ put_self table i x is = λ p k. at k p
         (λ t e. subst (λ j. table j ≡ table_with table i x j) (sym e) (is ∙ sym (put_here table i x)))
         (λ t ne. sym (put_there table i x k ne))
 
-pub post_itself : (post : Option OnItsWay) → IsSamePost post post
+pub post_itself : (post : Option InFlight) → IsSamePost post post
 post_itself None = refl
 post_itself (Some post) = (post.is_answered, refl, λ a. a)
 
-pub post_kept : (old new : Option OnItsWay) → new ≡ old → IsSamePost old new
-post_kept old new e = subst (λ (p : Option OnItsWay). IsSamePost old p) (sym e) (post_itself old)
+pub post_kept : (old new : Option InFlight) → new ≡ old → IsSamePost old new
+post_kept old new e = subst (λ (p : Option InFlight). IsSamePost old p) (sym e) (post_itself old)
 
 -- a head that passes the test is one that a message may have
 pub is_head_is : (head : MessageHead) → is_head head ≡ true → IsHead head
@@ -198,7 +198,7 @@ head_turn s t c d op now bytes words answer valid r header sound reads (Same e n
         rest = rest;
         post = post_kept (record_in s).post (record_in t).post (ap (λ (x : Record). x.post) h.record_is);
         before = λ k low. refl;
-        behind = λ k high. refl;
+        afterwards = λ k high. refl;
         held = ev.held;
         work = head_work s.seat.setup.layout size op (load_count ev.events) c.evictions d.evictions header ev.work;
       };
@@ -242,7 +242,7 @@ head_turn s t c d op now bytes words answer valid r header sound reads (Differs 
         rest = rest;
         post = post;
         before = λ k low. refl;
-        behind = λ k high. refl;
+        afterwards = λ k high. refl;
         held = ev.held;
         work = omega (arith, le);
       };

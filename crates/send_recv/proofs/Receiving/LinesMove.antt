@@ -147,7 +147,7 @@ lines_by : (b : Bool) (s t : Sight) (c d : Private) (op : RecvAt) (i : ℕ) (byt
     → ((k : ℕ) → k < chunk_start (chunk_of s.seat.setup) op.chunk + 32 * i → slice_index after k ≡ slice_index bytes k)
     → ((k : ℕ) → chunk_start (chunk_of s.seat.setup) op.chunk + 32 * i + 32 ≤ k → slice_index after k ≡ slice_index bytes k)
     → Turns s c op bytes t d (record op { stage = next_stage b i }) after Moved
-lines_by b s t c d op i bytes after words next valid r stage reads same put before behind =
+lines_by b s t c d op i bytes after words next valid r stage reads same put before afterwards =
     let size = chunk_of s.seat.setup in
     let layout = s.seat.setup.layout in
     let at : IsAtRecvStage s.seat (record_in s) c op bytes (Lines i) = subst (λ (st : RecvStage). IsAtRecvStage s.seat (record_in s) c op bytes st) stage r.at in
@@ -194,12 +194,12 @@ lines_by b s t c d op i bytes after words next valid r stage reads same put befo
         rest = rest;
         post = post_kept (record_in s).post (record_in t).post (ap (λ (x : Record). x.post) is);
         before = λ k small. before k (omega (arith, filled, small));
-        behind = λ k high. ⊎_elim
+        afterwards = λ k high. ⊎_elim
             (λ (inside : k < chunk_start size op.chunk + 32 * i + 32).
             let end : op.head.len ≤ k = past_line (chunk_lines layout) op.head.len op.chunk i k low (filled_next b size op i k next high) inside in
             let long = r.long in
             get_or_past after k 0 (omega (arith, end, long, same)) ∙ sym (get_or_past bytes k 0 (omega (arith, end, long))))
-            (λ (past : chunk_start size op.chunk + 32 * i + 32 ≤ k). behind k past)
+            (λ (past : chunk_start size op.chunk + 32 * i + 32 ≤ k). afterwards k past)
             (cases_lt k (chunk_start size op.chunk + 32 * i + 32));
         held = subst (λ n. LastHeld ev.events n d) kept ev.held;
         work = more_work (load_count ev.events) c.evictions d.evictions (lines_left layout size op) (lines_left layout size now) (if is_look op.stage then 1 else 0) work
@@ -213,5 +213,5 @@ pub lines_turn : (s t : Sight) (c d : Private) (op : RecvAt) (i : ℕ) (bytes af
     → ((k : ℕ) → k < chunk_start (chunk_of s.seat.setup) op.chunk + 32 * i → slice_index after k ≡ slice_index bytes k)
     → ((k : ℕ) → chunk_start (chunk_of s.seat.setup) op.chunk + 32 * i + 32 ≤ k → slice_index after k ≡ slice_index bytes k)
     → Turns s c op bytes t d (after_line (chunk_of s.seat.setup) i op) after Moved
-lines_turn s t c d op i bytes after words valid r stage reads same put before behind =
-    lines_by (nat_lt (i + 1) (lines_now (chunk_of s.seat.setup) op)) s t c d op i bytes after words refl valid r stage reads same put before behind
+lines_turn s t c d op i bytes after words valid r stage reads same put before afterwards =
+    lines_by (nat_lt (i + 1) (lines_now (chunk_of s.seat.setup) op)) s t c d op i bytes after words refl valid r stage reads same put before afterwards

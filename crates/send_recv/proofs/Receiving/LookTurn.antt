@@ -9,7 +9,7 @@ use Rattle.scc_base.specs.Setups.{IsSetup}
 use Rattle.scc_base.specs.declared.layouts.Layout.{Layout}
 use Rattle.scc_base.specs.declared.layouts.Layout.TheVariants.{LineFlags, BitFlags}
 use Rattle.scc_proto.specs.Messages.{Notes}
-use Rattle.scc_proto.specs.Stages.{Stage, Idle, Between, OnItsWay, FlagWords, Record}
+use Rattle.scc_proto.specs.Stages.{Stage, Idle, Between, InFlight, FlagWords, Record}
 use Rattle.scc_proto.specs.Moves.{look_ready, post_answered}
 use Rattle.scc_proto.specs.Words.{are_peers}
 use Rattle.scc_proto.specs.Records.{chunk_of}
@@ -44,12 +44,12 @@ answered_stays : (q : Bool) (b : Bool) → b ≡ true → (if q then true else b
 answered_stays true b h = refl
 answered_stays false b h = h
 
-same_post : (q : ℕ → Bool) (post : Option OnItsWay) → IsSamePost post (option_map (post_answered q) post)
+same_post : (q : ℕ → Bool) (post : Option InFlight) → IsSamePost post (option_map (post_answered q) post)
 same_post q None = refl
 same_post q (Some post) = (if q post.to then true else post.is_answered, refl, answered_stays (q post.to) post.is_answered)
 
 pub looked_post : (size : ℕ) (rec new : Record) → IsLooked size rec new → IsSamePost rec.post new.post
-looked_post size rec new l = subst (λ (p : Option OnItsWay). IsSamePost rec.post p) (sym (ap (λ (r : Record). r.post) l.is)) (same_post (l.seen Ready) rec.post)
+looked_post size rec new l = subst (λ (p : Option InFlight). IsSamePost rec.post p) (sym (ap (λ (r : Record). r.post) l.is)) (same_post (l.seen Ready) rec.post)
 
 pub looked_rest : (size : ℕ) (rec new : Record) → IsLooked size rec new → KeepsAllButMessages rec new
 looked_rest size rec new l = record {
@@ -146,7 +146,7 @@ look_waits s t c d op bytes valid r look looks =
         rest = rest;
         post = post;
         before = λ k low. refl;
-        behind = λ k high. refl;
+        afterwards = λ k high. refl;
         held = look_held c d _ looks.words looks.looks.fills;
         work = look_work (load_count (loads_of (line_of_word (flag_word (own_core s.seat) (signal_flag s.seat Sent op.from))) looks.words)) c.evictions d.evictions _ (is_look op.stage)
             refl (ap is_look look) (fills_evictions looks.looks.fills);
@@ -229,7 +229,7 @@ look_finds s t c d op bytes b first valid r look looks =
         rest = rest;
         post = post;
         before = λ k low. refl;
-        behind = λ k high. refl;
+        afterwards = λ k high. refl;
         held = look_held c d _ looks.words looks.looks.fills;
         work = look_work (load_count (loads_of (line_of_word (flag_word (own_core s.seat) (signal_flag s.seat Sent op.from))) looks.words)) c.evictions d.evictions _ (is_look op.stage)
             refl (ap is_look look) (fills_evictions looks.looks.fills);

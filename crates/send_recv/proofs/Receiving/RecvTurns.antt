@@ -30,7 +30,7 @@ use Rattle.send_recv.proofs.Looks.SignalFlags.{ChangesBy}
 use Rattle.send_recv.specs.Ops.{RecvAt, is_received}
 use Rattle.send_recv.specs.Receiving.{IsReceiving, RecvStands, RecvDoes, lines_now, spot_by, recv_spot, recv_left, recv_left_by, lines_left, lines_left_by, flag_lines, is_look, filled_to, filled_by}
 use Rattle.send_recv.specs.Steps.{own_core, core_of, signal_flag, after_lower, after_raise, recv_or_waits, raise_answer}
-use Rattle.sync_flags.specs.Tries.{AtRegister, tries_at, all_vain, Tried, Vain}
+use Rattle.sync_flags.specs.Tries.{AtRegister, tries_at, all_failed, Tried, Failed}
 use Rattle.send_recv.specs.Tries.{aim_at}
 use Rattle.send_recv.specs.Turns.{HoldsNoneBy, KeepsAllButMessages}
 use Rattle.send_recv.specs.Ranks.{receiving}
@@ -57,9 +57,9 @@ missed_by BitFlags s t c d core signal by set valid hands (RegisterTaken missed 
 missed_by BitFlags s t c d core signal by set valid hands (BitChanged made words loaded did m fills e, turns) = absurd (cc)
 
 pub waits_tried : (layout : Layout) (spot : Option Spot) (core : ℕ) (events : List Event) → (layout ≡ BitFlags → spot ≡ Some (Register core)) → (layout ≡ BitFlags → tries_at (AtRegister core) events ≡ 1)
-    → (layout ≡ BitFlags → all_vain (AtRegister core) false events ≡ true) → (layout ≡ LineFlags → false ≡ true) → Tried (aim_at layout spot) events (Some (Register core))
-waits_tried LineFlags spot core events some tries vain lines = absurd (let e = lines refl in cc)
-waits_tried BitFlags spot core events some tries vain lines = Vain (AtRegister core) (ap (λ (o : Option Spot). aim_at BitFlags o) (some refl)) (tries refl) (vain refl) refl
+    → (layout ≡ BitFlags → all_failed (AtRegister core) false events ≡ true) → (layout ≡ LineFlags → false ≡ true) → Tried (aim_at layout spot) events (Some (Register core))
+waits_tried LineFlags spot core events some tries failed lines = absurd (let e = lines refl in cc)
+waits_tried BitFlags spot core events some tries failed lines = Failed (AtRegister core) (ap (λ (o : Option Spot). aim_at BitFlags o) (some refl)) (tries refl) (failed refl) refl
 
 still_work : (events a b x z : ℕ) → events + 4 * a ≤ 4 * b + 4 * 0 → events + 4 * a ≤ 4 * b + 4 * ((x - x) + z)
 still_work events a b x z le = omega (arith, le)
@@ -83,7 +83,7 @@ register_waits s t c d op bytes core signal by set valid r plain spot changes do
         events = facts.events;
         did = facts.did;
         does = does;
-        tried = waits_tried layout (recv_spot s.seat op) core facts.events spot facts.tries facts.vain facts.lines;
+        tried = waits_tried layout (recv_spot s.seat op) core facts.events spot facts.tries facts.failed facts.lines;
         freed = facts.freed;
         elsewhere = λ at other ne. change_elsewhere layout (recv_spot s.seat op) core facts.events spot facts.elsewhere at ne;
         fuller = le_self _;
@@ -96,7 +96,7 @@ register_waits s t c d op bytes core signal by set valid r plain spot changes do
         rest = rest;
         post = post;
         before = λ k low. refl;
-        behind = λ k high. refl;
+        afterwards = λ k high. refl;
         held = facts.held;
         work = still_work (load_count facts.events) c.evictions d.evictions (lines_left layout (chunk_of s.seat.setup) op) (if is_look op.stage then 1 else 0) facts.work;
       };
@@ -190,7 +190,7 @@ raise_last s t c d op bytes last valid r raise changes =
         does = recv_does (receiving s c op bytes) Raise true t d raise changes;
         tried = went_on layout (recv_spot s.seat op) (core_of s.seat op.from) facts.events
             (λ e. spot_raise s.seat op raise ∙ spot_raise_lines layout (own_core s.seat) (core_of s.seat op.from) op.from e)
-            (at_raise s.seat op raise) facts.tries facts.vain;
+            (at_raise s.seat op raise) facts.tries facts.failed;
         freed = facts.freed;
         elsewhere = λ at other ne. change_elsewhere layout (recv_spot s.seat op) (core_of s.seat op.from) facts.events (at_raise s.seat op raise) facts.elsewhere at ne;
         fuller = last_fuller layout op raise r.in_hand;
@@ -204,7 +204,7 @@ raise_last s t c d op bytes last valid r raise changes =
         rest = rest;
         post = post_kept (record_in s).post (record_in t).post (ap (λ (x : Record). x.post) is);
         before = λ k low. refl;
-        behind = λ k high. refl;
+        afterwards = λ k high. refl;
         held = facts.held;
         work = gain_work (load_count facts.events) c.evictions d.evictions (lines_left layout size now) (lines_left layout size op) (if is_look op.stage then 1 else 0) (flag_lines layout) facts.work
             (subst (λ x. flag_lines layout ≤ x - 0) (sym (lines_raise layout size op raise))
@@ -245,7 +245,7 @@ raise_next s t c d op bytes more valid r raise changes =
         does = recv_does (receiving s c op bytes) Raise true t d raise changes;
         tried = went_on layout (recv_spot s.seat op) (core_of s.seat op.from) facts.events
             (λ e. spot_raise s.seat op raise ∙ spot_raise_lines layout (own_core s.seat) (core_of s.seat op.from) op.from e)
-            (at_raise s.seat op raise) facts.tries facts.vain;
+            (at_raise s.seat op raise) facts.tries facts.failed;
         freed = facts.freed;
         elsewhere = λ at other ne. change_elsewhere layout (recv_spot s.seat op) (core_of s.seat op.from) facts.events (at_raise s.seat op raise) facts.elsewhere at ne;
         fuller = next_fuller layout op raise;
@@ -266,7 +266,7 @@ raise_next s t c d op bytes more valid r raise changes =
         rest = rest;
         post = post_kept (record_in s).post (record_in t).post (ap (λ (x : Record). x.post) is);
         before = λ k small. refl;
-        behind = λ k high. refl;
+        afterwards = λ k high. refl;
         held = facts.held;
         work = gain_work (load_count facts.events) c.evictions d.evictions (lines_left layout size now) (lines_left layout size op) (if is_look op.stage then 1 else 0) (flag_lines layout) facts.work
             (subst (λ x. flag_lines layout ≤ x - lines_left layout size now) (sym (lines_raise layout size op raise))

@@ -3,7 +3,7 @@ use Rattle.std.proofs.Common.{◌≡◌, ℕ, zero, suc, ◌+◌, ◌-◌, ◌*�
 use Rattle.scc_base.specs.declared.events.Turn.{Turn}
 use Rattle.scc_base.specs.declared.layouts.Layout.{Layout}
 use Rattle.scc_base.specs.declared.layouts.Layout.TheVariants.{LineFlags, BitFlags}
-use Rattle.scc_proto.specs.Stages.{Stage, OnItsWay, Record}
+use Rattle.scc_proto.specs.Stages.{Stage, InFlight, Record}
 use Rattle.scc_proto.specs.Records.{chunk_of}
 use Rattle.scc_proto.specs.Ports.{Seat, Sight}
 use Rattle.put_get.specs.Cores.{Private}
@@ -27,7 +27,7 @@ send_does old stage done known t d is same does = subst (λ b. SendDoes old old.
 
 pub slot_kept : (seat : Seat) (rec new : Record) (slot : SlotAt) → new.post ≡ rec.post → SlotStands seat rec slot → SlotStands seat new slot
 slot_kept seat rec new slot same h = record {
-  to = h.to ∙ ap (λ (o : Option OnItsWay). option_map (λ (p : OnItsWay). p.to) o) (sym same);
+  to = h.to ∙ ap (λ (o : Option InFlight). option_map (λ (p : InFlight). p.to) o) (sym same);
   seen = λ seen. ap was_answered same ∙ h.seen seen;
   peers = h.peers;
 }
@@ -51,7 +51,7 @@ pub at_stage : (seat : Seat) (rec : Record) (c : Private) (op : SendAt) (slot : 
 at_stage seat rec c op slot bytes stage r is = subst (λ (st : SendStage). IsAtSendStage seat rec c op bytes st) is r.at
 
 -- an empty slot: no message is on its way
-none_by : (post : Option OnItsWay) → None ≡ option_map (λ (p : OnItsWay). p.to) post → post ≡ None
+none_by : (post : Option InFlight) → None ≡ option_map (λ (p : InFlight). p.to) post → post ≡ None
 none_by None e = refl
 none_by (Some p) e = absurd (cc)
 

@@ -8,7 +8,7 @@ use Rattle.scc_base.specs.declared.events.Spot.{Spot}
 use Rattle.scc_base.specs.declared.layouts.Layout.{Layout}
 use Rattle.scc_base.specs.declared.layouts.Layout.TheVariants.{LineFlags, BitFlags}
 use Rattle.scc_proto.specs.Messages.{Notes, noted_word, Progress}
-use Rattle.scc_proto.specs.Stages.{Part, Raised, Answered, Stage, Sending, OnItsWay, Record}
+use Rattle.scc_proto.specs.Stages.{Part, Raised, Answered, Stage, Sending, InFlight, Record}
 use Rattle.scc_proto.specs.Moves.{look_ready, post_answered}
 use Rattle.scc_proto.specs.Records.{chunk_of}
 use Rattle.scc_proto.specs.Ports.{Seat, Sight, record_in}
@@ -115,7 +115,7 @@ look_turn found s t c d op slot bytes valid r look looks =
     let message = progress_at size op.head op.chunk bytes in
     let stage : (record_in t).stage ≡ Sending op.to (part_seen found at.3) message up.chunk = ap (λ (x : Record). x.stage) l.looked.is
     ∙ ap (λ (st : Stage). look_ready (l.looked.seen Ready) st) up.stage_is ∙ look_part found (l.looked.seen Ready) op.to message up.chunk at.3 l.tells at.4 in
-    let same : (record_in t).post ≡ (record_in s).post = ap (λ (x : Record). x.post) l.looked.is ∙ ap (λ (o : Option OnItsWay). option_map (post_answered (l.looked.seen Ready)) o) at.1 ∙ sym at.1 in
+    let same : (record_in t).post ≡ (record_in s).post = ap (λ (x : Record). x.post) l.looked.is ∙ ap (λ (o : Option InFlight). option_map (post_answered (l.looked.seen Ready)) o) at.1 ∙ sym at.1 in
     let rest = looked_rest size (record_in s) (record_in t) l.looked in
     let calls = looked_calls size (record_in s) (record_in t) l.looked in
     let post = looked_post size (record_in s) (record_in t) l.looked in

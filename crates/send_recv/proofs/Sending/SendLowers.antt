@@ -10,7 +10,7 @@ use Rattle.scc_base.specs.declared.layouts.Layout.{Layout}
 use Rattle.scc_base.specs.declared.layouts.Layout.TheVariants.{LineFlags, BitFlags}
 use Rattle.scc_base.specs.declared.signals.Signal.TheVariants.{Ready}
 use Rattle.scc_proto.specs.Messages.{bytes_from, is_last, with_chunk}
-use Rattle.scc_proto.specs.Stages.{Filling, Answered, Stage, Idle, Sending, OnItsWay, Record}
+use Rattle.scc_proto.specs.Stages.{Filling, Answered, Stage, Idle, Sending, InFlight, Record}
 use Rattle.scc_proto.specs.Moves.{LowerSignal, lower_ready, calls_sent, finished_if, after}
 use Rattle.scc_proto.specs.Permission.{may_go_on}
 use Rattle.scc_proto.specs.Soundness.{is_answered}
@@ -197,14 +197,14 @@ lower_goes b s t c d op slot bytes last valid small r lower changes =
         tried = subst (λ (w : Option Spot). Tried (aim_at layout (send_spot s.seat op slot)) facts.events w) (sym (no_wait b))
             (went_on layout (send_spot s.seat op slot) own facts.events
             (λ e. spot_at s.seat op slot Lower lower ∙ spot_lines layout own (core_of s.seat op.to) op.to (slot_spot s.seat slot) e)
-            (λ e. spot_at s.seat op slot Lower lower ∙ spot_bits layout own (core_of s.seat op.to) op.to (slot_spot s.seat slot) e) facts.tries facts.vain);
+            (λ e. spot_at s.seat op slot Lower lower ∙ spot_bits layout own (core_of s.seat op.to) op.to (slot_spot s.seat slot) e) facts.tries facts.failed);
         freed = facts.freed;
         ends = λ done open_before aim n. facts.ends refl aim n;
         rests = λ spot e. never_waits b spot _ e;
         only = subst (λ (w : Option Spot). OnlyTries (aim_at layout w) facts.events) (sym (no_wait b)) tt;
         same = same_op b op;
         means = lower_means b s t c d op slot bytes small last at.3 r.long r.in_hand lower at.0
-            (r.slot_stands.to ∙ ap (λ (o : Option OnItsWay). option_map (λ (p : OnItsWay). p.to) o) at.1) is;
+            (r.slot_stands.to ∙ ap (λ (o : Option InFlight). option_map (λ (p : InFlight). p.to) o) at.1) is;
         rest = record { flips = ap (λ (x : Record). x.flips) is; hold = ap (λ (x : Record). x.held) is; heap = ap (λ (x : Record). x.heap) is };
         drafts = no_stores s.seat.setup c facts.events (change_drafts_none s t c d own (signal_flag s.seat Ready op.to) false true at.2 (signal_is_flag s.seat valid Ready op.to s.seat.rank (peers_swap s.seat.setup s.seat.rank op.to r.peers)) changes facts.events facts.did);
         held = facts.held;

@@ -10,7 +10,7 @@ use Rattle.scc_base.specs.Events.{store_of}
 use Rattle.scc_base.specs.declared.layouts.Layout.{Layout}
 use Rattle.scc_base.specs.declared.layouts.Layout.TheVariants.{LineFlags, BitFlags}
 use Rattle.scc_proto.specs.Messages.{head_of, Progress, fresh_message}
-use Rattle.scc_proto.specs.Stages.{Stage, OnItsWay, Record}
+use Rattle.scc_proto.specs.Stages.{Stage, InFlight, Record}
 use Rattle.scc_proto.specs.Moves.{RaiseSignal, after}
 use Rattle.scc_proto.specs.Permission.{permits, may_raise, is_drafted}
 use Rattle.scc_proto.specs.Soundness.{is_drafting}
@@ -89,7 +89,7 @@ flag_other seat op bytes core (suc i) lines below =
 raises_bit : (s : Sight) (c : Private) (op : SendAt) (slot : SlotAt) (bytes : List ℕ) → s.seat.setup.layout ≡ BitFlags → IsSetup s.seat.setup → AreBytes bytes → SendStands s c op slot bytes → (record_in s).post ≡ None
     → HasDrafted (chunk_of s.seat.setup) (record_in s).stage op bytes (lines_in_hand (chunk_of s.seat.setup) op) → MovesFlag BitFlags s.seat (record_in s) op.to Sent s.seat.rank true (RaiseSignal Sent op.to)
 raises_bit s c op slot bytes bits valid small r none drafted =
-    let drafting : is_drafting (record_in s).stage (record_in s).post ≡ true = ap (λ (o : Option OnItsWay). is_drafting (record_in s).stage o) none
+    let drafting : is_drafting (record_in s).stage (record_in s).post ≡ true = ap (λ (o : Option InFlight). is_drafting (record_in s).stage o) none
     ∙ drafting_by (chunk_of s.seat.setup) (record_in s).stage op bytes (lines_in_hand (chunk_of s.seat.setup) op) drafted in
     signal_raises BitFlags s Sent op.to bits valid r.peers (sent_is_clear s op.to r.peers drafting) (permitted_by s.seat (record_in s) c (record_in s).stage op slot bytes small r none drafted)
 

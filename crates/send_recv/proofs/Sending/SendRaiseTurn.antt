@@ -31,8 +31,8 @@ use Rattle.send_recv.specs.Receiving.{flag_lines}
 use Rattle.send_recv.specs.Sending.{SlotStands, IsBeforeRaise, IsAtSendStage, IsSending, SendStands, SendMeans, own_line, header_words, lines_in_hand, waiting, of_chunk, from_raise, send_spot, send_spot_by, slot_spot}
 use Rattle.send_recv.specs.Ranks.{sending}
 use Rattle.send_recv.specs.Steps.{moves_on, own_core, core_of, signal_flag, after_sent, sent_answer, slot_sent}
-use Rattle.sync_flags.specs.Tries.{Aim, AtFlag, AtWord, AtRegister, tries_at, all_vain, changing_after, vain_from, Tried}
-use Rattle.sync_flags.proofs.VainLemmas.{vain-append}
+use Rattle.sync_flags.specs.Tries.{Aim, AtFlag, AtWord, AtRegister, tries_at, all_failed, changing_after, failed_from, Tried}
+use Rattle.sync_flags.proofs.FailedLemmas.{failed-append}
 use Rattle.sync_flags.proofs.RowLemmas.{changing-append}
 use Rattle.send_recv.specs.Tries.{aim_at}
 use Rattle.send_recv.specs.Turns.{KeepsAllButMessages, OnlyTries, LastHeld, NoLoad, StoresFromBuffer}
@@ -58,9 +58,9 @@ record RaiseFacts (layout : Layout) (s : Sight) (c : Private) (core : ℕ) (t : 
   drafts : StoresFromBuffer s.seat.setup c events
   out : d.out ≡ None
   tries : layout ≡ BitFlags → tries_at (AtRegister core) events ≡ 1
-  vain : layout ≡ BitFlags → all_vain (AtRegister core) false events ≡ false
+  failed : layout ≡ BitFlags → all_failed (AtRegister core) false events ≡ false
   freed : changing_after false events ≡ false
-  ends : (aim : Aim) (n : ℕ) → vain_from aim false n events ≡ 0
+  ends : (aim : Aim) (n : ℕ) → failed_from aim false n events ≡ 0
 
 loads_by : (b : Bool) (o : Out) (p : WordAt) (v : ℕ) → load_count (stores_of (Some o) ++ store_of p v ∷ []) ≡ 0 → load_count (stores_of (if b then Some o else None) ++ store_of p v ∷ []) ≡ 0
 loads_by true o p v none = none
@@ -71,7 +71,7 @@ raise_loads seat op bytes zero p v = loads_by (op.chunk == 0) (whole_line (own_l
 raise_loads seat op bytes (suc i) p v = refl
 
 -- no vain try is left after a store
-store_last : (p : WordAt) (v : ℕ) (aim : Aim) (n : ℕ) → vain_from aim false n (store_of p v ∷ []) ≡ 0
+store_last : (p : WordAt) (v : ℕ) (aim : Aim) (n : ℕ) → failed_from aim false n (store_of p v ∷ []) ≡ 0
 store_last p v (AtFlag place bit want) n = refl
 store_last p v (AtWord place value) n = refl
 store_last p v (AtRegister core) n = refl
@@ -93,9 +93,9 @@ facts_by LineFlags s t c d op bytes core signal by plain before (done, writes) =
       drafts = record { front = stores; rest = store ∷ []; is = refl; none_or_all = inr (ap (λ (o : Option Out). stores_of o) (sym out)); no_draft = store_drafts_none s.seat.setup core flag 1 plain };
       out = ap (λ (x : Private). x.out) writes.is;
       tries = λ e. absurd (cc);
-      vain = λ e. absurd (cc);
+      failed = λ e. absurd (cc);
       freed = changing-append false stores (store ∷ []) ∙ ap (λ b. changing_after b (store ∷ [])) freed;
-      ends = λ aim n. vain-append aim false n stores (store ∷ []) ∙ ap (λ b. vain_from aim b (vain_from aim false n stores) (store ∷ [])) freed ∙ store_last (flag_word core flag) 1 aim (vain_from aim false n stores);
+      ends = λ aim n. failed-append aim false n stores (store ∷ []) ∙ ap (λ b. failed_from aim b (failed_from aim false n stores) (store ∷ [])) freed ∙ store_last (flag_word core flag) 1 aim (failed_from aim false n stores);
     }
 facts_by BitFlags s t c d op bytes core signal by plain before changes =
     let facts = change_facts BitFlags s t c d core signal by true true before.0 changes in
@@ -107,7 +107,7 @@ facts_by BitFlags s t c d op bytes core signal by plain before changes =
       drafts = no_stores s.seat.setup c facts.events (drafts_none_by (Some by) s t c d core (signal_at BitFlags signal by) true true before.0 plain changes facts.events facts.did);
       out = facts.out;
       tries = facts.tries;
-      vain = facts.vain;
+      failed = facts.failed;
       freed = facts.freed;
       ends = facts.ends refl;
     }
@@ -200,7 +200,7 @@ raise_goes b s t c d op slot bytes posts valid small r raise changes =
         tried = subst (λ (w : Option Spot). Tried (aim_at layout (send_spot s.seat op slot)) facts.events w) (sym (no_wait b))
             (went_on layout (send_spot s.seat op slot) core facts.events
             (λ e. spot_at s.seat op slot Raise raise ∙ spot_lines layout (own_core s.seat) core op.to (slot_spot s.seat slot) e)
-            (λ e. spot_at s.seat op slot Raise raise ∙ spot_bits layout (own_core s.seat) core op.to (slot_spot s.seat slot) e) facts.tries facts.vain);
+            (λ e. spot_at s.seat op slot Raise raise ∙ spot_bits layout (own_core s.seat) core op.to (slot_spot s.seat slot) e) facts.tries facts.failed);
         freed = facts.freed;
         ends = λ done open_before aim n. facts.ends aim n;
         rests = λ spot e. never_waits b spot _ e;

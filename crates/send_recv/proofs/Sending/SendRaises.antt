@@ -7,7 +7,7 @@ use Rattle.scc_base.specs.declared.layouts.Layout.{Layout}
 use Rattle.scc_base.specs.declared.layouts.Layout.TheVariants.{LineFlags, BitFlags}
 use Rattle.scc_base.specs.declared.signals.Signal.TheVariants.{Sent}
 use Rattle.scc_proto.specs.Messages.{Notes, head_of, Progress, fresh_message, with_chunk, message_of, post_to}
-use Rattle.scc_proto.specs.Stages.{Raised, Stage, Idle, Sending, OnItsWay, Record}
+use Rattle.scc_proto.specs.Stages.{Raised, Stage, Idle, Sending, InFlight, Record}
 use Rattle.scc_proto.specs.Moves.{RaiseSignal, raise_sent, post_raised, calls_raised, finished_if, is_posted, after}
 use Rattle.scc_proto.proofs.Layouts.Roles.{if_yes, if_no}
 use Rattle.send_recv.specs.Chunks.{chunk_count, chunk_start}
@@ -53,7 +53,7 @@ offered size rec new stage op bytes plain (Later chunk later at lines) is = reco
 
 pub record IsPostedNow (rec new : Record) (op : SendAt) (bytes : List ℕ) : Type 0 where
   pub stage : new.stage ≡ Idle
-  pub to : option_map (λ (p : OnItsWay). p.to) new.post ≡ Some op.to
+  pub to : option_map (λ (p : InFlight). p.to) new.post ≡ Some op.to
   pub calls : new.calls ≡ rec.calls ++ Post op.to op.head bytes ∷ []
 
 -- a message that may be posted has one chunk
@@ -74,8 +74,8 @@ posted_now layout rec new stage op bytes small posts head long below (First head
     let begins : message ≡ progress_at size op.head op.chunk bytes = ap (λ (h : MessageHead). fresh_message h) (head_drafted header op words) ∙ begun_is size op.head op.chunk bytes first in
     record {
       stage = ap (λ (r : Record). r.stage) is ∙ ap (λ (st : Stage). raise_sent op.to st) at ∙ if_yes (is_posted header) Idle (Sending op.to Raised message chunk) posted;
-      to = ap (λ (r : Record). option_map (λ (p : OnItsWay). p.to) r.post) is ∙ ap (λ (st : Stage). option_map (λ (p : OnItsWay). p.to) (post_raised op.to st rec.post)) at
-          ∙ ap (λ (o : Option OnItsWay). option_map (λ (p : OnItsWay). p.to) o) (if_yes (is_posted header) (Some (record { to = op.to; head = head_of header; chunk = chunk; is_answered = false })) rec.post posted);
+      to = ap (λ (r : Record). option_map (λ (p : InFlight). p.to) r.post) is ∙ ap (λ (st : Stage). option_map (λ (p : InFlight). p.to) (post_raised op.to st rec.post)) at
+          ∙ ap (λ (o : Option InFlight). option_map (λ (p : InFlight). p.to) o) (if_yes (is_posted header) (Some (record { to = op.to; head = head_of header; chunk = chunk; is_answered = false })) rec.post posted);
       calls = ap (λ (r : Record). r.calls) is ∙ ap (λ (st : Stage). calls_raised size op.to st rec.calls) at
           ∙ ap (λ b. finished_if b (post_to op.to (message_of (with_chunk size message chunk))) rec.calls) posted
           ∙ ap (λ (m : Progress). rec.calls ++ post_to op.to (message_of (with_chunk size m chunk)) ∷ []) begins

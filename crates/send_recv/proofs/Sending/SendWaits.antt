@@ -50,7 +50,7 @@ register_waits s t c d op slot bytes core signal by set valid r empty plain spot
         events = facts.events;
         did = facts.did;
         does = does;
-        tried = waits_tried layout (send_spot s.seat op slot) core facts.events spot facts.tries facts.vain facts.lines;
+        tried = waits_tried layout (send_spot s.seat op slot) core facts.events spot facts.tries facts.failed facts.lines;
         freed = facts.freed;
         ends = λ e. absurd (cc);
         rests = λ w e. facts.rests refl;

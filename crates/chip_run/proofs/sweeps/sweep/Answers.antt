@@ -16,24 +16,24 @@ turn_at_home-came-requires g c =
     record {
       whole = is_crew.whole;
       below = let is = c.of.ensures.gives in let each = is_crew.each in omega (arith, low, is, each);
-      free = crew_free g.W.Worker.conduct g.met.W.Worker.hands c.loop-at.chip c.loop-at.crew c.index-crew-at.result c.of.result is_crew;
-      ties = ties_here g.W.Worker.conduct c.loop-at.chip c.loop-at.crew c.loop-at.at c.of.result c.index-crew-at.result is_crew low c.of.ensures.gives;
+      free = crew_free g.W.Worker.behaviour g.met.W.Worker.hands c.loop-at.chip c.loop-at.crew c.index-crew-at.result c.of.result is_crew;
+      ties = ties_here g.W.Worker.behaviour c.loop-at.chip c.loop-at.crew c.loop-at.at c.of.result c.index-crew-at.result is_crew low c.of.ensures.gives;
     }
 
 pub loop-at-init : goal.loop-at-init
-loop-at-init g c = record { swept = sweep_first g.W.Worker.conduct c.args.chip.now c.args.crew.now c.requires.crew; order = (refl, refl) }
+loop-at-init g c = record { swept = sweep_first g.W.Worker.behaviour c.args.chip.now c.args.crew.now c.requires.crew; order = (refl, refl) }
 
 pub loop-at-preserved : goal.loop-at-preserved
 loop-at-preserved g c =
     let stands = c.loop-at.invariant.swept.stands in
     let each = c.requires.crew.each in let gives = c.nue-ranks.ensures.gives in let about = ap (λ (s : SetupView). s.nue) c.setup.ensures.gives in
     let low : c.loop-at.at < length c.loop-at.crew = omega (arith, c.loop-at-test.true, c.loop-at.auto.at-end, stands.goes.count, each, gives, about) in
-    let turn = one_turned g.W.Worker.conduct c.loop-at.chip c.loop-at.crew c.loop-at.at c.of.result c.index-crew-at.result stands.is_crew low c.of.ensures.gives
+    let turn = one_turned g.W.Worker.behaviour c.loop-at.chip c.loop-at.crew c.loop-at.at c.of.result c.index-crew-at.result stands.is_crew low c.of.ensures.gives
     c.turn_at_home-came.new.worker c.turn_at_home-came.new.chip c.turn_at_home-came.result c.turn_at_home-came.ensures.turned in
     record {
-      swept = sweep_on g.W.Worker.conduct c.args.chip.now c.loop-at.chip c.turn_at_home-came.new.chip c.args.crew.now c.loop-at.crew _ c.loop-at.at
+      swept = sweep_on g.W.Worker.behaviour c.args.chip.now c.loop-at.chip c.turn_at_home-came.new.chip c.args.crew.now c.loop-at.crew _ c.loop-at.at
           c.loop-at.so_far c.turn_at_home-came.result c.and-so_far.result c.and-so_far.ensures.gives c.loop-at.invariant.swept turn;
-      order = turns_next g.W.Worker.conduct c.loop-at.at c.args.chip.now c.loop-at.chip c.turn_at_home-came.new.chip c.args.crew.now c.loop-at.crew _ c.turn_at_home-came.result
+      order = turns_next g.W.Worker.behaviour c.loop-at.at c.args.chip.now c.loop-at.chip c.turn_at_home-came.new.chip c.args.crew.now c.loop-at.crew _ c.turn_at_home-came.result
           c.loop-at.invariant.order turn;
     }
 
@@ -42,6 +42,6 @@ returns g c =
     let each = c.requires.crew.each in let gives = c.nue-ranks.ensures.gives in let about = ap (λ (s : SetupView). s.nue) c.setup.ensures.gives in
     let all : c.loop-at.at ≡ length c.args.crew.now = omega (arith, c.loop-at-test.false, c.loop-at.auto.at-end, each, gives, about) in
     record {
-      swept = subst (λ (n : ℕ). SweepStands g.W.Worker.conduct c.loop-at.so_far n c.args.chip.now c.args.crew.now c.loop-at.chip c.loop-at.crew) all c.loop-at.invariant.swept;
-      order = subst (λ (n : ℕ). TurnsOf g.W.Worker.conduct (range_with_len 0 n) c.args.chip.now c.args.crew.now c.loop-at.chip c.loop-at.crew) all c.loop-at.invariant.order;
+      swept = subst (λ (n : ℕ). SweepStands g.W.Worker.behaviour c.loop-at.so_far n c.args.chip.now c.args.crew.now c.loop-at.chip c.loop-at.crew) all c.loop-at.invariant.swept;
+      order = subst (λ (n : ℕ). TurnsOf g.W.Worker.behaviour (range_with_len 0 n) c.args.chip.now c.args.crew.now c.loop-at.chip c.loop-at.crew) all c.loop-at.invariant.order;
     }

@@ -5,6 +5,6 @@ use Rattle.chip_run.proofs.sweeps.sweep.Given as goal
 
 abbrev pub invariant-loop-at : goal.invariant-loop-at
 invariant-loop-at g l = record {
-  swept : SweepStands g.W.Worker.conduct l.so_far l.at l.fn.chip l.fn.crew l.chip l.crew;
-  order : TurnsOf g.W.Worker.conduct (range_with_len 0 l.at) l.fn.chip l.fn.crew l.chip l.crew;
+  swept : SweepStands g.W.Worker.behaviour l.so_far l.at l.fn.chip l.fn.crew l.chip l.crew;
+  order : TurnsOf g.W.Worker.behaviour (range_with_len 0 l.at) l.fn.chip l.fn.crew l.chip l.crew;
 }

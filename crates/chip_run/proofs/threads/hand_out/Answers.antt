@@ -22,7 +22,7 @@ give-requires-clause-below g c =
 
 pub give-requires-clause-ties : goal.give-requires-clause-ties
 give-requires-clause-ties g c =
-    tied_yet g.W.Worker.conduct.tied (about_in c.args.chip.now) (about_in c.loop-at.chip) c.loop-at.at _ _ c.loop-at.invariant.same.0
+    tied_yet g.W.Worker.behaviour.tied (about_in c.args.chip.now) (about_in c.loop-at.chip) c.loop-at.at _ _ c.loop-at.invariant.same.0
     (c.loop-at.invariant.served.left c.loop-at.at _ (omega arith)) (events_in c.args.chip.now c.loop-at.at) _ (c.loop-at.invariant.events c.loop-at.at (omega arith))
     (c.requires.crew.ties c.loop-at.at _ c.loop-at-test.true).ties
 

@@ -8,5 +8,5 @@ invariant-loop-at g l = record {
   from : IsHomeFrom l.chip l.at;
   same : (about_in l.chip ≡ about_in l.fn.chip) × (table_in l.chip ≡ table_in l.fn.chip);
   events : (q : ℕ) → l.at ≤ q → events_in l.chip q ≡ events_in l.fn.chip q;
-  served : Served (λ k m n. (n.worker ≡ m.worker) × IsAway (g.W.Worker.conduct.tied n.worker) (about_in l.fn.chip) (table_in l.fn.chip) k n.token) l.at l.fn.crew l.crew;
+  served : Served (λ k m n. (n.worker ≡ m.worker) × IsAway (g.W.Worker.behaviour.tied n.worker) (about_in l.fn.chip) (table_in l.fn.chip) k n.token) l.at l.fn.crew l.crew;
 }

@@ -16,7 +16,7 @@ bring-requires-clause-below g c =
 
 pub bring-requires-clause-away : goal.bring-requires-clause-away
 bring-requires-clause-away g c =
-    away_yet g.W.Worker.conduct.tied (about_in c.args.chip.now) (about_in c.loop-at.chip) c.loop-at.at _ _ c.loop-at.invariant.same.0
+    away_yet g.W.Worker.behaviour.tied (about_in c.args.chip.now) (about_in c.loop-at.chip) c.loop-at.at _ _ c.loop-at.invariant.same.0
     (c.loop-at.invariant.served.left c.loop-at.at _ (omega arith)) (table_in c.args.chip.now) (table_in c.loop-at.chip) c.loop-at.invariant.same.1
     (c.requires.away c.loop-at.at _ c.loop-at-test.true)
 

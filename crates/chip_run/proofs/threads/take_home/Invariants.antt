@@ -7,5 +7,5 @@ abbrev pub invariant-loop-at : goal.invariant-loop-at
 invariant-loop-at g l = record {
   home : IsHomeBelow l.chip l.at;
   same : (about_in l.chip ≡ about_in l.fn.chip) × (table_in l.chip ≡ table_in l.fn.chip);
-  served : Served (λ k m n. (n.worker ≡ m.worker) × IsAtHome (g.W.Worker.conduct.tied n.worker) n.token (about_in l.fn.chip) k (events_in l.chip k)) l.at l.fn.crew l.crew;
+  served : Served (λ k m n. (n.worker ≡ m.worker) × IsAtHome (g.W.Worker.behaviour.tied n.worker) n.token (about_in l.fn.chip) k (events_in l.chip k)) l.at l.fn.crew l.crew;
 }

@@ -12,8 +12,8 @@ agrees-requires g c =
     let kept = ap (λ (x : Sight). x.seat.hold) c.turn-answer.ensures.turned.did.continues in
     let n = sym (kept ∙ p.name) in
     record {
-      whole = own_turn_whole g.W.Worker.conduct c.args.chip.now c.args.rank c.args.worker.now c.turn-answer.new.self c.turn-answer.result.0 _ end.chip.now (search (rules, n))
-          (own_turn_ends g.W.Worker.conduct c.args.chip.now lent.chip.now end.chip.now c.args.rank lent.rank end.rank lent.chip.ghost_name end.chip.ghost_name
+      whole = own_turn_whole g.W.Worker.behaviour c.args.chip.now c.args.rank c.args.worker.now c.turn-answer.new.self c.turn-answer.result.0 _ end.chip.now (search (rules, n))
+          (own_turn_ends g.W.Worker.behaviour c.args.chip.now lent.chip.now end.chip.now c.args.rank lent.rank end.rank lent.chip.ghost_name end.chip.ghost_name
           c.args.worker.now c.turn-answer.new.self c.turn-answer.result.0 p.same p.rank c.requires.whole c.requires.below end.home c.turn-answer.ensures.turned c.turn-answer.ensures.ties);
     }
 
@@ -25,9 +25,9 @@ returns g c =
     let kept = ap (λ (x : Sight). x.seat.hold) c.turn-answer.ensures.turned.did.continues in
     let n = sym (kept ∙ p.name) in
     record {
-      turned = home_turned g.W.Worker.conduct c.args.chip.now c.args.rank c.args.worker.now c.turn-answer.new.self c.turn-answer.result.0 _ end.chip.now c.is_stopped.result c.of.result
+      turned = home_turned g.W.Worker.behaviour c.args.chip.now c.args.rank c.args.worker.now c.turn-answer.new.self c.turn-answer.result.0 _ end.chip.now c.is_stopped.result c.of.result
           c.requires.free (search (rules, n))
-          (own_turn_ends g.W.Worker.conduct c.args.chip.now lent.chip.now end.chip.now c.args.rank lent.rank end.rank lent.chip.ghost_name end.chip.ghost_name
+          (own_turn_ends g.W.Worker.behaviour c.args.chip.now lent.chip.now end.chip.now c.args.rank lent.rank end.rank lent.chip.ghost_name end.chip.ghost_name
           c.args.worker.now c.turn-answer.new.self c.turn-answer.result.0 p.same p.rank c.requires.whole c.requires.below end.home c.turn-answer.ensures.turned c.turn-answer.ensures.ties)
           c.agrees.ensures.beyond (c.is_stopped.ensures.tells (about_in c.args.chip.now) c.args.rank) c.of.ensures.gives;
     }

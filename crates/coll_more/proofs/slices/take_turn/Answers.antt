@@ -44,8 +44,8 @@ returns-clause-before g c =
     ∙ sym (ap (take c.args.first) c.split_at_mut-rest.ensures.value
     ∙ take_at c.split_at_mut-rest.result.0.now c.split_at_mut-rest.result.1.now c.args.first c.split_at_mut-rest.ensures.front_len)
 
-pub returns-clause-behind : goal.returns-clause-behind
-returns-clause-behind g c =
+pub returns-clause-afterwards : goal.returns-clause-afterwards
+returns-clause-afterwards g c =
     let part = c.split_at_mut-part.ensures.front_len in
     let long : length c.turn.new.bytes ≡ c.args.len = omega (arith, c.turn.auto.bytes, part) in
     drop_part c.split_at_mut-rest.result.0.now c.turn.new.bytes c.split_at_mut-part.result.1.now c.args.first c.args.len c.split_at_mut-rest.ensures.front_len long

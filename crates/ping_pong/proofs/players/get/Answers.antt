@@ -3,7 +3,7 @@ use Rattle.scc_base.specs.Calls.{Recv}
 use Rattle.scc_base.specs.Heads.{plain_head}
 use Rattle.send_recv.specs.Calling.{RecvStalled}
 use Rattle.send_recv.specs.Receiving.{recv_call}
-use Rattle.station.specs.Calls.{at_receive, behind_receive, in_receive}
+use Rattle.station.specs.Calls.{at_receive, after_receive, in_receive}
 use Rattle.station.specs.Stops.{Owes, SaysWhy, StopsReceive}
 use Rattle.station.specs.declared.stops.RecvStop.{RecvStop}
 use Rattle.station.proofs.PatienceLemmas.{at_first, once_more, within}
@@ -18,7 +18,7 @@ rounds-init g c =
     let s = g.P.Port.sight c.args.port.now in
     let t = g.P.Port.sight c.recv.new.port in
     let is = c.in-Stalled.is in
-    let why = subst (λ (stop : RecvStop). SaysWhy (at_receive s c.args.station.now c.args.from c.args.ball.now) c.args.station.now.polls (behind_receive t c.recv.new.self c.recv.new.buffer) stop) is
+    let why = subst (λ (stop : RecvStop). SaysWhy (at_receive s c.args.station.now c.args.from c.args.ball.now) c.args.station.now.polls (after_receive t c.recv.new.self c.recv.new.buffer) stop) is
     c.in-Err.ensures.why in
     let owes = subst (λ (stop : RecvStop). Owes (λ (bytes : List ℕ). Recv c.args.from (plain_head (length c.args.ball.now)) bytes ∷ []) s t stop) is c.in-Err.ensures.owes in
     let long : length c.args.ball.now ≡ 4 = c.told-ball in
@@ -36,7 +36,7 @@ rounds-init g c =
 pub returns-in_default-stop-clause-why : goal.returns-in_default-stop-clause-why
 returns-in_default-stop-clause-why g c =
     let mid = in_receive (g.P.Port.sight c.rounds.port) c.rounds.station c.rounds.stall.op c.rounds.ball in
-    let now = behind_receive (g.P.Port.sight c.recv_on.new.port) c.recv_on.new.self c.recv_on.new.buffer in
+    let now = after_receive (g.P.Port.sight c.recv_on.new.port) c.recv_on.new.self c.recv_on.new.buffer in
     let stop = c.in-Err-recv_on.stop in
     let more = c.rounds-test.true in
     let few : c.rounds.round + 1 ≤ 1000 = omega (arith, more) in
@@ -55,7 +55,7 @@ rounds-preserved g c =
     let before = c.rounds.invariant in
     let more = c.rounds-test.true in
     let is = c.in-Stalled-stop.is in
-    let why = subst (λ (stop : RecvStop). SaysWhy mid c.rounds.station.polls (behind_receive t c.recv_on.new.self c.recv_on.new.buffer) stop) is c.in-Err-recv_on.ensures.why in
+    let why = subst (λ (stop : RecvStop). SaysWhy mid c.rounds.station.polls (after_receive t c.recv_on.new.self c.recv_on.new.buffer) stop) is c.in-Err-recv_on.ensures.why in
     let owes = subst (λ (stop : RecvStop). Owes (recv_call c.rounds.stall.op) m t stop) is c.in-Err-recv_on.ensures.owes in
     record {
       stands = subst (λ (stop : RecvStop). StopsReceive t c.recv_on.new.self c.recv_on.new.buffer stop) is c.in-Err-recv_on.ensures.stops;

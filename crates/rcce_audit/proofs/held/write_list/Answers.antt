@@ -25,9 +25,9 @@ pub loop-call-preserved : goal.loop-call-preserved
 loop-call-preserved g c =
     let call = c.call-item.result in
     let own = c.piece-own.ensures.gives ∙ ap (λ (n : ℕ). take n (drop c.loop-call.at c.args.bytes.now)) c.bytes_in.ensures in
-    let behind = c.piece-own.ensures.within in
+    let afterwards = c.piece-own.ensures.within in
     record {
-      within = omega (arith, behind);
+      within = omega (arith, afterwards);
       place = place_more c.args.rank c.args.calls.now c.args.bytes.now c.loop-call.call-index c.loop-call.at call c.loop-call-test.true c.call-item.is c.loop-call.invariant.place _ (ap length own);
       so_far = whole_within (g.S.Sink.seen c.args.sink.now) (g.S.Sink.seen c.loop-call.sink) (g.S.Sink.seen c.write_held.new.sink) _ _ _
           (text_more c.args.rank c.args.calls.now c.args.bytes.now c.loop-call.call-index c.loop-call.at call c.loop-call-test.true c.call-item.is c.loop-call.invariant.place) c.loop-call.invariant.so_far

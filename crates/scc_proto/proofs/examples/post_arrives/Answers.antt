@@ -6,4 +6,4 @@ use Rattle.scc_proto.proofs.examples.post_arrives.Goals as goal
 
 pub returns : goal.returns
 unfolding act_of record_of has_all is_zero_from bytes_from key_of
-returns c = record { is_run = search rules; permitted = search rules; posted = refl; on_its_way = refl; received = refl; taken = refl }
+returns c = record { is_run = search rules; permitted = search rules; posted = refl; in_flight = refl; received = refl; taken = refl }

@@ -6,4 +6,4 @@ use Rattle.scc_proto.proofs.refusals.bits_are_held.Goals as goal
 
 pub returns : goal.returns
 unfolding act_of has_all is_zero_from bytes_from key_of
-returns c = record { no_register = refl; in_vain = refl; not_loaded = refl; before = refl; freed = refl; let_go = refl; other_core = refl; ready_for_sent = refl; ready_no_register = refl; sent_for_ready = refl }
+returns c = record { no_register = refl; failed = refl; not_loaded = refl; before = refl; freed = refl; let_go = refl; other_core = refl; ready_for_sent = refl; ready_no_register = refl; sent_for_ready = refl }

@@ -6,4 +6,4 @@ use Rattle.scc_proto.proofs.refusals.register_is_held.Goals as goal
 
 pub returns : goal.returns
 unfolding act_of has_all is_zero_from bytes_from key_of
-returns c = record { twice = refl; twice_in_vain = refl; free = refl; freed = refl; in_vain = refl; other = refl }
+returns c = record { twice = refl; failed_twice = refl; free = refl; freed = refl; failed = refl; other = refl }

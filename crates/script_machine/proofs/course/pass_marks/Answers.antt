@@ -1,6 +1,6 @@
 use Rattle.std.proofs.Common.{◌∙◌, ap, sym}
 use Rattle.script_rules.specs.declared.effect.Nesting.{Nesting}
-use Rattle.script_machine.specs.Walk.{passed_to, repeats_behind_marks}
+use Rattle.script_machine.specs.Walk.{passed_to, repeats_after_marks}
 use Rattle.script_machine.proofs.Walks.StandLaws.{open_on, passed_on}
 use Rattle.script_machine.proofs.Walks.WalkLaws.{closing}
 use Rattle.script_machine.proofs.course.pass_marks.Goals as goal
@@ -11,7 +11,7 @@ returns-then-closes-clause-to c n is =
 
 pub returns-then-closes-clause-left : goal.returns-then-closes-clause-left
 returns-then-closes-clause-left c n is =
-    c.close.ensures.left ∙ sym (ap (λ (n : Nesting). repeats_behind_marks n c.args.repeats.now.items) (closing n (sym is ∙ c.if-closes.true)).1)
+    c.close.ensures.left ∙ sym (ap (λ (n : Nesting). repeats_after_marks n c.args.repeats.now.items) (closing n (sym is ∙ c.if-closes.true)).1)
 
 pub returns-else-closes-clause-to : goal.returns-else-closes-clause-to
 returns-else-closes-clause-to c n is = sym (passed_on n c.args.at c.args.end c.args.repeats.now.items (sym is ∙ c.if-closes.false))

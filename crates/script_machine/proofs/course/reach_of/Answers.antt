@@ -14,8 +14,8 @@ loop-at-preserved c =
     let rank = c.args.rank in
     let more = depth_more rank (nesting_at rank c.item-item.result.now) (depth_at rank items c.loop-at.at) in
     let next = depth_next rank items c.loop-at.at c.item-item.result.now c.item-item.ensures.found in
-    let here : c.depth_behind-depth.result ≡ depth_at rank items (c.loop-at.at + 1) =
-    c.depth_behind-depth.ensures ∙ (λ i. depth_after (c.nesting_at.ensures i) (c.loop-at.invariant.here i)) ∙ sym next in
+    let here : c.depth_afterwards-depth.result ≡ depth_at rank items (c.loop-at.at + 1) =
+    c.depth_afterwards-depth.ensures ∙ (λ i. depth_after (c.nesting_at.ensures i) (c.loop-at.invariant.here i)) ∙ sym next in
     record {
       here = here;
       few = omega (arith, c.loop-at.invariant.few, c.loop-at.invariant.here, here, next, more);

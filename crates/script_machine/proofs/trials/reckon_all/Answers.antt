@@ -2,7 +2,7 @@ use Rattle.std.proofs.Common.{◌∙◌, List, [], refl, subst, sym}
 use Rattle.script_machine.specs.Passes.{HoldsBefore}
 use Rattle.script_machine.specs.Program.{Prim, prims_in}
 use Rattle.script_machine.proofs.ProgramLengths.RoomLaws.{wider_same, wider_wider}
-use Rattle.script_machine.proofs.ProgramLengths.StretchLaws.{before_before, course_same, none_left, stretch_holds}
+use Rattle.script_machine.proofs.ProgramLengths.BatchLaws.{before_before, course_same, none_left, batch_holds}
 use Rattle.script_machine.proofs.trials.reckon_all.Goals as goal
 
 pub loop-course-init : goal.loop-course-init
@@ -36,12 +36,12 @@ returns-clause-holds c =
     let old = c.args.reckoning.now in
     let first = c.reckon_prims.new.reckoning in
     let start = c.args.course.now.left in
-    let behind = c.reckon_prims.new.course.left in
+    let afterwards = c.reckon_prims.new.course.left in
     let r = c.loop-course.reckoning in
-    let prims = stretch_holds first.most old.lengths first.lengths start behind c.in_ok-reckon_prims.ensures.stretch in
+    let prims = batch_holds first.most old.lengths first.lengths start afterwards c.in_ok-reckon_prims.ensures.batch in
     let none = none_left c.loop-course.course.left (sym c.is_at_end.ensures ∙ c.loop-course-test.false) c.loop-course.invariant.stands in
-    let passes = subst (λ (p : List Prim). HoldsBefore r.most first.lengths (prims_in behind) r.lengths p) none c.loop-course.invariant.holds in
-    before_before first.most r.most old.lengths first.lengths r.lengths (prims_in start) (prims_in behind) [] c.loop-course.invariant.wider prims passes
+    let passes = subst (λ (p : List Prim). HoldsBefore r.most first.lengths (prims_in afterwards) r.lengths p) none c.loop-course.invariant.holds in
+    before_before first.most r.most old.lengths first.lengths r.lengths (prims_in start) (prims_in afterwards) [] c.loop-course.invariant.wider prims passes
 
 pub returns-clause-same : goal.returns-clause-same
 returns-clause-same c =

@@ -1,7 +1,7 @@
 use Rattle.std.proofs.Common.{◌≡◌, ◌∙◌, ap, arith, drop, length, sym}
 use Rattle.script_machine.specs.Lengths.{Lengths}
 use Rattle.script_machine.specs.Walk.{CourseView}
-use Rattle.script_machine.proofs.ProgramLengths.StretchLaws.{again_ends, comes_again, course_goes, course_same, kept_same, pass_holds, quiet_holds, stretch_shorter}
+use Rattle.script_machine.proofs.ProgramLengths.BatchLaws.{again_ends, comes_again, course_goes, course_same, kept_same, pass_holds, quiet_holds, batch_shorter}
 use Rattle.script_machine.proofs.Walks.FlatLaws.{out_shorter, out_stands}
 use Rattle.script_machine.proofs.Walks.MarkLaws.{less_marks}
 use Rattle.script_machine.proofs.trials.reckon_pass.Goals as goal
@@ -10,14 +10,14 @@ pub returns-then-not-is_quiet-clause-holds : goal.returns-then-not-is_quiet-clau
 returns-then-not-is_quiet-clause-holds c =
     let r = c.reckon_prims.new.reckoning in
     pass_holds r.most c.args.reckoning.now.lengths r.lengths c.args.course.now.left c.advance.new.self.left c.reckon_prims.new.course.left
-    c.requires (ap (λ (w : CourseView). w.left) c.advance.ensures) c.in_ok-kept.ensures.stretch
+    c.requires (ap (λ (w : CourseView). w.left) c.advance.ensures) c.in_ok-kept.ensures.batch
 
 pub returns-then-not-is_quiet-clause-less : goal.returns-then-not-is_quiet-clause-less
 returns-then-not-is_quiet-clause-less c =
     let r = c.reckon_prims.new.reckoning in
     let gone : c.advance.new.self.left ≡ drop 1 c.args.course.now.left = ap (λ (w : CourseView). w.left) c.advance.ensures in
     let first = less_marks c.args.course.now.left c.requires in
-    let more = stretch_shorter r.most c.args.reckoning.now.lengths r.lengths c.advance.new.self.left c.reckon_prims.new.course.left c.in_ok-kept.ensures.stretch in
+    let more = batch_shorter r.most c.args.reckoning.now.lengths r.lengths c.advance.new.self.left c.reckon_prims.new.course.left c.in_ok-kept.ensures.batch in
     omega (arith, first, more, ap length gone)
 
 pub returns-then-not-is_quiet-clause-same : goal.returns-then-not-is_quiet-clause-same
@@ -29,7 +29,7 @@ leave-requires c =
     let r = c.reckon_prims.new.reckoning in
     let left = c.reckon_prims.new.course.left in
     let gone = ap (λ (w : CourseView). w.left) c.advance.ensures in
-    let s = c.in_ok-kept.ensures.stretch in
+    let s = c.in_ok-kept.ensures.batch in
     again_ends s.prims left
     (comes_again r.most c.args.reckoning.now.lengths r.lengths c.args.course.now.left c.advance.new.self.left left c.passes-passes.result c.passes-passes.ensures
     (c.is_quiet.ensures.passes c.if-not-is_quiet.false) gone s c.in_ok-kept.ensures.stands)
@@ -40,7 +40,7 @@ returns-clause-holds c =
     let old = c.args.reckoning.now in
     let left = c.reckon_prims.new.course.left in
     let gone = ap (λ (w : CourseView). w.left) c.advance.ensures in
-    let s = c.in_ok-kept.ensures.stretch in
+    let s = c.in_ok-kept.ensures.batch in
     let quiet = c.if-not-is_quiet.false in
     let again = comes_again r.most old.lengths r.lengths c.args.course.now.left c.advance.new.self.left left c.passes-passes.result c.passes-passes.ensures
     (c.is_quiet.ensures.passes quiet) gone s c.in_ok-kept.ensures.stands in
@@ -56,7 +56,7 @@ returns-clause-less c =
     let r = c.reckon_prims.new.reckoning in
     let gone : c.advance.new.self.left ≡ drop 1 c.args.course.now.left = ap (λ (w : CourseView). w.left) c.advance.ensures in
     let first = less_marks c.args.course.now.left c.requires in
-    let more = stretch_shorter r.most c.args.reckoning.now.lengths r.lengths c.advance.new.self.left c.reckon_prims.new.course.left c.in_ok-kept.ensures.stretch in
+    let more = batch_shorter r.most c.args.reckoning.now.lengths r.lengths c.advance.new.self.left c.reckon_prims.new.course.left c.in_ok-kept.ensures.batch in
     let out = out_shorter c.reckon_prims.new.course.left c.leave.new.self.left c.leave.ensures.leaves in
     omega (arith, first, more, out, ap length gone)
 

@@ -4,13 +4,13 @@ use Rattle.script_machine.specs.Lengths.{Lengths, lengths_after}
 use Rattle.script_machine.specs.Passes.{KeepsRegisters}
 use Rattle.script_machine.specs.Walk.{CourseView, prim_meant, prim_of}
 use Rattle.script_machine.proofs.ProgramLengths.RoomLaws.{wider_same, wider_wider}
-use Rattle.script_machine.proofs.ProgramLengths.StretchLaws.{course_goes, course_same, front_less, kept_kept, none_next, stretch_more, stretch_none}
+use Rattle.script_machine.proofs.ProgramLengths.BatchLaws.{course_goes, course_same, front_less, kept_kept, none_next, batch_more, batch_none}
 use Rattle.script_machine.proofs.Choices.{both_true}
 use Rattle.script_machine.proofs.trials.reckon_prims.Goals as goal
 
 pub loop-prim-init : goal.loop-prim-init
 loop-prim-init c = record {
-  stretch = stretch_none c.args.reckoning.now.most c.args.reckoning.now.lengths c.args.course.now.left;
+  batch = batch_none c.args.reckoning.now.most c.args.reckoning.now.lengths c.args.course.now.left;
   wider = wider_same c.args.reckoning.now.most;
   kept = λ yes. refl;
   same = refl;
@@ -24,8 +24,8 @@ loop-prim-preserved c =
     let front : prim_of (slice_get left 0) ≡ Some prim = sym c.front.ensures.same ∙ ap (option_map prim_meant) c.in-Some.is in
     let gone : c.advance.new.self.left ≡ drop 1 left = ap (λ (w : CourseView). w.left) c.advance.ensures in
     record {
-      stretch = stretch_more r.most c.go.new.self.most c.args.reckoning.now.lengths r.lengths c.go.new.self.lengths c.args.course.now.left left c.advance.new.self.left prim
-          c.loop-prim.invariant.stretch c.in_ok-go.ensures.wider c.within_law.ensures c.in_ok-go.ensures.spare c.in_ok-go.ensures.after front gone;
+      batch = batch_more r.most c.go.new.self.most c.args.reckoning.now.lengths r.lengths c.go.new.self.lengths c.args.course.now.left left c.advance.new.self.left prim
+          c.loop-prim.invariant.batch c.in_ok-go.ensures.wider c.within_law.ensures c.in_ok-go.ensures.spare c.in_ok-go.ensures.after front gone;
       wider = wider_wider c.args.reckoning.now.most r.most c.go.new.self.most c.loop-prim.invariant.wider c.in_ok-go.ensures.wider;
       kept = λ yes.
           let both = both_true c.loop-prim.kept c.keeps-kept.result yes in

@@ -4,7 +4,7 @@ use Rattle.std.proofs.lemmas.List.{take_all}
 use Rattle.groups.specs.declared.operations.Ty.{Ty}
 use Rattle.script_rules.specs.declared.fault.FaultKind.TheVariants as kind
 use Rattle.script_reader.specs.Faults.{◌>>=◌}
-use Rattle.script_reader.specs.Said.{value_behind}
+use Rattle.script_reader.specs.Said.{value_after}
 use Rattle.script_reader.specs.Words.{bytes_above, bytes_below, greatest}
 use Rattle.texts.specs.Numbers.{decimal_of}
 use Rattle.script_reader.proofs.StopLemmas.{starved}
@@ -19,7 +19,7 @@ each false given f g o p q is = ap (λ (r : Option _). given (option_map g r)) i
 -- a value by what its digits are, where this is whether the first byte is a dash
 value : (ty : Ty) (front word : List ℕ) (dashed : Bool) (size : Option ℕ) → (slice_index word 0 == 45) ≡ dashed
     → cond dashed (decimal_of 20 (greatest ty + 1) (drop 1 word)) (decimal_of 20 (greatest ty) word) ≡ size
-    → value_behind ty front word ≡ (ok_or (option_map (cond dashed (bytes_below ty) (bytes_above ty)) size) kind.BadNumber >>= λ bytes. Ok (front ++ bytes))
+    → value_after ty front word ≡ (ok_or (option_map (cond dashed (bytes_below ty) (bytes_above ty)) size) kind.BadNumber >>= λ bytes. Ok (front ++ bytes))
 value ty front word dashed size first said =
     let given = λ (o : Option (List ℕ)). ok_or o kind.BadNumber >>= λ bytes. Ok (front ++ bytes) in
     let low = decimal_of 20 (greatest ty + 1) (drop 1 word) in
@@ -33,7 +33,7 @@ empty (b ∷ word) short is = omega (arith, short)
 
 -- the digits after a dash
 below : (c : After-greatest) (size : Option ℕ) → size ≡ decimal_of 20 (c.greatest.result + 1) (take (length c.args.word.now - 1) (drop 1 c.args.word.now))
-    → value_behind c.args.ty c.args.bytes.now.items c.args.word.now ≡ (ok_or (option_map (bytes_below c.args.ty) size) kind.BadNumber >>= λ bytes. Ok (c.args.bytes.now.items ++ bytes))
+    → value_after c.args.ty c.args.bytes.now.items c.args.word.now ≡ (ok_or (option_map (bytes_below c.args.ty) size) kind.BadNumber >>= λ bytes. Ok (c.args.bytes.now.items ++ bytes))
 below c size gives =
     let word = c.args.word.now in
     let all = take_all (length word - 1) (drop 1 word) (omega (arith, length-drop 1 word)) in
@@ -43,7 +43,7 @@ below c size gives =
 
 -- and with no dash
 above : (c : After-greatest-in_default) (size : Option ℕ) → size ≡ decimal_of 20 c.greatest-in_default.result c.args.word.now
-    → value_behind c.args.ty c.args.bytes.now.items c.args.word.now ≡ (ok_or (option_map (bytes_above c.args.ty) size) kind.BadNumber >>= λ bytes. Ok (c.args.bytes.now.items ++ bytes))
+    → value_after c.args.ty c.args.bytes.now.items c.args.word.now ≡ (ok_or (option_map (bytes_above c.args.ty) size) kind.BadNumber >>= λ bytes. Ok (c.args.bytes.now.items ++ bytes))
 above c size gives =
     let word = c.args.word.now in
     let other : slice_index word 0 ≡ 45 → ⊥ =

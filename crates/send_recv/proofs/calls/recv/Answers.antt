@@ -18,8 +18,8 @@ turns-smaller-in-Moved g c = measure_falls _ _ _ _ (left_falls c.turns.invariant
 pub turns-preserved-in-Moved : goal.turns-preserved-in-Moved
 turns-preserved-in-Moved g c = (underway_moved c.turns.invariant.0 c.in-Moved.ensures.stands c.in-Moved.ensures.turned, c.requires.some)
 
-pub returns-then-vain-polls : goal.returns-then-vain-polls
-returns-then-vain-polls g c = record { ends = (refl, underway_stalls c.turns.invariant.0 c.in-Waiting.ensures.stands c.in-Waiting.ensures.turned c.args.polls c.if-vain-polls.true) }
+pub returns-then-failed-polls : goal.returns-then-failed-polls
+returns-then-failed-polls g c = record { ends = (refl, underway_stalls c.turns.invariant.0 c.in-Waiting.ensures.stands c.in-Waiting.ensures.turned c.args.polls c.if-failed-polls.true) }
 
 pub turns-preserved : goal.turns-preserved
-turns-preserved g c = (underway_waited c.turns.invariant.0 c.in-Waiting.ensures.stands c.in-Waiting.ensures.turned, c.if-vain-polls.false)
+turns-preserved g c = (underway_waited c.turns.invariant.0 c.in-Waiting.ensures.stands c.in-Waiting.ensures.turned, c.if-failed-polls.false)

@@ -6,8 +6,8 @@ use Rattle.send_recv.proofs.calls.recv.Given as goal
 
 abbrev pub invariant-turns : goal.invariant-turns
 invariant-turns g l =
-    Underway (g.P.Port.sight l.fn.port) l.fn.core l.fn.op l.fn.bytes l.vain (g.P.Port.sight l.port) l.core l.op l.bytes
-    × (l.vain < l.polls)
+    Underway (g.P.Port.sight l.fn.port) l.fn.core l.fn.op l.fn.bytes l.failed (g.P.Port.sight l.port) l.core l.op l.bytes
+    × (l.failed < l.polls)
 
 abbrev pub decreases-turns : goal.decreases-turns
-decreases-turns g l = recv_left (chunk_of (g.P.Port.sight l.fn.port).seat.setup) l.op * l.polls + (l.polls - l.vain)
+decreases-turns g l = recv_left (chunk_of (g.P.Port.sight l.fn.port).seat.setup) l.op * l.polls + (l.polls - l.failed)

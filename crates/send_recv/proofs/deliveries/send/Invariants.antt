@@ -6,8 +6,8 @@ use Rattle.send_recv.proofs.deliveries.send.Given as goal
 
 abbrev pub invariant-turns : goal.invariant-turns
 invariant-turns g l =
-    SendWay (g.P.Port.sight l.fn.port) l.fn.op l.bytes l.vain (g.P.Port.sight l.port) l.core l.op l.slot
-    × (l.vain < l.polls)
+    SendWay (g.P.Port.sight l.fn.port) l.fn.op l.bytes l.failed (g.P.Port.sight l.port) l.core l.op l.slot
+    × (l.failed < l.polls)
 
 abbrev pub decreases-turns : goal.decreases-turns
-decreases-turns g l = send_left (g.P.Port.sight l.fn.port).seat.setup.layout (chunk_of (g.P.Port.sight l.fn.port).seat.setup) l.op l.slot * l.polls + (l.polls - l.vain)
+decreases-turns g l = send_left (g.P.Port.sight l.fn.port).seat.setup.layout (chunk_of (g.P.Port.sight l.fn.port).seat.setup) l.op l.slot * l.polls + (l.polls - l.failed)

@@ -1,5 +1,5 @@
 use Rattle.std.proofs.Common.{◌+◌, ◌-◌, ℕ, List, length, slice_index, sym, ◌∙◌, ap, subst, arith}
-use Rattle.send_recv.proofs.Lines.Puts.{IsPutting, le_byte, part_long, part_put, part_before, part_behind, putting_more, putting_past}
+use Rattle.send_recv.proofs.Lines.Puts.{IsPutting, le_byte, part_long, part_put, part_before, part_after, putting_more, putting_past}
 use Rattle.send_recv.proofs.slices.put_word.Goals as goal
 use Rattle.send_recv.proofs.slices.put_word.Goals.{then-at-k, else-at-k}
 
@@ -20,15 +20,15 @@ returns-then-at-bytes-clause-before c =
     part_before c.args.bytes.now c.copy_from_slice.new.self c.args.at (c.args.at + 8 - c.args.at) (omega (arith, c.if-at-bytes.true))
     (c.copy_from_slice.ensures.len ∙ part_long c.args.bytes.now c.args.at 8 c.if-at-bytes.true)
 
-pub returns-then-at-bytes-clause-behind : goal.returns-then-at-bytes-clause-behind
-returns-then-at-bytes-clause-behind c = λ k high.
-    part_behind c.args.bytes.now c.copy_from_slice.new.self c.args.at (c.args.at + 8 - c.args.at) (omega (arith, c.if-at-bytes.true))
+pub returns-then-at-bytes-clause-afterwards : goal.returns-then-at-bytes-clause-afterwards
+returns-then-at-bytes-clause-afterwards c = λ k high.
+    part_after c.args.bytes.now c.copy_from_slice.new.self c.args.at (c.args.at + 8 - c.args.at) (omega (arith, c.if-at-bytes.true))
     (c.copy_from_slice.ensures.len ∙ part_long c.args.bytes.now c.args.at 8 c.if-at-bytes.true) k (omega (arith, high))
 
 pub bytes-preserved : goal.bytes-preserved
 bytes-preserved c =
     let i = c.bytes.invariant in
-    let is : IsPutting c.args.bytes.now c.args.at c.args.word c.bytes.k c.bytes.bytes = record { put = i.put; before = i.before; behind = i.behind } in
+    let is : IsPutting c.args.bytes.now c.args.at c.args.word c.bytes.k c.bytes.bytes = record { put = i.put; before = i.before; afterwards = i.afterwards } in
     let more : IsPutting c.args.bytes.now c.args.at c.args.word (c.bytes.k + 1) c.if-at-k.bytes
     = elim c.if-at-k.branch [
       | then-at-k w ↦ subst (IsPutting c.args.bytes.now c.args.at c.args.word (c.bytes.k + 1)) (sym w.bytes-is)
@@ -36,4 +36,4 @@ bytes-preserved c =
       | else-at-k w ↦ subst (IsPutting c.args.bytes.now c.args.at c.args.word (c.bytes.k + 1)) (sym w.bytes-is)
           (putting_past c.args.bytes.now c.bytes.bytes c.args.at c.args.word c.bytes.k is w.if-at-k.false)
     ] in
-    record { put = more.put; before = more.before; behind = more.behind }
+    record { put = more.put; before = more.before; afterwards = more.afterwards }

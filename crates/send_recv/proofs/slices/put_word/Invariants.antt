@@ -6,5 +6,5 @@ abbrev pub invariant-bytes : goal.invariant-bytes
 invariant-bytes l = record {
   put : (k : ℕ) → k < l.k → l.at + k < length l.bytes → slice_index l.bytes (l.at + k) ≡ byte_of_word l.word k;
   before : (k : ℕ) → k < l.at → slice_index l.bytes k ≡ slice_index l.fn.bytes k;
-  behind : (k : ℕ) → l.at + l.k ≤ k → slice_index l.bytes k ≡ slice_index l.fn.bytes k;
+  afterwards : (k : ℕ) → l.at + l.k ≤ k → slice_index l.bytes k ≡ slice_index l.fn.bytes k;
 }

@@ -34,15 +34,15 @@ turns-smaller-in-Moved g c =
 pub turns-preserved-in-Moved : goal.turns-preserved-in-Moved
 turns-preserved-in-Moved g c = let some = c.requires.some in (way_moved c.turns.invariant.0 c.in-Moved.ensures.turned c.in-Moved.ensures.stands, omega (arith, some))
 
-pub returns-then-vain-polls : goal.returns-then-vain-polls
-returns-then-vain-polls g c = record {
+pub returns-then-failed-polls : goal.returns-then-failed-polls
+returns-then-failed-polls g c = record {
   ended = tt;
   stands = λ base is. c.in-Waiting.ensures.stands base (c.turns.invariant.0.stands base is);
-  why = (refl, way_stalls c.turns.invariant.0 c.in-Waiting.ensures.turned c.in-Waiting.ensures.stands c.args.polls c.if-vain-polls.true);
+  why = (refl, way_stalls c.turns.invariant.0 c.in-Waiting.ensures.turned c.in-Waiting.ensures.stands c.args.polls c.if-failed-polls.true);
   only = only_so_far c.turns.invariant.0 c.in-Waiting.ensures.turned;
 }
 
 pub turns-preserved : goal.turns-preserved
 turns-preserved g c =
-    let more = c.if-vain-polls.false in
+    let more = c.if-failed-polls.false in
     (way_waited c.turns.invariant.0 c.in-Waiting.ensures.turned c.in-Waiting.ensures.stands, omega (arith, more))

@@ -6,8 +6,8 @@ use Rattle.station.proofs.collectives.take_turns.Given as goal
 
 abbrev pub invariant-turns : goal.invariant-turns
 invariant-turns g l =
-    Way (taking_part (g.P.Port.sight l.fn.port) l.fn.core l.fn.op l.fn.slot l.src l.fn.dst) l.vain (taking_part (g.P.Port.sight l.port) l.core l.op l.slot l.src l.dst)
-    × (l.vain < l.polls)
+    Way (taking_part (g.P.Port.sight l.fn.port) l.fn.core l.fn.op l.fn.slot l.src l.fn.dst) l.failed (taking_part (g.P.Port.sight l.port) l.core l.op l.slot l.src l.dst)
+    × (l.failed < l.polls)
 
 abbrev pub decreases-turns : goal.decreases-turns
-decreases-turns g l = more_left (g.P.Port.sight l.fn.port).seat l.op l.slot * l.polls + (l.polls - l.vain)
+decreases-turns g l = more_left (g.P.Port.sight l.fn.port).seat l.op l.slot * l.polls + (l.polls - l.failed)

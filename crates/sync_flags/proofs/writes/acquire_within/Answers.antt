@@ -1,7 +1,7 @@
 use Rattle.std.proofs.Common.{refl, ◌∙◌}
 use Rattle.scc_proto.proofs.PortLaws.{did_nothing, did_both}
 use Rattle.put_get.proofs.StepLemmas.{steps_none, steps_one, steps_both}
-use Rattle.sync_flags.proofs.WriteLemmas.{vain_take_more}
+use Rattle.sync_flags.proofs.WriteLemmas.{failed_take_more}
 use Rattle.sync_flags.proofs.writes.acquire_within.Goals as goal
 
 pub loop-init : goal.loop-init
@@ -30,7 +30,7 @@ loop-preserved g c =
     let now = g.P.Port.sight c.loop.port in
     let end = g.P.Port.sight c.try_acquire.new.port in
     record {
-      did = vain_take_more start now end c.args.c c.loop.counter c.loop.invariant.did c.in_default.ensures.takes;
+      did = failed_take_more start now end c.args.c c.loop.counter c.loop.invariant.did c.in_default.ensures.takes;
       same = c.in_default.ensures.holds ∙ c.loop.invariant.same;
       steps = steps_both g.P.Port.stepped start now end _ _ c.loop.invariant.did c.in_default.ensures.takes c.loop.invariant.steps
           (steps_one g.P.Port.stepped now end _ c.in_default.ensures.takes c.in_default.ensures.step);

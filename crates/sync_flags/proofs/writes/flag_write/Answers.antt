@@ -4,7 +4,7 @@ use Rattle.scc_base.specs.Setups.{SetupView, host_of}
 use Rattle.scc_proto.specs.Ports.{record_in}
 use Rattle.tas_lock.specs.Holds.{IsNotHolding}
 use Rattle.sync_flags.specs.Flags.{flag_of}
-use Rattle.sync_flags.specs.Tries.{AtRegister, TriedInVain}
+use Rattle.sync_flags.specs.Tries.{AtRegister, TryFailed}
 use Rattle.sync_flags.specs.Writes.{WritesFlag}
 use Rattle.sync_flags.proofs.WaitLemmas.{no_stall}
 use Rattle.sync_flags.proofs.WriteLemmas.{word_no_stall, bit_stalls, no_bit, each_bit}
@@ -26,7 +26,7 @@ returns-in-Some-clause-freed g c = each_bit _ c.args.f.bit
 
 pub returns-in-Some-clause-stalls : goal.returns-in-Some-clause-stalls
 returns-in-Some-clause-stalls g c = λ events did.
-    subst (λ (p : WordAt). IsErr c.write_bit.result ↔ TriedInVain (AtRegister p.core) c.args.polls events)
+    subst (λ (p : WordAt). IsErr c.write_bit.result ↔ TryFailed (AtRegister p.core) c.args.polls events)
     (c.place-place.ensures.gives ∙ ap (λ (k : ℕ). flag_word k c.args.f) (c.core_of.ensures.gives ∙ ap (λ (s : SetupView). host_of s.hosts c.args.at) c.setup.ensures.gives))
     (bit_stalls _ _ _ _ c.place-place.result c.in-Some.bit c.args.set c.args.polls c.write_bit.result c.write_bit.ensures.writes c.requires.some events did)
 

@@ -5,8 +5,8 @@ use Rattle.texts.specs.Cuts.{line_count, lines_before}
 use Rattle.texts.proofs.cuts.line_count.Goals as goal
 
 -- where the last line has no bytes, those before it are counted
-none_behind : {A : Type 0} (of : A → List ℕ) (lines : List A) (n : ℕ) (last : A) → n ≡ length lines - 1 → n < length lines → last ≡ get_or lines n last → (length (of last) == 0) ≡ true → n ≡ line_count (map of lines)
-none_behind of lines n last at inside is empty =
+none_after : {A : Type 0} (of : A → List ℕ) (lines : List A) (n : ℕ) (last : A) → n ≡ length lines - 1 → n < length lines → last ≡ get_or lines n last → (length (of last) == 0) ≡ true → n ≡ line_count (map of lines)
+none_after of lines n last at inside is empty =
     let all = map of lines in
     let many = length-map lines of in
     let here : n ≡ length all - 1 = at ∙ ap (λ (m : ℕ). m - 1) (sym many) in
@@ -17,4 +17,4 @@ none_behind of lines n last at inside is empty =
 pub returns-then-is_empty-clause-same : goal.returns-then-is_empty-clause-same
 returns-then-is_empty-clause-same c =
     let last = c.in-Some.ensures.lookup in
-    none_behind (λ line. line.now) c.args.lines.now c.saturating_sub-others.result c.in-Some.last.now c.saturating_sub-others.ensures last.3.0 last.1 (sym c.is_empty.ensures ∙ c.if-is_empty.true)
+    none_after (λ line. line.now) c.args.lines.now c.saturating_sub-others.result c.in-Some.last.now c.saturating_sub-others.ensures last.3.0 last.1 (sym c.is_empty.ensures ∙ c.if-is_empty.true)

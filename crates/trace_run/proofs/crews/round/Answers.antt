@@ -9,26 +9,26 @@ use Rattle.trace_run.proofs.crews.round.Goals as goal
 
 pub turn_at-told-requires-clause-crew : goal.turn_at-told-requires-clause-crew
 turn_at-told-requires-clause-crew g c =
-    (turns_stand g.W.Worker.conduct (named_ranks pcg32 (length c.args.crew.now) c.loop-turn.turn c.args.picks.now) c.args.chip.now c.loop-turn.chip c.args.crew.now c.loop-turn.crew
+    (turns_stand g.W.Worker.behaviour (named_ranks pcg32 (length c.args.crew.now) c.loop-turn.turn c.args.picks.now) c.args.chip.now c.loop-turn.chip c.args.crew.now c.loop-turn.crew
     c.requires.crew c.loop-turn.invariant.order).is_crew
 
 pub loop-turn-init : goal.loop-turn-init
 loop-turn-init g c = record {
   picks = sym (none_drawn pcg32 0 c.args.picks.now);
-  order = none_picked g.W.Worker.conduct pcg32 (length c.args.crew.now) c.args.picks.now c.args.chip.now c.args.crew.now;
+  order = none_picked g.W.Worker.behaviour pcg32 (length c.args.crew.now) c.args.picks.now c.args.chip.now c.args.crew.now;
   seen = c.requires.seen;
   wanted = still_first (g.N.Witness.wanted_after c.args.witness);
 }
 
 pub loop-turn-preserved : goal.loop-turn-preserved
 loop-turn-preserved g c =
-    let stands : CrewStands g.W.Worker.conduct c.args.chip.now c.args.crew.now c.loop-turn.chip c.loop-turn.crew =
-    turns_stand g.W.Worker.conduct (named_ranks pcg32 (length c.args.crew.now) c.loop-turn.turn c.args.picks.now) c.args.chip.now c.loop-turn.chip c.args.crew.now c.loop-turn.crew
+    let stands : CrewStands g.W.Worker.behaviour c.args.chip.now c.args.crew.now c.loop-turn.chip c.loop-turn.crew =
+    turns_stand g.W.Worker.behaviour (named_ranks pcg32 (length c.args.crew.now) c.loop-turn.turn c.args.picks.now) c.args.chip.now c.loop-turn.chip c.args.crew.now c.loop-turn.crew
     c.requires.crew c.loop-turn.invariant.order in
     record {
-      picks = drawn_on g.W.Worker.conduct pcg32 (length c.args.crew.now) c.loop-turn.turn c.next_word.result c.args.picks.now c.loop-turn.picks c.next_word.new.self
+      picks = drawn_on g.W.Worker.behaviour pcg32 (length c.args.crew.now) c.loop-turn.turn c.next_word.result c.args.picks.now c.loop-turn.picks c.next_word.new.self
           c.loop-turn.invariant.picks c.next_word.ensures;
-      order = picked_on g.W.Worker.conduct pcg32 (length c.args.crew.now) c.loop-turn.turn (c.next_word.result % length c.loop-turn.crew) c.next_word.result c.args.picks.now c.loop-turn.picks
+      order = picked_on g.W.Worker.behaviour pcg32 (length c.args.crew.now) c.loop-turn.turn (c.next_word.result % length c.loop-turn.crew) c.next_word.result c.args.picks.now c.loop-turn.picks
           c.next_word.new.self c.args.chip.now c.loop-turn.chip c.turn_at-told.new.chip c.args.crew.now c.loop-turn.crew c.turn_at-told.new.crew c.turn_at-told.result.0
           c.loop-turn.invariant.order c.loop-turn.invariant.picks c.next_word.ensures (ap (λ (n : ℕ). c.next_word.result % n) stands.goes.count) c.turn_at-told.ensures.turned;
       seen = c.turn_at-told.ensures.seen;
@@ -40,12 +40,12 @@ returns g c =
     let all : c.loop-turn.turn ≡ 1000 * length c.args.crew.now =
     let each = c.requires.crew.each in let gives = c.nue-ranks.ensures.gives in let about = ap (λ (s : SetupView). s.nue) c.setup.ensures.gives in
     omega (arith, c.loop-turn-test.false, c.loop-turn.auto.turn-end, each, gives, about) in
-    let order = subst (λ (n : ℕ). TurnsOf g.W.Worker.conduct (named_ranks pcg32 (length c.args.crew.now) n c.args.picks.now) c.args.chip.now c.args.crew.now c.loop-turn.chip c.loop-turn.crew) all
+    let order = subst (λ (n : ℕ). TurnsOf g.W.Worker.behaviour (named_ranks pcg32 (length c.args.crew.now) n c.args.picks.now) c.args.chip.now c.args.crew.now c.loop-turn.chip c.loop-turn.crew) all
     c.loop-turn.invariant.order in
     record {
       picks = subst (λ (n : ℕ). c.loop-turn.picks ≡ generator_after pcg32 n c.args.picks.now) all c.loop-turn.invariant.picks;
       order = order;
-      stands = turns_stand g.W.Worker.conduct (named_ranks pcg32 (length c.args.crew.now) (1000 * length c.args.crew.now) c.args.picks.now) c.args.chip.now c.loop-turn.chip c.args.crew.now c.loop-turn.crew
+      stands = turns_stand g.W.Worker.behaviour (named_ranks pcg32 (length c.args.crew.now) (1000 * length c.args.crew.now) c.args.picks.now) c.args.chip.now c.loop-turn.chip c.args.crew.now c.loop-turn.crew
           c.requires.crew order;
       seen = c.loop-turn.invariant.seen;
       wanted = c.loop-turn.invariant.wanted;

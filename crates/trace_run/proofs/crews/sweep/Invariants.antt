@@ -6,8 +6,8 @@ use Rattle.trace_run.proofs.crews.sweep.Given as goal
 
 abbrev pub invariant-loop-at : goal.invariant-loop-at
 invariant-loop-at g l = record {
-  swept : SweepStands g.W.Worker.conduct l.so_far l.at l.fn.chip l.fn.crew l.chip l.crew;
-  order : TurnsOf g.W.Worker.conduct (range_with_len 0 l.at) l.fn.chip l.fn.crew l.chip l.crew;
+  swept : SweepStands g.W.Worker.behaviour l.so_far l.at l.fn.chip l.fn.crew l.chip l.crew;
+  order : TurnsOf g.W.Worker.behaviour (range_with_len 0 l.at) l.fn.chip l.fn.crew l.chip l.crew;
   seen : HasSeenAll (g.N.Witness.setup l.witness) (g.N.Witness.noted l.witness) l.chip;
   wanted : StillWanted (g.N.Witness.wanted_after l.fn.witness) (g.N.Witness.wanted_after l.witness);
 }

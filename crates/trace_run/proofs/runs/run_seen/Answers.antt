@@ -11,8 +11,8 @@ use Rattle.trace_run.proofs.runs.run_seen.Goals as goal
 
 pub loop-picks-init : goal.loop-picks-init
 loop-picks-init g c = record {
-  stands = stands_first g.W.Worker.conduct c.args.chip.now c.args.crew.now c.requires.crew;
-  order = (0, at_first g.W.Worker.conduct (g.N.Witness.wanted_after c.args.witness) (pcg32_of_seed (pcg32_seed 16 c.args.seed)) c.seed_from_u64-picks.result c.args.chip.now c.args.crew.now c.seed_from_u64-picks.ensures);
+  stands = stands_first g.W.Worker.behaviour c.args.chip.now c.args.crew.now c.requires.crew;
+  order = (0, at_first g.W.Worker.behaviour (g.N.Witness.wanted_after c.args.witness) (pcg32_of_seed (pcg32_seed 16 c.args.seed)) c.seed_from_u64-picks.result c.args.chip.now c.args.crew.now c.seed_from_u64-picks.ensures);
   seen = c.requires.seen;
 }
 
@@ -25,13 +25,13 @@ loop-picks-preserved g c =
     let told =
     told_wanted (g.N.Witness.noted c.loop-picks.witness) (g.N.Witness.wanted_after c.loop-picks.witness) c.loop-picks.chip (c.listens-listens.ensures.wanted yes) c.loop-picks.invariant.seen.seen in
     record {
-      stands = stands_both g.W.Worker.conduct c.args.chip.now c.round-witness.new.chip c.sweep-came.new.chip c.args.crew.now c.round-witness.new.crew c.sweep-came.new.crew
-          (stands_both g.W.Worker.conduct c.args.chip.now c.loop-picks.chip c.round-witness.new.chip c.args.crew.now c.loop-picks.crew c.round-witness.new.crew
+      stands = stands_both g.W.Worker.behaviour c.args.chip.now c.round-witness.new.chip c.sweep-came.new.chip c.args.crew.now c.round-witness.new.crew c.sweep-came.new.crew
+          (stands_both g.W.Worker.behaviour c.args.chip.now c.loop-picks.chip c.round-witness.new.chip c.args.crew.now c.loop-picks.crew c.round-witness.new.crew
           c.loop-picks.invariant.stands c.round-witness.ensures.stands)
           c.sweep-came.ensures.swept.stands;
       order = (
         c.loop-picks.invariant.order.0 + 1,
-        (at_next g.W.Worker.conduct (g.N.Witness.wanted_after c.loop-picks.witness) (g.N.Witness.wanted_after c.sweep-came.result.1)
+        (at_next g.W.Worker.behaviour (g.N.Witness.wanted_after c.loop-picks.witness) (g.N.Witness.wanted_after c.sweep-came.result.1)
             (pcg32_of_seed (pcg32_seed 16 c.args.seed)) c.loop-picks.picks c.round-witness.new.picks c.loop-picks.invariant.order.0
             c.args.chip.now c.loop-picks.chip c.round-witness.new.chip c.sweep-came.new.chip c.args.crew.now c.loop-picks.crew c.round-witness.new.crew c.sweep-came.new.crew
             c.loop-picks.invariant.order.1 still (told_still (g.N.Witness.wanted_after c.loop-picks.witness) (g.N.Witness.wanted_after c.sweep-came.result.1) c.loop-picks.chip still told)
@@ -44,7 +44,7 @@ loop-picks-preserved g c =
 pub loop-picks-smaller : goal.loop-picks-smaller
 loop-picks-smaller g c =
     let s = about_in c.args.chip.now in
-    let w = g.W.Worker.conduct in
+    let w = g.W.Worker.behaviour in
     let here = c.loop-picks.invariant.stands.goes.about in
     below_all (all_left w s c.sweep-came.new.crew) (all_left w s c.round-witness.new.crew) (all_left w s c.loop-picks.crew)
     (moved_falls w c.sweep-came.result.0 (length c.round-witness.new.crew) c.args.chip.now c.round-witness.new.chip c.sweep-came.new.chip
@@ -53,7 +53,7 @@ loop-picks-smaller g c =
 
 pub returns-in-Some : goal.returns-in-Some
 returns-in-Some g c =
-    let w = g.W.Worker.conduct in
+    let w = g.W.Worker.behaviour in
     let stands : CrewStands w c.args.chip.now c.args.crew.now c.sweep-came.new.chip c.sweep-came.new.crew =
     stands_both w c.args.chip.now c.round-witness.new.chip c.sweep-came.new.chip c.args.crew.now c.round-witness.new.crew c.sweep-came.new.crew
     (stands_both w c.args.chip.now c.loop-picks.chip c.round-witness.new.chip c.args.crew.now c.loop-picks.crew c.round-witness.new.crew c.loop-picks.invariant.stands c.round-witness.ensures.stands)

@@ -21,25 +21,25 @@ returns-in-Moved-clause-turns g c =
     let m : MoreAt = record { more = c.self.inside.more; len = c.self.inside.len; ended = c.self.inside.ended; stage = c.self.inside.stage } in
     let long : length c.take_turn.new.dst ≡ length c.args.dst.now = omega (arith, c.take_turn.auto.dst) in
     λ slot src fit. receiving_moved m c.args.self.now _ (g.P.Port.sight c.args.port.now) (g.P.Port.sight c.take_turn.new.port) c.args.core.now c.take_turn.new.core c.in-Receiving.call slot src c.args.dst.now fit
-    c.known.ensures.few c.known.ensures.low c.in-Receiving.op c.take_turn.new.op c.take_turn.new.dst (sym c.self.view_is ∙ (λ i. record m { stage = c.in-Receiving.is i })) c.in-Moved.ensures.stands long c.in-Moved.ensures.before c.in-Moved.ensures.behind refl c.in-Moved.ensures.turned
+    c.known.ensures.few c.known.ensures.low c.in-Receiving.op c.take_turn.new.op c.take_turn.new.dst (sym c.self.view_is ∙ (λ i. record m { stage = c.in-Receiving.is i })) c.in-Moved.ensures.stands long c.in-Moved.ensures.before c.in-Moved.ensures.afterwards refl c.in-Moved.ensures.turned
 
 pub returns-in-Waiting-clause-turns : goal.returns-in-Waiting-clause-turns
 returns-in-Waiting-clause-turns g c =
     let m : MoreAt = record { more = c.self.inside.more; len = c.self.inside.len; ended = c.self.inside.ended; stage = c.self.inside.stage } in
     let long : length c.take_turn.new.dst ≡ length c.args.dst.now = omega (arith, c.take_turn.auto.dst) in
     λ slot src fit. receiving_waited m c.args.self.now _ (g.P.Port.sight c.args.port.now) (g.P.Port.sight c.take_turn.new.port) c.args.core.now c.take_turn.new.core c.in-Receiving.call slot src c.args.dst.now fit
-    c.known.ensures.few c.known.ensures.low c.in-Receiving.op c.take_turn.new.op c.take_turn.new.dst (sym c.self.view_is ∙ (λ i. record m { stage = c.in-Receiving.is i })) c.in-Waiting.ensures.stands long c.in-Waiting.ensures.before c.in-Waiting.ensures.behind c.in-Waiting.spot refl c.in-Waiting.ensures.turned
+    c.known.ensures.few c.known.ensures.low c.in-Receiving.op c.take_turn.new.op c.take_turn.new.dst (sym c.self.view_is ∙ (λ i. record m { stage = c.in-Receiving.is i })) c.in-Waiting.ensures.stands long c.in-Waiting.ensures.before c.in-Waiting.ensures.afterwards c.in-Waiting.spot refl c.in-Waiting.ensures.turned
 
 pub returns-in-Mismatch-clause-turns : goal.returns-in-Mismatch-clause-turns
 returns-in-Mismatch-clause-turns g c =
     let m : MoreAt = record { more = c.self.inside.more; len = c.self.inside.len; ended = c.self.inside.ended; stage = c.self.inside.stage } in
     let long : length c.take_turn.new.dst ≡ length c.args.dst.now = omega (arith, c.take_turn.auto.dst) in
     λ slot src fit. receiving_refused m c.args.self.now _ (g.P.Port.sight c.args.port.now) (g.P.Port.sight c.take_turn.new.port) c.args.core.now c.take_turn.new.core c.in-Receiving.call slot src c.args.dst.now fit
-    c.known.ensures.few c.known.ensures.low c.in-Receiving.op c.take_turn.new.op c.take_turn.new.dst (sym c.self.view_is ∙ (λ i. record m { stage = c.in-Receiving.is i })) c.in-Mismatch.ensures.stands long c.in-Mismatch.ensures.before c.in-Mismatch.ensures.behind c.in-Mismatch.sent refl c.in-Mismatch.ensures.turned
+    c.known.ensures.few c.known.ensures.low c.in-Receiving.op c.take_turn.new.op c.take_turn.new.dst (sym c.self.view_is ∙ (λ i. record m { stage = c.in-Receiving.is i })) c.in-Mismatch.ensures.stands long c.in-Mismatch.ensures.before c.in-Mismatch.ensures.afterwards c.in-Mismatch.sent refl c.in-Mismatch.ensures.turned
 
 pub returns-in-Done-clause-turns : goal.returns-in-Done-clause-turns
 returns-in-Done-clause-turns g c =
     let m : MoreAt = record { more = c.self.inside.more; len = c.self.inside.len; ended = c.self.inside.ended; stage = c.self.inside.stage } in
     let long : length c.take_turn.new.dst ≡ length c.args.dst.now = omega (arith, c.take_turn.auto.dst) in
     λ slot src fit. receiving_done m c.args.self.now _ (g.P.Port.sight c.args.port.now) (g.P.Port.sight c.take_turn.new.port) c.args.core.now c.take_turn.new.core c.in-Receiving.call slot src c.args.dst.now fit
-    c.known.ensures.few c.known.ensures.low c.in-Receiving.op c.take_turn.new.op c.take_turn.new.dst (sym c.self.view_is ∙ (λ i. record m { stage = c.in-Receiving.is i })) c.in-Done.ensures.stands long c.in-Done.ensures.before c.in-Done.ensures.behind refl c.in-Done.ensures.turned
+    c.known.ensures.few c.known.ensures.low c.in-Receiving.op c.take_turn.new.op c.take_turn.new.dst (sym c.self.view_is ∙ (λ i. record m { stage = c.in-Receiving.is i })) c.in-Done.ensures.stands long c.in-Done.ensures.before c.in-Done.ensures.afterwards refl c.in-Done.ensures.turned

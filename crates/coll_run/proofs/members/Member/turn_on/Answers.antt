@@ -1,6 +1,6 @@
 use Rattle.std.proofs.Common.{◌≡◌, true, false, sym, ap, ◌∙◌, subst}
 use Rattle.coll_run.specs.Teams.{MemberView}
-use Rattle.coll_run.specs.Workers.{IsTied, member_conduct}
+use Rattle.coll_run.specs.Workers.{IsTied, member_behaviour}
 use Rattle.chip_run.specs.Turns.{Turned}
 use Rattle.coll_run.proofs.CallTurns.{at_port_of, done_on, met_on, met_rests, moved_on, tied_met, tied_on, waited_on}
 use Rattle.scc_base.specs.declared.events.Turn.TheVariants as worker_turn
@@ -55,5 +55,5 @@ returns-in-Mismatch-clause-turned g c =
     let s = g.P.Port.sight c.args.port.now in
     let running : c.args.self.now.met ≡ false = sym (ap (λ (m : MemberView). m.met) c.self.view_is) ∙ c.if-self.false in
     let t = g.P.Port.sight c.go_on.new.port in
-    subst (λ (m : MemberView). Turned member_conduct (g.P.Port.stepped s.seat) c.args.self.now s (record m { met = true }) t worker_turn.Moved) (sym c.self-2.view_is)
+    subst (λ (m : MemberView). Turned member_behaviour (g.P.Port.stepped s.seat) c.args.self.now s (record m { met = true }) t worker_turn.Moved) (sym c.self-2.view_is)
     (met_on g.P.Port.stepped c.args.self.now s c.go_on.new.self t c.requires.ties running c.in-Mismatch.field-0 c.in-Mismatch.ensures.goes)

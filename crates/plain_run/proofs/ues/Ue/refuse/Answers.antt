@@ -6,7 +6,7 @@ use Rattle.script_machine.specs.Machine.{MachineView}
 use Rattle.script_machine.specs.Moves.{after_refusal}
 use Rattle.script_plain.proofs.ProgramLengths.LengthPaths.{fits_next}
 use Rattle.plain_run.proofs.CodeSteps.UeLaws.{fits_refused, receiving, refused_as}
-use Rattle.plain_run.proofs.CodeSteps.UeViews.{fits_behind, of_shown, to_shown}
+use Rattle.plain_run.proofs.CodeSteps.UeViews.{fits_after, of_shown, to_shown}
 use Rattle.plain_run.proofs.ues.Ue.refuse.Goals as goal
 
 pub refuse-requires : goal.refuse-requires
@@ -20,7 +20,7 @@ invariant_of-self c =
     let n = local_next m.local in
     let at = of_shown m.local c.args.self.now c.self.view_is IsAtReceive c.requires in
     let had = reckoned_at m.script m.rank in
-    fits_behind m c.refuse.new.self (after_refusal n c.args.sent m.local) c.refuse.ensures
+    fits_after m c.refuse.new.self (after_refusal n c.args.sent m.local) c.refuse.ensures
     (fits_refused had n m.local c.args.sent (fits_next had m.local c.self.invariant) (receiving n at))
 
 pub returns : goal.returns

@@ -4,8 +4,8 @@ use Rattle.put_get.specs.Cores.{Private}
 use Rattle.send_recv.specs.Ops.{RecvAt}
 use Rattle.send_recv.specs.Ranks.{receiving}
 use Rattle.send_recv.specs.Receiving.{RecvStands}
-use Rattle.send_recv.specs.Stretches.{ReadLines, is_reading}
-use Rattle.send_recv.proofs.Loops.StretchLoop.{read_same}
+use Rattle.send_recv.specs.Batches.{ReadLines, is_reading}
+use Rattle.send_recv.proofs.Loops.BatchLoop.{read_same}
 use Rattle.rcce_ue.proofs.FrontLemmas.{asked, back_is, front_is, stands_in}
 use Rattle.rcce_ue.proofs.receiving.OpenReceive.read_lines.Goals as goal
 

@@ -1,7 +1,7 @@
 use Rattle.scc_proto.specs.Ports.{Sight}
 use Rattle.rcce_ue.specs.Left.{ue_left}
 use Rattle.rcce_ue.specs.Standing.{Tied}
-use Rattle.rcce_ue.specs.Stretches.{UeMoves}
+use Rattle.rcce_ue.specs.Batches.{UeMoves}
 use Rattle.rcce_ue.specs.Ues.{UeView}
 use Rattle.rcce_ue.proofs.ues.Ue.go_on.Given as goal
 

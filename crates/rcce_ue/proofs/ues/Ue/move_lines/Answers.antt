@@ -2,10 +2,10 @@ use Rattle.std.proofs.Common.{◌≡◌, ◌||◌, length, refl, sym, ap, ◌∙
 use Rattle.std.proofs.lemmas.Bool.{false≢true}
 use Rattle.std.proofs.lemmas.List.{with_items_is}
 use Rattle.std.specs.Vec.{with_items}
-use Rattle.rcce_ue.specs.Stretches.{reads_line_next, writes_line_next}
+use Rattle.rcce_ue.specs.Batches.{reads_line_next, writes_line_next}
 use Rattle.rcce_ue.specs.Ues.{UeView}
 use Rattle.rcce_ue.specs.declared.calls.Open.{Open}
-use Rattle.rcce_ue.proofs.StretchTurns.{receives, receives_fit, receives_move, receives_stand, receives_tell, sends, sends_move, sends_tell}
+use Rattle.rcce_ue.proofs.BatchTurns.{receives, receives_fit, receives_move, receives_stand, receives_tell, sends, sends_move, sends_tell}
 use Rattle.rcce_ue.proofs.ues.Ue.move_lines.Goals as goal
 
 pub returns-then-not-is_writing-clause-tells : goal.returns-then-not-is_writing-clause-tells

@@ -2,7 +2,7 @@ use Rattle.std.proofs.Common.{List, ℕ, Option, Some, SomeIff, is_none, sym, �
 use Rattle.scc_base.specs.Heads.{IsPostHead, MessageHead}
 use Rattle.scc_proto.specs.Moves.{calls_raised, raise_sent}
 use Rattle.scc_proto.specs.Permission.{may_raise}
-use Rattle.scc_proto.specs.Stages.{OnItsWay}
+use Rattle.scc_proto.specs.Stages.{InFlight}
 use Rattle.scc_proto.proofs.Tests.{both_second}
 use Rattle.scc_base.specs.declared.calls.Call.TheVariants as call
 use Rattle.record_machine.specs.Following.{Adds}
@@ -19,7 +19,7 @@ returns-in-Filling-clause-moves c = λ rec f may.
     let w = c.args.self.now in
     let x = raised_again w.size w.header w.chunk w.bytes.items _ _ rec.stage (keeps_at w rec (standing.Filling _ _) c.in-Filling.is f) c.args.to (both_second (is_none rec.post) (may_raise w.size c.args.to rec.stage) may) rec.calls rec.post in
     record {
-      stands = record { keeps = x.0; post = subst (λ (p : Option OnItsWay). KeepsPost w.post p) (sym x.2) f.post; said = f.said; flags = f.flags };
+      stands = record { keeps = x.0; post = subst (λ (p : Option InFlight). KeepsPost w.post p) (sym x.2) f.post; said = f.said; flags = f.flags };
       adds = x.1;
     }
 
@@ -40,7 +40,7 @@ returns-then-not-is_posted-clause-moves c = λ rec f may.
     record {
       stands = record {
         keeps = subst (λ (b : List ℕ). KeepsStage w.size w.header w.chunk b (standing.Raised to head) (raise_sent to rec.stage)) (sym c.clear.ensures.items) x.0;
-        post = subst (λ (p : Option OnItsWay). KeepsPost w.post p) (sym x.2) f.post;
+        post = subst (λ (p : Option InFlight). KeepsPost w.post p) (sym x.2) f.post;
         said = f.said;
         flags = f.flags;
       };

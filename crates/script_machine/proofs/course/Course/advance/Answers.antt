@@ -5,7 +5,7 @@ use Rattle.script_machine.specs.Program.{Prim, marks_of, nesting_at}
 use Rattle.script_machine.specs.Walk.{CourseView, left_at}
 use Rattle.script_machine.proofs.Walks.DepthLaws.{deep_passed}
 use Rattle.script_machine.proofs.Walks.StandLaws.{stand_of}
-use Rattle.script_machine.proofs.Walks.WalkLaws.{behind_open, behind_same, last_done, nothing_past, some_at, some_there, stands_there}
+use Rattle.script_machine.proofs.Walks.WalkLaws.{after_open, after_same, last_done, nothing_past, some_at, some_there, stands_there}
 use Rattle.script_machine.proofs.course.Course.advance.Goals as goal
 
 pub returns-then-at-len : goal.returns-then-at-len
@@ -60,7 +60,7 @@ settled-stand-requires-clause-opens c =
     let found = some_at walk.scripts.now.items walk.place (omega (arith, c.if-at-len.false, c.len.ensures)) in
     let stand = stand_of walk.setup walk.rank walk.scripts.now.items walk.place walk.count walk.closes found.0 found.1 c.self.invariant.1.1.1 in
     let there = stands_there walk.setup walk.rank walk.scripts.now.items walk.place walk.step found.0 found.1 c.self.invariant.0.stands in
-    behind_open walk.setup walk.rank walk.scripts.now.items walk.place c.len-2.result c.pass_marks-next.result found.0 walk.repeats.items c.pass_marks-next.new.repeats.items
+    after_open walk.setup walk.rank walk.scripts.now.items walk.place c.len-2.result c.pass_marks-next.result found.0 walk.repeats.items c.pass_marks-next.new.repeats.items
     found.1 (omega (arith, there)) (omega (arith, c.len-2.ensures)) c.self.invariant.0.opens (c.pass_marks-next.ensures.to (nesting_at walk.rank found.0) stand.closes_is) (c.pass_marks-next.ensures.left (nesting_at walk.rank found.0) stand.closes_is)
 
 pub settled-stand-requires-clause-deep : goal.settled-stand-requires-clause-deep
@@ -80,7 +80,7 @@ returns c =
     let left = left_at walk.setup walk.rank walk.scripts.now.items walk.place walk.repeats.items in
     let there = stands_there walk.setup walk.rank walk.scripts.now.items walk.place walk.step item found.1 c.self.invariant.0.stands in
     let gone = c.settled-stand.ensures.same
-    ∙ behind_same walk.setup walk.rank walk.scripts.now.items walk.place c.len-2.result c.pass_marks-next.result item walk.repeats.items c.pass_marks-next.new.repeats.items
+    ∙ after_same walk.setup walk.rank walk.scripts.now.items walk.place c.len-2.result c.pass_marks-next.result item walk.repeats.items c.pass_marks-next.new.repeats.items
     found.1 (omega (arith, there)) (omega (arith, c.len-2.ensures)) c.self.invariant.0.opens (c.pass_marks-next.ensures.to (nesting_at walk.rank found.0) stand.closes_is) (c.pass_marks-next.ensures.left (nesting_at walk.rank found.0) stand.closes_is)
     ∙ last_done left walk.step (length (marks_of walk.setup walk.rank item)) there (omega (arith, c.if-self.false, stand.count_is)) in
     ap (λ (l : List (Option Prim)). record { script = walk.scripts.now; setup = walk.setup; rank = walk.rank; left = l }) gone

@@ -1,6 +1,6 @@
 use Rattle.std.proofs.Common.{◌∙◌, ◌<◌, ap, arith, drop, refl, slice_get, sym}
 use Rattle.script_machine.specs.Walk.{CourseView, is_end, left_at}
-use Rattle.script_machine.proofs.Walks.FlatLaws.{behind_end, deep_last, end_left, ends_at, ends_within, left_out, none_left_out, open_last}
+use Rattle.script_machine.proofs.Walks.FlatLaws.{after_end, deep_last, end_left, ends_at, ends_within, left_out, none_left_out, open_last}
 use Rattle.script_machine.proofs.course.Course.leave.Goals as goal
 
 pub flat_passes-requires : goal.flat_passes-requires
@@ -16,7 +16,7 @@ returns-then-flat_passes-eq0-clause-leaves c =
     let items = walk.scripts.now.items in
     let next = ap (λ (w : CourseView). is_end (slice_get w.left 0)) c.self.view_is ∙ c.requires in
     let ends = ends_at walk.setup walk.rank items walk.place walk.step walk.repeats.items c.self.invariant.0.stands next in
-    none_left_out c.args.self.now.left (behind_end walk.setup walk.rank items walk.place walk.repeats.items)
+    none_left_out c.args.self.now.left (after_end walk.setup walk.rank items walk.place walk.repeats.items)
     (ap (λ (w : CourseView). w.left) (sym c.self.view_is) ∙ end_left walk.setup walk.rank items walk.place walk.step walk.repeats.items ends)
 
 pub invariant_of-self : goal.invariant_of-self

@@ -1,6 +1,6 @@
 use Rattle.std.proofs.Common.{◌∙◌, sym}
 use Rattle.std.proofs.lemmas.Bool.{eqb-true}
-use Rattle.script_machine.proofs.ProgramLengths.StretchLaws.{kept_register}
+use Rattle.script_machine.proofs.ProgramLengths.BatchLaws.{kept_register}
 use Rattle.script_machine.proofs.reckoning.Lengths.stays.Goals as goal
 
 pub returns : goal.returns

@@ -28,13 +28,13 @@ returns-clause-kept c =
     }
 
 -- what has been read if the statement is added to this section
-abbrev behind : ℕ → ReadingSoFar → Stmt → Who → Result ReadingSoFar FaultKind
-behind line p stmt who = Ok (record p { items = p.items ++ (record { line = line; who = who; stmt = stmt }) ∷ [] })
+abbrev afterwards : ℕ → ReadingSoFar → Stmt → Who → Result ReadingSoFar FaultKind
+afterwards line p stmt who = Ok (record p { items = p.items ++ (record { line = line; who = who; stmt = stmt }) ∷ [] })
 
 pub returns-in_err-who-clause-gives : goal.returns-in_err-who-clause-gives
 returns-in_err-who-clause-gives c =
     let p = c.args.self.now in
-    faulted _ c.from_residual.result _ (section_or_fault p (effect_of c.args.stmt)) (behind c.args.line p c.args.stmt) c.from_residual.ensures.1
+    faulted _ c.from_residual.result _ (section_or_fault p (effect_of c.args.stmt)) (afterwards c.args.line p c.args.stmt) c.from_residual.ensures.1
     (c.in_err-who.ensures.same ∙ ap (section_or_fault p) c.effect_of-effect.ensures)
 
 pub returns-in_err-who-clause-kept : goal.returns-in_err-who-clause-kept
@@ -67,5 +67,5 @@ returns-in_err-add_item-clause-kept c = none-kept c.from_residual-in_err-add_ite
 pub returns-clause-gives : goal.returns-clause-gives
 returns-clause-gives c =
     let p = c.args.self.now in
-    ap (λ (r : Result Who FaultKind). r >>= behind c.args.line p c.args.stmt) (ap (section_or_fault p) (sym c.effect_of-effect.ensures) ∙ sym c.in_ok-who.ensures.same)
+    ap (λ (r : Result Who FaultKind). r >>= afterwards c.args.line p c.args.stmt) (ap (section_or_fault p) (sym c.effect_of-effect.ensures) ∙ sym c.in_ok-who.ensures.same)
     ∙ ap Ok (sym c.in_ok-add_item.ensures)

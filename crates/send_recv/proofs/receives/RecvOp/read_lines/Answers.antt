@@ -5,10 +5,10 @@ use Rattle.send_recv.specs.Ops.{RecvAt}
 use Rattle.send_recv.specs.Ranks.{receiving}
 use Rattle.send_recv.specs.Receiving.{IsAtRecvStage}
 use Rattle.scc_proto.specs.Ports.{record_in}
-use Rattle.send_recv.specs.Stretches.{is_reading}
+use Rattle.send_recv.specs.Batches.{is_reading}
 use Rattle.send_recv.proofs.Receiving.LookTurn.{Turns}
 use Rattle.send_recv.proofs.Receiving.LinesMove.{lines_turn}
-use Rattle.send_recv.proofs.Loops.StretchLoop.{NoLineRead, read_on, read_rest, not_reading, to_read, reads_nearer}
+use Rattle.send_recv.proofs.Loops.BatchLoop.{NoLineRead, read_on, read_rest, not_reading, to_read, reads_nearer}
 use Rattle.send_recv.proofs.receives.RecvOp.read_lines.Goals as goal
 
 pub lines-init : goal.lines-init
@@ -34,7 +34,7 @@ lines-preserved g c =
     let turns : Turns (g.P.Port.sight c.lines.port) c.lines.core c.lines.self c.lines.bytes (g.P.Port.sight c.read_line.new.port) c.read_line.new.core c.read_line.new.self c.read_line.new.bytes Moved =
     subst (λ (x : RecvAt). Turns (g.P.Port.sight c.lines.port) c.lines.core c.lines.self c.lines.bytes (g.P.Port.sight c.read_line.new.port) c.read_line.new.core x c.read_line.new.bytes Moved) (sym c.read_line.ensures.next)
     (lines_turn (g.P.Port.sight c.lines.port) (g.P.Port.sight c.read_line.new.port) c.lines.core c.read_line.new.core c.lines.self c.in-Lines.line c.lines.bytes c.read_line.new.bytes c.read_line.ensures.reads.0
-    c.known.ensures.valid c.lines.invariant.0 stage c.read_line.ensures.reads.1 c.read_line.auto.bytes c.read_line.ensures.reads.2 c.read_line.ensures.before c.read_line.ensures.behind) in (
+    c.known.ensures.valid c.lines.invariant.0 stage c.read_line.ensures.reads.1 c.read_line.auto.bytes c.read_line.ensures.reads.2 c.read_line.ensures.before c.read_line.ensures.afterwards) in (
       turns.stands,
       read_on (receiving (g.P.Port.sight c.args.port.now) c.args.core.now c.args.self.now c.args.bytes.now) (receiving (g.P.Port.sight c.lines.port) c.lines.core c.lines.self c.lines.bytes)
           (receiving (g.P.Port.sight c.read_line.new.port) c.read_line.new.core c.read_line.new.self c.read_line.new.bytes) c.lines.invariant.1 c.lines.invariant.0 (ap is_reading stage) turns.turned,

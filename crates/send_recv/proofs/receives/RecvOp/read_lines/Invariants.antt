@@ -1,6 +1,6 @@
 use Rattle.send_recv.specs.Ranks.{receiving}
 use Rattle.send_recv.specs.Receiving.{RecvStands}
-use Rattle.send_recv.proofs.Loops.StretchLoop.{Read, to_read}
+use Rattle.send_recv.proofs.Loops.BatchLoop.{Read, to_read}
 use Rattle.send_recv.proofs.receives.RecvOp.read_lines.Given as goal
 
 abbrev pub invariant-lines : goal.invariant-lines

@@ -21,10 +21,10 @@ returns-clause-before c =
     let start = start_is (chunk_size c.args.layout) c.args.line c.start_of.result _ c.args.self.now c.start_of.ensures.gives c.self.view_is in
     λ k at. c.put_line.ensures.before k (subst (λ (x : ℕ). k < x) (sym start) at)
 
-pub returns-clause-behind : goal.returns-clause-behind
-returns-clause-behind c =
+pub returns-clause-afterwards : goal.returns-clause-afterwards
+returns-clause-afterwards c =
     let start = start_is (chunk_size c.args.layout) c.args.line c.start_of.result _ c.args.self.now c.start_of.ensures.gives c.self.view_is in
-    λ k at. c.put_line.ensures.behind k (subst (λ (x : ℕ). x + 32 ≤ k) (sym start) at)
+    λ k at. c.put_line.ensures.afterwards k (subst (λ (x : ℕ). x + 32 ≤ k) (sym start) at)
 
 pub returns-clause-next : goal.returns-clause-next
 returns-clause-next c = search rules

@@ -74,7 +74,7 @@ finished_turn s c op bytes finished = record {
   rest = record { flips = refl; hold = refl; heap = refl };
   post = post_itself (record_in s).post;
   before = λ k low. refl;
-  behind = λ k high. refl;
+  afterwards = λ k high. refl;
   held = NoLoad refl;
   work = rest_work c.evictions _ (extra_line op.stage Done);
 }
@@ -117,7 +117,7 @@ returns-in-Lines g c =
     at_answer (g.P.Port.sight c.args.port.now) (g.P.Port.sight c.read_line.new.port) c.args.core.now c.read_line.new.core c.args.self.now _ _ c.args.bytes.now c.read_line.new.bytes _ _ c.read_line.ensures.next c.read_line.ensures.answers
     (lines_turn (g.P.Port.sight c.args.port.now) (g.P.Port.sight c.read_line.new.port) c.args.core.now c.read_line.new.core c.args.self.now c.in-Lines.line c.args.bytes.now c.read_line.new.bytes c.read_line.ensures.reads.0
     c.known.ensures.valid c.requires.stands (ap (λ (x : RecvAt). x.stage) (sym c.self.view_is) ∙ c.in-Lines.is) c.read_line.ensures.reads.1 c.read_line.auto.bytes c.read_line.ensures.reads.2
-    c.read_line.ensures.before c.read_line.ensures.behind) in
+    c.read_line.ensures.before c.read_line.ensures.afterwards) in
     record { stands = turns.stands; turned = turns.turned; steps = λ spot e. absurd (cc (sym (ap goes_on c.read_line.ensures.answers) ∙ waiting_stops c.read_line.result spot e)) }
 
 pub returns-in-Raise : goal.returns-in-Raise

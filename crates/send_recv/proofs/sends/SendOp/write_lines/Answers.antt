@@ -2,10 +2,10 @@ use Rattle.std.proofs.Common.{◌-◌, ◌<◌, ℕ, sym, ◌∙◌, ap, subst}
 use Rattle.scc_base.specs.declared.events.Turn.TheVariants.{Moved}
 use Rattle.send_recv.specs.Ops.{SendAt}
 use Rattle.send_recv.specs.Ranks.{sending}
-use Rattle.send_recv.specs.Stretches.{is_writing}
+use Rattle.send_recv.specs.Batches.{is_writing}
 use Rattle.send_recv.proofs.Sending.SendFacts.{SendTurns}
 use Rattle.send_recv.proofs.Sending.SendLines.{may_write_line, line_turn}
-use Rattle.send_recv.proofs.Loops.StretchLoop.{NoLine, wrote_on, wrote_rest, not_writing, to_write, writes_nearer}
+use Rattle.send_recv.proofs.Loops.BatchLoop.{NoLine, wrote_on, wrote_rest, not_writing, to_write, writes_nearer}
 use Rattle.send_recv.proofs.sends.SendOp.write_lines.Goals as goal
 
 pub lines-init : goal.lines-init

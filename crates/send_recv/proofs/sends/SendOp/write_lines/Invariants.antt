@@ -1,6 +1,6 @@
 use Rattle.send_recv.specs.Ranks.{sending}
 use Rattle.send_recv.specs.Sending.{SendStands}
-use Rattle.send_recv.proofs.Loops.StretchLoop.{Wrote, to_write}
+use Rattle.send_recv.proofs.Loops.BatchLoop.{Wrote, to_write}
 use Rattle.send_recv.proofs.sends.SendOp.write_lines.Given as goal
 
 abbrev pub invariant-lines : goal.invariant-lines

@@ -1,6 +1,6 @@
 use Rattle.std.proofs.Common.{◌∙◌, ℕ, arith, subst}
 use Rattle.barrier.specs.Calls.{Stalls}
-use Rattle.station.specs.Calls.{behind_barrier, in_barrier}
+use Rattle.station.specs.Calls.{after_barrier, in_barrier}
 use Rattle.station.specs.Stops.{bar_stop_of}
 use Rattle.station.proofs.PatienceLemmas.{at_first, once_more, within}
 use Rattle.station.proofs.stations.Station.barrier_patiently.Goals as goal
@@ -37,7 +37,7 @@ rounds-preserved g c =
       owes = c.in-Err-barrier_on.ensures.owes.1 ∙ before.owes;
       few = omega (arith, more);
       stalled = once_more mid (λ last stalls. (c.rounds.stall.spot, c.rounds.stall.polls, stalls)) before.stalled
-          (subst (λ (polls : ℕ). Stalls mid polls (behind_barrier (g.P.Port.sight c.barrier_on.new.port) c.barrier_on.new.self) (bar_stop_of c.in-Err-barrier_on.later)) before.same.polls
+          (subst (λ (polls : ℕ). Stalls mid polls (after_barrier (g.P.Port.sight c.barrier_on.new.port) c.barrier_on.new.self) (bar_stop_of c.in-Err-barrier_on.later)) before.same.polls
           c.in-Err-barrier_on.ensures.stalled);
       seat = c.barrier_on.ensures.seat ∙ before.seat;
       same = record {

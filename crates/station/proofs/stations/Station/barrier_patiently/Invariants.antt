@@ -3,7 +3,7 @@ use Rattle.scc_base.specs.Calls.{Bar}
 use Rattle.scc_proto.specs.Ports.{record_in}
 use Rattle.barrier.specs.Calls.{Stalls}
 use Rattle.barrier.specs.Stages.{bar_call}
-use Rattle.station.specs.Calls.{at_barrier, behind_barrier}
+use Rattle.station.specs.Calls.{at_barrier, after_barrier}
 use Rattle.station.specs.Patience.{AfterStalls, BarStalls}
 use Rattle.station.specs.Stations.{IsInBarrier, KeepsSlot}
 use Rattle.station.specs.Stops.{bar_stop_of}
@@ -16,7 +16,7 @@ invariant-rounds g l = record {
   owes : bar_call l.stall.op ≡ Bar l.comm ∷ [];
   few : l.round ≤ l.fn.rounds;
   stalled : AfterStalls (BarStalls l.fn.self.polls) (at_barrier (g.P.Port.sight l.fn.port) l.fn.self l.comm) l.round
-      (λ last. Stalls last l.fn.self.polls (behind_barrier (g.P.Port.sight l.port) l.self) (bar_stop_of l.stall));
+      (λ last. Stalls last l.fn.self.polls (after_barrier (g.P.Port.sight l.port) l.self) (bar_stop_of l.stall));
   seat : (g.P.Port.sight l.port).seat ≡ (g.P.Port.sight l.fn.port).seat;
   same : KeepsSlot l.fn.self l.self;
 }

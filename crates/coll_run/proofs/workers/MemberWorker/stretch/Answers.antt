@@ -1,5 +1,0 @@
-use Rattle.chip_run.specs.Turns.{OneTurn}
-use Rattle.coll_run.proofs.workers.MemberWorker.stretch.Goals as goal
-
-pub returns-clause-stretched : goal.returns-clause-stretched
-returns-clause-stretched g c = OneTurn c.turn.ensures.turned
