@@ -16,7 +16,7 @@ use Rattle.scc_mesh.specs.Scenes.{ChipView, about_in, events_in, records_in}
 use Rattle.script_rules.specs.Script.{Script, first_split, rules_of}
 use Rattle.script_rules.specs.Settled as settled
 use Rattle.call_tap.specs.Bytes.{HasBytes}
-use Rattle.record_machine.specs.Following.{moved_by}
+use Rattle.rank_monitor.specs.Following.{moved_by}
 use Rattle.call_tap.proofs.ByteLaws.{calls_have_bytes}
 use Rattle.log_run.specs.LogRuns.{AreOwnCalls, HasRunLogged, IsOwnCall, plain_calls}
 use Rattle.rcce_audit.specs.declared.verdicts.Verdict.{Verdict}

@@ -10,10 +10,10 @@ use Rattle.std.proofs.lemmas.Option.{slice_get_past}
 use Rattle.std.proofs.lemmas.List.Elements.{All-head, All-tail}
 use Rattle.std.proofs.lemmas.List.FromFn.{get_or-map-range_with_len, length-map-range_with_len}
 use Rattle.scc_base.specs.Calls.{DataCall, Send, Recv, Post, Bar, HasItsBytes, call_of}
-use Rattle.record_machine.specs.Following.{moved_by}
+use Rattle.rank_monitor.specs.Following.{moved_by}
 use Rattle.script_rules.specs.Script.{Script}
-use Rattle.script_plain.specs.Meaning.{State, plain_end}
-use Rattle.script_plain.proofs.Runs.PlainLaws.{length-plain_end}
+use Rattle.plain_meaning.specs.Meaning.{State, plain_end}
+use Rattle.plain_meaning.proofs.Runs.PlainLaws.{length-plain_end}
 use Rattle.rcce_audit.specs.declared.held.CallList.{CallList}
 use Rattle.rcce_audit.specs.Held.{bytes_in, call_with_bytes, held_calls, calls_with_bytes}
 use Rattle.rcce_audit.proofs.ListLemmas.{get_or-map_within}

@@ -18,8 +18,8 @@ use Rattle.rcce_audit.specs.Kinds.{fault_name}
 use Rattle.rcce_audit.specs.Logs.{LogView, most_log_bytes}
 use Rattle.rcce_audit.specs.Texts.{log_text}
 use Rattle.script_rules.specs.Script.{Script, rules_of}
-use Rattle.script_plain.specs.Meaning.{plain_ends}
-use Rattle.script_plain.specs.Ends.{all_finished}
+use Rattle.plain_meaning.specs.Meaning.{plain_ends}
+use Rattle.plain_meaning.specs.Ends.{all_finished}
 use Rattle.log_run.specs.LogRuns.{plain_calls}
 use Rattle.log_run.specs.Sizes.{has_room_for_all}
 

@@ -8,7 +8,7 @@ use Rattle.scc_base.specs.declared.calls.Call.{Call}
 use Rattle.scc_proto.proofs.Tests.{both_first, both_second}
 use Rattle.call_tap.specs.Kept.{HasTapRoom}
 use Rattle.call_tap.specs.Planned.{has_room_for, bytes_planned}
-use Rattle.record_machine.specs.Following.{moved_by}
+use Rattle.rank_monitor.specs.Following.{moved_by}
 
 -- a call's own bytes are as many as it moves
 pub one_long : (call : DataCall) → HasItsBytes call → length (moved_by call) ≡ bytes_asked (call_of call)

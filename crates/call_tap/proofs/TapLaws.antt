@@ -11,14 +11,14 @@ use Rattle.scc_proto.specs.Ports.{Sight, Did}
 use Rattle.scc_proto.specs.Records.{record_after, record_of}
 use Rattle.scc_proto.specs.Stages.{Record, blank}
 use Rattle.scc_proto.proofs.PortLaws.{record_of-nil, record_of-push}
-use Rattle.record_machine.specs.Following.{Adds, FollowsRecord, moved_by}
+use Rattle.rank_monitor.specs.Following.{Adds, FollowsRecord, moved_by}
 use Rattle.call_tap.specs.declared.kept.Kept.{Kept}
 use Rattle.call_tap.specs.declared.taps.Tap.{Tap}
 use Rattle.call_tap.specs.Kept.{AreKept, HasTapRoom, AreKeptWithRoom}
 use Rattle.call_tap.specs.Taps.{HasRead, TapReads}
 
 -- a tap of a rank that has made no access
-pub fresh_read : (tap : Tap) (s : SetupView) (rank : ℕ) → tap.machine.setup ≡ s → tap.machine.rank ≡ rank → FollowsRecord tap.machine blank → AreKeptWithRoom tap.kept [] → HasRead tap s rank []
+pub fresh_read : (tap : Tap) (s : SetupView) (rank : ℕ) → tap.monitor.setup ≡ s → tap.monitor.rank ≡ rank → FollowsRecord tap.monitor blank → AreKeptWithRoom tap.kept [] → HasRead tap s rank []
 fresh_read tap s rank setup_is rank_is follows kept = record {
   setup_is = setup_is;
   rank_is = rank_is;
@@ -26,8 +26,8 @@ fresh_read tap s rank setup_is rank_is follows kept = record {
 }
 
 -- one access more
-pub read_on : (old new : Tap) (e : Event) → (new.machine.setup ≡ old.machine.setup) × (new.machine.rank ≡ old.machine.rank)
-    → ((rec : Record) → TapReads old rec → TapReads new (record_after old.machine.setup old.machine.rank rec e))
+pub read_on : (old new : Tap) (e : Event) → (new.monitor.setup ≡ old.monitor.setup) × (new.monitor.rank ≡ old.monitor.rank)
+    → ((rec : Record) → TapReads old rec → TapReads new (record_after old.monitor.setup old.monitor.rank rec e))
     → (s : SetupView) (rank : ℕ) (events : List Event) → HasRead old s rank events → HasRead new s rank (events ++ e ∷ [])
 read_on old new e same goes s rank events read = record {
   setup_is = same.0 ∙ read.setup_is;
@@ -36,7 +36,7 @@ read_on old new e same goes s rank events read = record {
       let rec = record_of s rank events in
       subst (λ (x : Record). TapReads new x) (sym (record_of-push s rank events e))
       (subst (λ (k : ℕ). TapReads new (record_after s k rec e)) read.rank_is
-      (subst (λ (x : SetupView). TapReads new (record_after x old.machine.rank rec e)) read.setup_is (goes rec r))));
+      (subst (λ (x : SetupView). TapReads new (record_after x old.monitor.rank rec e)) read.setup_is (goes rec r))));
 }
 
 -- an access that finishes no call

@@ -1,7 +1,7 @@
 -- The bytes of calls.
 use Rattle.std.specs.Prelude.{ℕ, ◌<◌, List, slice_index}
 use Rattle.scc_base.specs.Calls.{DataCall}
-use Rattle.record_machine.specs.Following.{moved_by}
+use Rattle.rank_monitor.specs.Following.{moved_by}
 
 -- each of them is below 256
 abbrev pub AreBelow256 : List ℕ → Type 0

@@ -2,7 +2,7 @@
 use Rattle.std.specs.Prelude.{◌≡◌, ◌≤◌, List, length, map, flat_map}
 use Rattle.scc_base.specs.Calls.{DataCall, call_of}
 use Rattle.call_tap.specs.declared.kept.Kept.{Kept}
-use Rattle.record_machine.specs.Following.{moved_by}
+use Rattle.rank_monitor.specs.Following.{moved_by}
 
 -- there is room for these calls and for their bytes: a tap has room for as many as a log may have of a rank
 pub record HasTapRoom (calls : List DataCall) : Type 0 where

@@ -24,7 +24,7 @@ impl Kept {
     ghost use Rattle.std.specs.Prelude.{◌≡◌, ◌∷◌, ◌++◌, List, [], IfOk};
     ghost use Rattle.scc_base.specs.Calls.{DataCall, call_of};
     ghost use Rattle.call_tap.specs.Kept.{AreKeptWithRoom};
-    ghost use Rattle.record_machine.specs.Following.{moved_by};
+    ghost use Rattle.rank_monitor.specs.Following.{moved_by};
 
     /// No calls, with room for them.
     pub fn new(alloc: Global) -> Result<Kept, AllocError>

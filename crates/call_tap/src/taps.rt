@@ -1,7 +1,7 @@
 //! A tap: it stands before a port, reads each access, and keeps the rank's finished calls.
 
 use crate::kept::Kept;
-use record_machine::Machine;
+use rank_monitor::RankMonitor;
 use scc_base::{Event, Rank, Setup};
 use std::alloc::{AllocError, Global};
 
@@ -9,7 +9,7 @@ use std::alloc::{AllocError, Global};
 /// with their bytes. All its memory is taken in `new`.
 #[derive(Drop)]
 pub struct Tap {
-    pub machine: Machine,
+    pub monitor: RankMonitor,
     pub kept: Kept,
 }
 
@@ -24,9 +24,9 @@ impl Tap {
         requires below { rank < setup.nue }
         ensures read { IfOk result (λ tap. HasRead tap setup rank []) }
     {
-        let machine = Machine::new(alloc, setup, rank)?;
+        let monitor = RankMonitor::new(alloc, setup, rank)?;
         let kept = Kept::new(alloc)?;
-        Ok(Tap { machine, kept })
+        Ok(Tap { monitor, kept })
     }
 
     /// One access more of the rank. An access that its record does not permit changes nothing.
@@ -34,8 +34,8 @@ impl Tap {
         ensures reads { (s : SetupView) (rank : ℕ) (events : List Event) → HasRead self.old s rank events
             → HasRead self.new s rank (events ++ event.now ∷ []) }
     {
-        match self.machine.take(event) {
-            Ok(Some(call)) => self.kept.note(call, self.machine.bytes()),
+        match self.monitor.take(event) {
+            Ok(Some(call)) => self.kept.note(call, self.monitor.bytes()),
             Ok(None) => {}
             Err(_) => {}
         }

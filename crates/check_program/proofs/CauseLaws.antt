@@ -3,8 +3,8 @@ use Rattle.std.proofs.Common.{◌≡◌, ℕ, ◌<◌, List, length, Option, Som
 use Rattle.std.specs.Prelude.{is_some}
 use Rattle.std.specs.Option.{option_map}
 use Rattle.groups.specs.Peers.{IsPeer}
-use Rattle.script_plain.specs.Ends.{Ended, ended_at}
-use Rattle.script_plain.specs.HeldUp.{IsExplained}
+use Rattle.plain_meaning.specs.Ends.{Ended, ended_at}
+use Rattle.plain_meaning.specs.HeldUp.{IsExplained}
 use Rattle.check_program.specs.declared.causes.Cause.{Cause}
 use Rattle.check_program.specs.Waiting.{IsCause, cause_of, is_waiting, waits_for}
 use Rattle.check_program.proofs.CycleLaws.{cause_means}

@@ -12,7 +12,7 @@ use Rattle.std.proofs.lemmas.Map.Steps.{length-le_from_distinct_below}
 use Rattle.std.proofs.lemmas.Option.{same_Some}
 use Rattle.script_machine.specs.declared.ends.UeEnd.{UeEnd}
 use Rattle.script_machine.specs.declared.ends.UeEnd.TheVariants as ue_end
-use Rattle.script_plain.specs.Ends.{Ended, ended_at}
+use Rattle.plain_meaning.specs.Ends.{Ended, ended_at}
 use Rattle.check_program.specs.declared.causes.Cause.TheVariants as cause
 use Rattle.check_program.specs.Waiting.{HasEndedRefusing, IsCause, ReachesIn, cause_at, cause_of, is_waiting, least_walked, after_exact_steps, stopped_by, after_steps}
 

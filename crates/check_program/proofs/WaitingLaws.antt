@@ -11,11 +11,11 @@ use Rattle.scc_base.specs.declared.calls.Call.{Call}
 use Rattle.scc_base.specs.declared.calls.Call.TheVariants as call
 use Rattle.script_machine.specs.declared.ends.UeEnd.{UeEnd}
 use Rattle.script_machine.specs.declared.ends.UeEnd.TheVariants as ue_end
-use Rattle.script_plain.specs.Ends.{Ended, ended_at}
-use Rattle.script_plain.specs.HeldUp.{HasCause, IsExplained, IsHeldUp, ended_at_barrier}
-use Rattle.script_plain.specs.Meaning.{plain_end, plain_ends, seen_of}
-use Rattle.script_plain.proofs.Runs.PlainLaws.{length-plain_end}
-use Rattle.script_plain.proofs.Messages.RestLaws.{ends_length}
+use Rattle.plain_meaning.specs.Ends.{Ended, ended_at}
+use Rattle.plain_meaning.specs.HeldUp.{HasCause, IsExplained, IsHeldUp, ended_at_barrier}
+use Rattle.plain_meaning.specs.Meaning.{plain_end, plain_ends, seen_of}
+use Rattle.plain_meaning.proofs.Runs.PlainLaws.{length-plain_end}
+use Rattle.plain_meaning.proofs.Messages.RestLaws.{ends_length}
 use Rattle.script_rules.specs.Script.{Script}
 use Rattle.check_program.specs.Waiting.{cause_at, cause_of, first_from, found_at, is_absent_from, is_waiting, least_walked, trouble_of, waits_by_call, waits_by_end, waits_for, after_steps}
 use Rattle.check_program.specs.declared.causes.Cause.{Cause}

@@ -1,10 +1,10 @@
 -- What `rccecheck` does on its words (this project's profile).
 use Rattle.std.specs.Prelude.{ℕ, List, [], codes}
 use Rattle.script_rules.specs.Script.{Script}
-use Rattle.plain_run.specs.declared.matches.Match.{Match}
-use Rattle.script_plain.specs.Ends.{Ended, all_finished}
-use Rattle.plain_run.specs.Matches.{plain_matches}
-use Rattle.script_plain.specs.Meaning.{keys_of, plain_ends}
+use Rattle.script_plain.specs.declared.matches.Match.{Match}
+use Rattle.plain_meaning.specs.Ends.{Ended, all_finished}
+use Rattle.script_plain.specs.Matches.{plain_matches}
+use Rattle.plain_meaning.specs.Meaning.{keys_of, plain_ends}
 use Rattle.outcomes.specs.Outcomes.{Ran}
 use Rattle.outcomes.specs.Plans.{Plan, Program}
 use Rattle.outcomes.specs.Plans.Plan.{Runs}

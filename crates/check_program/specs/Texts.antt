@@ -2,7 +2,7 @@
 use Rattle.std.specs.Prelude.{ℕ, List, [], ◌∷◌, ◌++◌, codes, decimal, map}
 use Rattle.rcce_io.specs.Sending.{joined_texts}
 use Rattle.scc_base.specs.Heads.{kind_at, kind_text}
-use Rattle.plain_run.specs.declared.matches.Match.{Match}
+use Rattle.script_plain.specs.declared.matches.Match.{Match}
 use Rattle.check_program.specs.declared.causes.Cause.{Cause}
 use Rattle.check_program.specs.declared.causes.Cause.TheVariants as cause
 use Rattle.check_program.specs.declared.trouble.Found.{Found}

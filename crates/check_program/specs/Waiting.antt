@@ -7,8 +7,8 @@ use Rattle.scc_base.specs.declared.calls.Call.{Call}
 use Rattle.scc_base.specs.declared.calls.Call.TheVariants as call
 use Rattle.script_machine.specs.declared.ends.UeEnd.{UeEnd}
 use Rattle.script_machine.specs.declared.ends.UeEnd.TheVariants as ue_end
-use Rattle.script_plain.specs.Ends.{Ended, ended_at}
-use Rattle.script_plain.specs.HeldUp.{ended_at_barrier}
+use Rattle.plain_meaning.specs.Ends.{Ended, ended_at}
+use Rattle.plain_meaning.specs.HeldUp.{ended_at_barrier}
 use Rattle.check_program.specs.declared.causes.Cause.{Cause}
 use Rattle.check_program.specs.declared.causes.Cause.TheVariants as cause
 use Rattle.check_program.specs.declared.trouble.Found.{Found}

@@ -5,10 +5,10 @@ ghost use Rattle.check_program.specs.Texts.{cause_name, cause_rank};
 
 use crate::causes::Cause;
 use crate::trouble::{Found, Trouble};
-use plain_run::Match;
 use rcce_io::Piece::{Number, Text};
 use rcce_io::{Sink, TextSource, WriteFault, write_texts};
 use scc_base::Rank;
+use script_plain::Match;
 
 /// The line of a message.
 #[derive(Clone, Copy)]

@@ -2,16 +2,16 @@
 
 ghost use Rattle.std.specs.Prelude.{◌≡◌, map, IfOk};
 ghost use Rattle.rcce_io.specs.Sending.{Sends, joined_texts};
-ghost use Rattle.plain_run.specs.Matches.{plain_matches};
-ghost use Rattle.script_plain.specs.Meaning.{keys_of, plain_ends};
+ghost use Rattle.script_plain.specs.Matches.{plain_matches};
+ghost use Rattle.plain_meaning.specs.Meaning.{keys_of, plain_ends};
 ghost use Rattle.check_program.specs.Program.{check_ran_of};
 ghost use Rattle.check_program.specs.Reports.{report_ran};
 ghost use Rattle.check_program.specs.Texts.{match_line};
 
 use crate::lines::MatchLine;
 use crate::trouble::{Found, all_found};
-use plain_run::{History, Matches, have_finished, plain_history};
 use rcce_io::{Buffer, Sink, WriteFault, write_texts};
+use script_plain::{History, Matches, have_finished, plain_history};
 use script_rules::Scripts;
 use std::alloc::{AllocError, Global};
 

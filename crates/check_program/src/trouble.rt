@@ -1,15 +1,15 @@
 //! What is the matter with each rank.
 
 ghost use Rattle.std.specs.Prelude.{◌≡◌, ◌<◌, IfOk};
-ghost use Rattle.script_plain.specs.Meaning.{keys_of, plain_ends};
+ghost use Rattle.plain_meaning.specs.Meaning.{keys_of, plain_ends};
 ghost use Rattle.check_program.specs.Waiting.{all_found, cause_of, trouble_by_waits, trouble_of, waits_for};
 
 use crate::causes::Cause;
 use crate::waiting::waits_for;
 use crate::walking::cause;
-use plain_run::End;
 use scc_base::Rank;
 use script_machine::UeEnd;
+use script_plain::End;
 use script_rules::Scripts;
 use std::alloc::{AllocError, Global};
 

@@ -3,14 +3,14 @@
 ghost use Rattle.std.specs.Prelude.{◌≡◌, ◌<◌, is_some, length, IfSome};
 ghost use Rattle.groups.specs.Peers.{IsPeer};
 ghost use Rattle.scc_base.specs.Setups.{setup_key};
-ghost use Rattle.script_plain.specs.Ends.{ended_at};
-ghost use Rattle.script_plain.specs.HeldUp.{ended_at_barrier};
-ghost use Rattle.script_plain.specs.Meaning.{keys_of, plain_ends};
+ghost use Rattle.plain_meaning.specs.Ends.{ended_at};
+ghost use Rattle.plain_meaning.specs.HeldUp.{ended_at_barrier};
+ghost use Rattle.plain_meaning.specs.Meaning.{keys_of, plain_ends};
 ghost use Rattle.check_program.specs.Waiting.{is_waiting, lowest_absent, waits_by_call, waits_for};
 
-use plain_run::{End, is_with, setup_of};
 use scc_base::{Call, Rank, Setup};
 use script_machine::UeEnd;
+use script_plain::{End, is_with, setup_of};
 use script_rules::Scripts;
 
 /// The rank that a rank waits for at the end of a script. No memory is taken.

@@ -2,15 +2,15 @@
 
 ghost use Rattle.std.specs.Prelude.{◌≡◌, ◌<◌, is_some, length, IfSome};
 ghost use Rattle.std.specs.Option.{option_map};
-ghost use Rattle.script_plain.specs.Ends.{ended_at};
-ghost use Rattle.script_plain.specs.Meaning.{keys_of, plain_ends};
+ghost use Rattle.plain_meaning.specs.Ends.{ended_at};
+ghost use Rattle.plain_meaning.specs.Meaning.{keys_of, plain_ends};
 ghost use Rattle.check_program.specs.Waiting.{IsCause, cause_of, is_waiting, least_walked, stopped_by, waits_for, after_steps};
 
 use crate::causes::Cause;
 use crate::waiting::waits_for;
-use plain_run::End;
 use scc_base::Rank;
 use script_machine::UeEnd;
+use script_plain::End;
 use script_rules::Scripts;
 
 /// Why a rank waits at the end of a script: what a walk from rank to rank comes to, each to the one that is waited for. No

@@ -1,6 +1,6 @@
 //! Scripts at their largest: names, bytes, and messages.
 
-use plain_run::plain_matches;
+use script_plain::plain_matches;
 use script_reader::{ReadFault, ReadStop, read_script};
 use script_rules::FaultKind;
 use std::alloc::{AllocError, Global};

@@ -3,11 +3,11 @@
 use crate::cases::{Given, NOWHERE, run};
 use crate::programs::{Launcher, Program};
 use outcomes::Status;
-use plain_run::plain_run;
 use rcce_io::{MemSink, Sink};
 use run_program::{write_end, write_printed, write_unfinished};
 use scc_base::{Call, Head, Kind, PostHead, Rank};
 use script_machine::UeEnd;
+use script_plain::plain_run;
 use script_reader::read_script;
 use script_rules::Scripts;
 use std::alloc::{AllocError, Global};

@@ -1,8 +1,8 @@
 //! What runs of scripts cannot show: a machine by itself.
 
-use plain_run::setup_of;
 use scc_base::Rank;
 use script_machine::Machine;
+use script_plain::setup_of;
 use script_reader::read_script;
 use script_rules::Scripts;
 use std::alloc::Global;

@@ -1,9 +1,9 @@
 //! The plain run of small scripts by itself: how each rank ends, and what it has printed. That memory is there.
 
 use crate::cases::FOUR_BYTES;
-use plain_run::{End, plain_run};
 use scc_base::{Call, Head, Rank};
 use script_machine::UeEnd;
+use script_plain::{End, plain_run};
 use script_reader::read_script;
 use script_rules::Scripts;
 use std::alloc::Global;

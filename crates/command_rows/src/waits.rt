@@ -1,11 +1,11 @@
 //! For whom ranks wait, and why, at the ends of small scripts, by the calls themselves.
 
 ghost use Rattle.std.specs.Prelude.{◌≡◌, ◌<◌};
-ghost use Rattle.script_plain.specs.Meaning.{plain_ends};
+ghost use Rattle.plain_meaning.specs.Meaning.{plain_ends};
 
 use check_program::{Cause, cause, waits_for};
-use plain_run::{End, plain_run};
 use scc_base::Rank;
+use script_plain::{End, plain_run};
 use script_reader::read_script;
 use script_rules::Scripts;
 use std::alloc::{AllocError, Global};

@@ -153,7 +153,12 @@ fn expected_take(words: &[&[u8]]) -> Option<Option<bool>>
 }
 
 /// The read of a word or of a line, by the words after `evict LINE`, if that is there.
-fn read_afterwards(own: CoreId, at: &[u8], evict: Option<HeapLine>, words: &[&[u8]]) -> Option<Action>
+fn read_afterwards(
+    own: CoreId,
+    at: &[u8],
+    evict: Option<HeapLine>,
+    words: &[&[u8]],
+) -> Option<Action>
     ensures { result ≡ read_afterwards own at.now evict (map (λ word. word.now) words.now) }
 {
     match word_said(own, at) {

@@ -16,10 +16,10 @@ use Rattle.scc_mesh.specs.Scenes.{ChipView, about_in, events_in, records_in}
 use Rattle.script_rules.specs.Script.{Script}
 use Rattle.script_rules.specs.Settled.{IsWholeScript}
 use Rattle.script_machine.specs.CallLists.{calls_of}
-use Rattle.script_plain.specs.Collectives.{start_of_rank}
-use Rattle.script_plain.specs.Ends.{Ended}
+use Rattle.plain_meaning.specs.Collectives.{start_of_rank}
+use Rattle.plain_meaning.specs.Ends.{Ended}
 use Rattle.script_machine.specs.Local.{Local, local_next}
-use Rattle.script_plain.specs.Meaning.{State, next_of, plain_end, next_with_calls}
+use Rattle.plain_meaning.specs.Meaning.{State, next_of, plain_end, next_with_calls}
 use Rattle.script_machine.specs.Next.{Next, call_next}
 use Rattle.script_machine.specs.Next.Next.{Ends, Goes, Posts, Sends, Recvs, Bars}
 use Rattle.call_tap.specs.declared.taps.Tap.{Tap}

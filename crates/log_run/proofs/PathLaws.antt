@@ -11,18 +11,18 @@ use Rattle.script_rules.specs.Script.{Script}
 use Rattle.script_rules.specs.Settled.{IsWholeScript}
 use Rattle.script_machine.specs.declared.posts.Posted.{Posted}
 use Rattle.script_machine.specs.CallLists.{calls_from, calls_of}
-use Rattle.script_plain.specs.Collectives.{start_of_rank}
+use Rattle.plain_meaning.specs.Collectives.{start_of_rank}
 use Rattle.script_machine.specs.Lengths.{lengths_of}
 use Rattle.script_machine.specs.Local.{Local, local_next, local_start}
-use Rattle.script_plain.specs.Meaning.{State, next_of, next_with_calls}
+use Rattle.plain_meaning.specs.Meaning.{State, next_of, next_with_calls}
 use Rattle.script_machine.specs.Next.{Next}
 use Rattle.script_machine.specs.Next.Next.{Ends, Goes, Posts, Sends, Recvs, Bars}
-use Rattle.script_plain.specs.Paths.{Came, DidCalls}
-use Rattle.script_plain.specs.Paths.Came.{Began, Went, Leaves, Passed, Took, Joined}
-use Rattle.script_plain.specs.Paths.DidCalls.{Here, Own, Left, Sent, Got, Met}
-use Rattle.script_plain.specs.Ready.{CanMakeNext}
-use Rattle.script_plain.proofs.OwnWays.CallListLaws.{calls_did}
-use Rattle.script_plain.proofs.ProgramLengths.ReadyLemmas.{ready-law}
+use Rattle.plain_meaning.specs.Paths.{Came, DidCalls}
+use Rattle.plain_meaning.specs.Paths.Came.{Began, Went, Leaves, Passed, Took, Joined}
+use Rattle.plain_meaning.specs.Paths.DidCalls.{Here, Own, Left, Sent, Got, Met}
+use Rattle.plain_meaning.specs.Ready.{CanMakeNext}
+use Rattle.plain_meaning.proofs.OwnWays.CallListLaws.{calls_did}
+use Rattle.plain_meaning.proofs.ProgramLengths.ReadyLemmas.{ready-law}
 use Rattle.rcce_run.specs.Sweep.{IsStateOfRecord}
 use Rattle.rcce_run.specs.Sweep.IsStateOfRecord.{Running, Stopped}
 use Rattle.log_run.specs.LogRuns.{IsOwnCall}

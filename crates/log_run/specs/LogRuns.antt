@@ -13,7 +13,7 @@ use Rattle.call_tap.specs.declared.taps.Tap.{Tap}
 use Rattle.call_tap.specs.Kept.{AreKept, HasTapRoom}
 use Rattle.script_rules.specs.Script.{Script, rules_of}
 use Rattle.script_rules.specs.Settled as settled
-use Rattle.script_plain.specs.Meaning.{State, plain_end}
+use Rattle.plain_meaning.specs.Meaning.{State, plain_end}
 use Rattle.rcce_ue.specs.Ues.{UeView}
 use Rattle.chip_run.specs.declared.ends.RunEnd.{RunEnd}
 use Rattle.rcce_run.specs.Crews.{EndsAs}

@@ -6,9 +6,9 @@ ghost use Rattle.script_machine.specs.CallLists.{calls_from, calls_of};
 ghost use Rattle.script_rules.specs.Script.{rules_of};
 ghost use Rattle.log_run.specs.Sizes.{has_room_for_all};
 
-use plain_run::setup_of;
 use scc_base::{Rank, Setup};
 use script_machine::{Lengths, Walk};
+use script_plain::setup_of;
 use script_rules::Scripts;
 use std::alloc::{AllocError, Global};
 

@@ -41,7 +41,7 @@ impl<'s> Model for LogRun<'s> {
 impl<'s> LogRun<'s> {
     ghost use Rattle.std.specs.Prelude.{◌≡◌, ◌<◌, ◌≤◌, All, flat_map, map};
     ghost use Rattle.scc_base.specs.Calls.{HasItsBytes, call_of};
-    ghost use Rattle.record_machine.specs.Following.{moved_by};
+    ghost use Rattle.rank_monitor.specs.Following.{moved_by};
     ghost use Rattle.script_rules.specs.Script.{rules_of};
     ghost use Rattle.rcce_run.specs.Crews.{EndsAs};
     ghost use Rattle.log_run.specs.LogRuns.{HaveKept, plain_calls};

@@ -7,7 +7,7 @@ use Rattle.mesh_load.specs.Mesh.{Link, Tile, all_links, lines_over_link, mesh_co
 use Rattle.mesh_load.specs.Tables.{IsPlaced, Loads, load_on, sum_where, column_cell, in_column, in_row, pair_place, passes_column, passes_row, row_cell}
 use Rattle.mesh_load.proofs.RouteLaws.{column_place, row_place, shared}
 use Rattle.mesh_load.proofs.TableLaws.{chosen-set}
-use Rattle.plain_run.specs.declared.matches.Match.{Match}
+use Rattle.script_plain.specs.declared.matches.Match.{Match}
 
 -- sums of equal terms, and of terms of two parts
 sum_by-same : {X : Type 0} (f g : X → ℕ) → ((x : X) → f x ≡ g x) → (xs : List X) → sum_by f xs ≡ sum_by g xs

@@ -4,7 +4,7 @@ use Rattle.std.specs.Prelude.{ℕ, zero, suc, ◌+◌, ◌-◌, ◌/◌, ◌%◌
 use Rattle.std.specs.List.{flat_map, list_any, range_with_len}
 use Rattle.mesh_load.specs.declared.links.Dir.{Dir}
 use Rattle.mesh_load.specs.declared.links.Dir.TheVariants.{East, West, North, South}
-use Rattle.plain_run.specs.declared.matches.Match.{Match}
+use Rattle.script_plain.specs.declared.matches.Match.{Match}
 
 -- a tile: its column and its row
 pub record Tile : Type 0 where

@@ -3,7 +3,7 @@ use Rattle.std.specs.Prelude.{ℕ, suc, ◌+◌, ◌*◌, ◌/◌, ◌%◌, ◌=
 use Rattle.mesh_load.specs.declared.links.Dir.{Dir}
 use Rattle.mesh_load.specs.declared.links.Dir.TheVariants.{East, West, North, South}
 use Rattle.mesh_load.specs.Mesh.{Link, mesh_core_of}
-use Rattle.plain_run.specs.declared.matches.Match.{Match}
+use Rattle.script_plain.specs.declared.matches.Match.{Match}
 
 -- the sum of the values whose places pass a test
 abbrev pub sum_where : (ℕ → Bool) → List ℕ → ℕ

@@ -6,8 +6,8 @@ ghost use Rattle.mesh_load.specs.Tables.{load_on};
 
 use crate::links::Load;
 use crate::tables::{add_columns, add_pairs, add_rows};
-use plain_run::Matches;
 use scc_base::CoreId;
+use script_plain::Matches;
 
 /// The load of the mesh by the messages of a run, with the core of each rank. It takes no memory.
 pub fn load(matches: &Matches, at: &[CoreId; 48]) -> Load

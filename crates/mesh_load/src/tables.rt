@@ -6,8 +6,8 @@ ghost use Rattle.mesh_load.specs.Mesh.{mesh_core_of, lines_moved, link_at};
 ghost use Rattle.mesh_load.specs.Tables.{IsPlaced, sum_where, column_cell, in_column, in_row, pair_place, row_cell, total};
 
 use crate::links::Dir;
-use plain_run::Matches;
 use scc_base::{CoreId, Head, Rank};
+use script_plain::Matches;
 
 /// The number of the tile of a rank.
 fn tile(at: &[CoreId; 48], rank: Rank) -> usize

@@ -2,9 +2,9 @@
 use Rattle.std.proofs.Common.{ℕ, Bool, List, refl, ap, ◌∙◌, inl}
 use Rattle.rcce_io.specs.Files.{FilesView}
 use Rattle.script_rules.specs.Script.{Script}
-use Rattle.script_plain.specs.Ends.{all_finished}
-use Rattle.plain_run.specs.Matches.{plain_matches}
-use Rattle.script_plain.specs.Meaning.{plain_ends}
+use Rattle.plain_meaning.specs.Ends.{all_finished}
+use Rattle.script_plain.specs.Matches.{plain_matches}
+use Rattle.plain_meaning.specs.Meaning.{plain_ends}
 use Rattle.mesh_load.specs.Mesh.{lines_over_link}
 use Rattle.mesh_load.specs.Tables.{load_on}
 use Rattle.outcomes.specs.Coming.{Comes}

@@ -2,9 +2,9 @@
 use Rattle.std.specs.Prelude.{ℕ, Bool, if◌then◌else◌, List, [], ◌∷◌, codes, Option, None, option_map, option_and_then}
 use Rattle.std.specs.Str.{bytes_eq}
 use Rattle.script_rules.specs.Script.{Script}
-use Rattle.script_plain.specs.Ends.{all_finished}
-use Rattle.plain_run.specs.Matches.{plain_matches}
-use Rattle.script_plain.specs.Meaning.{plain_ends}
+use Rattle.plain_meaning.specs.Ends.{all_finished}
+use Rattle.script_plain.specs.Matches.{plain_matches}
+use Rattle.plain_meaning.specs.Meaning.{plain_ends}
 use Rattle.mesh_load.specs.Mesh.{Link, lines_over_link}
 use Rattle.outcomes.specs.Outcomes.{Ran}
 use Rattle.outcomes.specs.Plans.{Plan, Program}

@@ -5,9 +5,9 @@ use Rattle.mesh_load.specs.Tables.{load_on}
 use Rattle.outcomes.specs.Outcomes.{Ran}
 use Rattle.mesh_program.specs.declared.report.Report.{Report}
 use Rattle.mesh_program.specs.Program.{mesh_ran_of}
-use Rattle.script_plain.specs.Ends.{all_finished}
-use Rattle.plain_run.specs.Matches.{plain_matches}
-use Rattle.script_plain.specs.Meaning.{plain_ends}
+use Rattle.plain_meaning.specs.Ends.{all_finished}
+use Rattle.script_plain.specs.Matches.{plain_matches}
+use Rattle.plain_meaning.specs.Meaning.{plain_ends}
 use Rattle.script_rules.specs.Script.{Script}
 
 -- whether each rank has finished, and the lines

@@ -1,14 +1,14 @@
 //! The load of the mesh by a script, and its lines.
 
 ghost use Rattle.std.specs.Prelude.{IfOk};
-ghost use Rattle.plain_run.specs.Matches.{plain_matches};
+ghost use Rattle.script_plain.specs.Matches.{plain_matches};
 ghost use Rattle.mesh_program.specs.Reports.{IsReportOf};
 
 use crate::lines::write_mesh;
 use mesh_load::{Load, load};
-use plain_run::{have_finished, plain_history};
 use rcce_io::{Sink, WriteFault, write_all};
 use scc_base::CoreId;
+use script_plain::{have_finished, plain_history};
 use script_rules::Scripts;
 use std::alloc::{AllocError, Global};
 

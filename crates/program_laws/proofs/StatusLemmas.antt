@@ -9,8 +9,8 @@ use Rattle.script_reader.specs.declared.fault.ReadFault.{ReadFault}
 use Rattle.script_reader.specs.Reading.{most_script_bytes, parse_script}
 use Rattle.script_rules.specs.Script.{Script}
 use Rattle.script_reader.specs.Faults.{◌>>=◌}
-use Rattle.script_plain.specs.Ends.{all_finished}
-use Rattle.script_plain.specs.Meaning.{plain_ends}
+use Rattle.plain_meaning.specs.Ends.{all_finished}
+use Rattle.plain_meaning.specs.Meaning.{plain_ends}
 use Rattle.outcomes.specs.declared.status.Status.{Status}
 use Rattle.outcomes.specs.declared.status.Status.TheVariants as status
 use Rattle.outcomes.specs.Numbers.{is_option, ue_count_of}

@@ -7,9 +7,9 @@ use Rattle.std.proofs.lemmas.List.FromFn.{length-range_with_len}
 use Rattle.script_rules.specs.Script.{Script}
 use Rattle.script_machine.specs.declared.ends.UeEnd.{UeEnd}
 use Rattle.script_machine.specs.declared.ends.UeEnd.TheVariants as ue_end
-use Rattle.script_plain.specs.Ends.{Ended, all_finished, ended_at, is_rank_finished, nothing_ended}
-use Rattle.script_plain.specs.Meaning.{locals_of, plain_end, plain_ends}
-use Rattle.script_plain.proofs.Runs.PlainLaws.{length-plain_end}
+use Rattle.plain_meaning.specs.Ends.{Ended, all_finished, ended_at, is_rank_finished, nothing_ended}
+use Rattle.plain_meaning.specs.Meaning.{locals_of, plain_end, plain_ends}
+use Rattle.plain_meaning.proofs.Runs.PlainLaws.{length-plain_end}
 use Rattle.rcce_run.specs.Crews.{EndsAs}
 use Rattle.chip_run.specs.declared.ends.RunEnd.TheVariants as run_end
 

@@ -9,9 +9,9 @@ use Rattle.scc_proto.proofs.Tests.{same_or_other}
 use Rattle.script_machine.specs.declared.posts.Posted.{Posted}
 use Rattle.script_machine.specs.Next.{Next}
 use Rattle.script_machine.specs.Next.Next.{Ends}
-use Rattle.script_plain.specs.Step.{Configuration, next_at, slot_at, with_cell, configuration_with_slot, by_rank}
-use Rattle.script_plain.proofs.Orders.OrderLaws.{get_set}
-use Rattle.script_plain.proofs.Runs.RunLaws.{get-by_rank}
+use Rattle.plain_meaning.specs.Step.{Configuration, next_at, slot_at, with_cell, configuration_with_slot, by_rank}
+use Rattle.plain_meaning.proofs.Orders.OrderLaws.{get_set}
+use Rattle.plain_meaning.proofs.Runs.RunLaws.{get-by_rank}
 use Rattle.rcce_run.specs.Sweep.{outgoing, at_rank, HoldsStates}
 
 pub lt_true : (a b : ℕ) → a < b → nat_lt a b ≡ true

@@ -10,9 +10,9 @@ use Rattle.script_machine.specs.declared.ends.UeEnd.TheVariants as ue_end
 use Rattle.script_machine.specs.declared.posts.Posted.{Posted}
 use Rattle.script_machine.specs.declared.prims.Standing.{Standing}
 use Rattle.script_machine.specs.declared.prims.Standing.TheVariants as standing
-use Rattle.script_plain.specs.Ends.{Ended, end_of_rank, ended_at, nothing_ended}
+use Rattle.plain_meaning.specs.Ends.{Ended, end_of_rank, ended_at, nothing_ended}
 use Rattle.script_machine.specs.Local.{Local, end_by_prim, end_by_slot, end_by_standing, end_of, local_at, local_next, next_by_act, next_by_prim, nobody, prim_by_standing, end_waiting_at}
-use Rattle.script_plain.specs.Meaning.{State, locals_of, plain_end, plain_ends}
+use Rattle.plain_meaning.specs.Meaning.{State, locals_of, plain_end, plain_ends}
 use Rattle.script_machine.specs.Moves.{is_stopped, is_stopped_by}
 use Rattle.script_machine.specs.Next.{call_next, is_going}
 use Rattle.script_machine.specs.Next.Next.{Ends}

@@ -17,13 +17,13 @@ use Rattle.scc_proto.proofs.Tests.{eqb_other, put_here, put_there, same_or_other
 use Rattle.script_machine.specs.declared.posts.Posted.{Posted}
 use Rattle.script_machine.specs.Next.{Next, is_at_barrier, past_barrier}
 use Rattle.script_machine.specs.Next.Next.{Goes, Posts, Sends, Recvs, Bars}
-use Rattle.script_plain.specs.Paths.{DidCalls}
-use Rattle.script_plain.specs.Paths.DidCalls.{Here, Own, Left, Sent, Got, Met}
-use Rattle.script_plain.specs.Step.{Configuration, IsStepOf, next_at, slot_at, same_head, with_cell, configuration_with_slot, by_rank, past_if}
-use Rattle.script_plain.proofs.Runs.RunLaws as runs
+use Rattle.plain_meaning.specs.Paths.{DidCalls}
+use Rattle.plain_meaning.specs.Paths.DidCalls.{Here, Own, Left, Sent, Got, Met}
+use Rattle.plain_meaning.specs.Step.{Configuration, IsStepOf, next_at, slot_at, same_head, with_cell, configuration_with_slot, by_rank, past_if}
+use Rattle.plain_meaning.proofs.Runs.RunLaws as runs
 use Rattle.script_machine.proofs.Choices as choices
-use Rattle.script_plain.proofs.Runs.StepLaws as steps
-use Rattle.script_plain.proofs.Runs.StepLaws.Takes.{Alone, Left as Leaving, Met as Meets, Fetched, Passed as Passing}
+use Rattle.plain_meaning.proofs.Runs.StepLaws as steps
+use Rattle.plain_meaning.proofs.Runs.StepLaws.Takes.{Alone, Left as Leaving, Met as Meets, Fetched, Passed as Passing}
 use Rattle.rcce_run.specs.Sweep.{keep, outgoing, HoldsStates}
 use Rattle.rcce_run.proofs.Holding.{lt_true, some_at, put_each, put_both, posted_there, mixed, mixed_here, mixed_next, rank_after_rank, holds_same, holds_cell, holds_slot, holds_all, next_held, slot_held}
 

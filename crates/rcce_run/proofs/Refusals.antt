@@ -24,12 +24,12 @@ use Rattle.scc_proto.proofs.Tests.{same_or_other, peers_are}
 use Rattle.script_machine.specs.declared.posts.Posted.{Posted}
 use Rattle.script_machine.specs.Next.{Next}
 use Rattle.script_machine.specs.Next.Next.{Ends, Goes, Posts, Sends, Recvs, Bars}
-use Rattle.script_plain.specs.Paths.{DidCalls}
-use Rattle.script_plain.specs.Paths.DidCalls.{Here}
-use Rattle.script_plain.specs.Step.{Configuration, IsStepOf, next_at, slot_at, same_head, with_cell}
-use Rattle.script_plain.proofs.Messages.MessageLaws.{same_heads}
-use Rattle.script_plain.proofs.Runs.StepLaws as steps
-use Rattle.script_plain.proofs.Runs.StepLaws.Takes.{RefusedPost, RefusedSend}
+use Rattle.plain_meaning.specs.Paths.{DidCalls}
+use Rattle.plain_meaning.specs.Paths.DidCalls.{Here}
+use Rattle.plain_meaning.specs.Step.{Configuration, IsStepOf, next_at, slot_at, same_head, with_cell}
+use Rattle.plain_meaning.proofs.Messages.MessageLaws.{same_heads}
+use Rattle.plain_meaning.proofs.Runs.StepLaws as steps
+use Rattle.plain_meaning.proofs.Runs.StepLaws.Takes.{RefusedPost, RefusedSend}
 use Rattle.chip_run.specs.Waiting.{IsLooking, BarWaits, AtRoot, AtMember}
 use Rattle.rcce_run.specs.Sweep.{Refused, IsStateOfRecord, Running, Stopped, Failed, Swept, keep, slots_by, outgoing, HoldsStates}
 use Rattle.rcce_run.proofs.Holding.{posted_there, mixed, mixed_here, mixed_next, rank_after_rank, holds_same, holds_cell, next_held, slot_held}

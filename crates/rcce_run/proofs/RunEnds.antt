@@ -10,11 +10,11 @@ use Rattle.scc_proto.specs.Words.{Memory}
 use Rattle.scc_mesh.specs.Scenes.{ChipView, about_in, events_in, records_in}
 use Rattle.script_rules.specs.Script.{Script, rules_of}
 use Rattle.script_machine.specs.declared.posts.Posted.{Posted}
-use Rattle.script_plain.specs.Collectives.{start_of_rank}
+use Rattle.plain_meaning.specs.Collectives.{start_of_rank}
 use Rattle.script_machine.specs.declared.ends.UeEnd.TheVariants as ue_end
-use Rattle.script_plain.specs.Ends.{ended_at}
+use Rattle.plain_meaning.specs.Ends.{ended_at}
 use Rattle.script_machine.specs.Local.{Local, end_of, local_next}
-use Rattle.script_plain.specs.Meaning.{State, next_of, plain_ends, next_with_calls}
+use Rattle.plain_meaning.specs.Meaning.{State, next_of, plain_ends, next_with_calls}
 use Rattle.script_machine.specs.Next.{Next}
 use Rattle.script_machine.specs.Next.Next.{Ends}
 use Rattle.rcce_ue.specs.Standing.{Tied}

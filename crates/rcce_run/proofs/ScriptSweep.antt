@@ -17,13 +17,13 @@ use Rattle.scc_proto.specs.Views.{view_of}
 use Rattle.scc_proto.specs.Words.{Memory}
 use Rattle.script_rules.specs.Script.{Script}
 use Rattle.script_machine.specs.declared.posts.Posted.{Posted}
-use Rattle.script_plain.specs.Collectives.{start_of_rank}
-use Rattle.script_plain.specs.Meaning.{IsPlainStep, State, keys_of, next_of, plain_end, start_of, steps_left}
+use Rattle.plain_meaning.specs.Collectives.{start_of_rank}
+use Rattle.plain_meaning.specs.Meaning.{IsPlainStep, State, keys_of, next_of, plain_end, start_of, steps_left}
 use Rattle.script_machine.specs.Next.Next.{Recvs}
-use Rattle.script_plain.specs.Step.{IsStepOf}
-use Rattle.script_plain.proofs.OwnWays.CameDid.{did_matched, logged}
-use Rattle.script_plain.proofs.Orders.EndLaws.{is_still, reached}
-use Rattle.script_plain.proofs.Runs.PlainLaws.{plain_end_still}
+use Rattle.plain_meaning.specs.Step.{IsStepOf}
+use Rattle.plain_meaning.proofs.OwnWays.CameDid.{did_matched, logged}
+use Rattle.plain_meaning.proofs.Orders.EndLaws.{is_still, reached}
+use Rattle.plain_meaning.proofs.Runs.PlainLaws.{plain_end_still}
 use Rattle.rcce_run.specs.Scripts.{IsSwept}
 use Rattle.chip_run.specs.Waiting.{SlotWaits}
 use Rattle.rcce_run.specs.Sweep.{IsStateOfRecord, Running, Stopped, keep, slots_by, outgoing, at_rank, HoldsStates}

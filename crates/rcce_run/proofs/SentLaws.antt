@@ -13,18 +13,18 @@ use Rattle.scc_mesh.specs.Scenes.{ChipView, about_in, events_in, records_in}
 use Rattle.script_rules.specs.Script.{Script}
 use Rattle.script_rules.specs.Settled.{IsWholeScript}
 use Rattle.script_machine.specs.declared.posts.Posted.{Posted}
-use Rattle.script_plain.specs.Collectives.{start_of_rank}
+use Rattle.plain_meaning.specs.Collectives.{start_of_rank}
 use Rattle.script_machine.specs.Local.{Local, most_steps_left, local_next, local_start}
-use Rattle.script_plain.specs.Meaning.{State, next_of, next_with_calls}
+use Rattle.plain_meaning.specs.Meaning.{State, next_of, next_with_calls}
 use Rattle.script_machine.specs.Next.{Next}
 use Rattle.script_machine.specs.Next.Next.{Ends, Goes, Posts, Sends, Recvs, Bars}
-use Rattle.script_plain.specs.Paths.{Came}
-use Rattle.script_plain.specs.Paths.Came.{Began, Went, Leaves, Passed, Took, Joined}
-use Rattle.script_plain.specs.Ready.{CanMakeNext}
-use Rattle.script_plain.proofs.OwnWays.CameDid.{logged}
-use Rattle.script_plain.proofs.Runs.Costs.{Lowers}
-use Rattle.script_plain.proofs.Runs.PlainLaws.{state_lowers}
-use Rattle.script_plain.proofs.ProgramLengths.ReadyLemmas.{ready-law}
+use Rattle.plain_meaning.specs.Paths.{Came}
+use Rattle.plain_meaning.specs.Paths.Came.{Began, Went, Leaves, Passed, Took, Joined}
+use Rattle.plain_meaning.specs.Ready.{CanMakeNext}
+use Rattle.plain_meaning.proofs.OwnWays.CameDid.{logged}
+use Rattle.plain_meaning.proofs.Runs.Costs.{Lowers}
+use Rattle.plain_meaning.proofs.Runs.PlainLaws.{state_lowers}
+use Rattle.plain_meaning.proofs.ProgramLengths.ReadyLemmas.{ready-law}
 use Rattle.rcce_ue.specs.Standing as ue
 use Rattle.rcce_ue.specs.Standing.{Tied, bytes_sent}
 use Rattle.rcce_ue.specs.Ues.{UeView, is_send_call}

@@ -8,10 +8,10 @@ use Rattle.script_rules.specs.Script.{Script}
 use Rattle.script_rules.specs.declared.script.Stmt.{Stmt}
 use Rattle.script_rules.specs.declared.script.Stmt.TheVariants as stmt
 use Rattle.script_machine.specs.declared.posts.Posted.{Posted}
-use Rattle.script_plain.specs.Collectives.{AllGive, Casts, CollectivesHold, GivesPart, TellsFold}
+use Rattle.plain_meaning.specs.Collectives.{AllGive, Casts, CollectivesHold, GivesPart, TellsFold}
 use Rattle.script_machine.specs.Local.{register_at}
-use Rattle.script_plain.specs.Meaning.{State}
-use Rattle.script_plain.specs.Step.{Configuration}
+use Rattle.plain_meaning.specs.Meaning.{State}
+use Rattle.plain_meaning.specs.Step.{Configuration}
 
 module _ (script : Script) (cells : List State) where
   abbrev with_slots : List (Option Posted) → Configuration State

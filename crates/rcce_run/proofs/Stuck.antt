@@ -14,10 +14,10 @@ use Rattle.scc_proto.specs.Words.{Memory}
 use Rattle.script_machine.specs.declared.posts.Posted.{Posted}
 use Rattle.script_machine.specs.Next.{Next, is_at_barrier}
 use Rattle.script_machine.specs.Next.Next.{Ends, Goes, Posts, Sends, Recvs, Bars}
-use Rattle.script_plain.specs.Step.{Configuration, IsStepOf, next_at, slot_at, all_at_barrier}
-use Rattle.script_plain.proofs.Runs.RunLaws.{stands_there}
-use Rattle.script_plain.proofs.Runs.StepLaws as steps
-use Rattle.script_plain.proofs.Runs.StepLaws.Takes.{Alone, Left, Met, Fetched, RefusedPost, RefusedSend, Passed}
+use Rattle.plain_meaning.specs.Step.{Configuration, IsStepOf, next_at, slot_at, all_at_barrier}
+use Rattle.plain_meaning.proofs.Runs.RunLaws.{stands_there}
+use Rattle.plain_meaning.proofs.Runs.StepLaws as steps
+use Rattle.plain_meaning.proofs.Runs.StepLaws.Takes.{Alone, Left, Met, Fetched, RefusedPost, RefusedSend, Passed}
 use Rattle.chip_run.specs.Waiting.{SlotWaits, RaiseWaits, BarWaits}
 use Rattle.rcce_run.specs.Sweep.{Failed, Swept, slots_by, outgoing, HoldsStates}
 use Rattle.rcce_run.proofs.Holding.{at_below, stands_below, full_below, slot_held}

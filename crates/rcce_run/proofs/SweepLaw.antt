@@ -7,8 +7,8 @@ use Rattle.scc_proto.specs.Stages.{Record}
 use Rattle.scc_proto.specs.Words.{Memory}
 use Rattle.script_machine.specs.declared.posts.Posted.{Posted}
 use Rattle.script_machine.specs.Next.{Next}
-use Rattle.script_plain.specs.Step.{Configuration, IsStepOf}
-use Rattle.script_plain.proofs.Orders.EndLaws.{one_end}
+use Rattle.plain_meaning.specs.Step.{Configuration, IsStepOf}
+use Rattle.plain_meaning.proofs.Orders.EndLaws.{one_end}
 use Rattle.rcce_run.specs.Sweep.{HoldsStates, Swept, slots_by}
 use Rattle.rcce_run.proofs.Refusals.{leads, told}
 use Rattle.rcce_run.proofs.Stuck.{still}

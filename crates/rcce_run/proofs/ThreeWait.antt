@@ -18,12 +18,12 @@ use Rattle.scc_proto.specs.Views.{view_of}
 use Rattle.scc_proto.specs.Words.{IsRun, zeros}
 use Rattle.scc_proto.proofs.Agreement.AgreementLaw.{agreement_of_lists}
 use Rattle.script_rules.specs.Script.{first_split, rules_of}
-use Rattle.script_plain.specs.Collectives.{start_of_rank}
+use Rattle.plain_meaning.specs.Collectives.{start_of_rank}
 use Rattle.script_machine.specs.Local.{gone_on, gone_on_with, local_next, local_start, stopped_at}
-use Rattle.script_plain.specs.Meaning.{State, next_of}
+use Rattle.plain_meaning.specs.Meaning.{State, next_of}
 use Rattle.script_machine.specs.Next.Next.{Ends, Posts, Recvs, Bars}
-use Rattle.script_plain.specs.Paths.{DidCalls}
-use Rattle.script_plain.specs.Paths.DidCalls.{Here, Left}
+use Rattle.plain_meaning.specs.Paths.{DidCalls}
+use Rattle.plain_meaning.specs.Paths.DidCalls.{Here, Left}
 use Rattle.script_machine.specs.Program.{unrolled_items}
 use Rattle.rcce_run.specs.Examples.{three_items, three_script, three_setup, three_events, three_words, three_records, three_message, three_states, three_lasts}
 use Rattle.rcce_run.specs.Scripts.{IsSwept}

@@ -17,16 +17,16 @@ use Rattle.scc_mesh.specs.Scenes.{ChipView, about_in, events_in, records_in}
 use Rattle.script_rules.specs.Script.{Script}
 use Rattle.script_rules.specs.Settled.{IsWholeScript}
 use Rattle.script_machine.specs.declared.posts.Posted.{Posted}
-use Rattle.script_plain.specs.Collectives.{CollectivesHold, start_of_rank}
-use Rattle.script_plain.specs.Ends.{Ended, end_of_rank, ended_at}
+use Rattle.plain_meaning.specs.Collectives.{CollectivesHold, start_of_rank}
+use Rattle.plain_meaning.specs.Ends.{Ended, end_of_rank, ended_at}
 use Rattle.script_machine.specs.Local.{Local, local_next}
 use Rattle.script_machine.specs.Machine.{MachineView}
-use Rattle.script_plain.specs.Meaning.{State, next_of, plain_end, plain_ends, next_with_calls}
+use Rattle.plain_meaning.specs.Meaning.{State, next_of, plain_end, plain_ends, next_with_calls}
 use Rattle.script_machine.specs.Moves.{is_stopped}
 use Rattle.script_machine.specs.Next.{Next, call_next, is_going}
 use Rattle.script_machine.specs.Next.Next.{Ends, Goes, Posts, Sends, Recvs, Bars}
-use Rattle.script_plain.proofs.Collectives.CollectiveLaws.{plain_end_collectives}
-use Rattle.script_plain.proofs.Orders.OrderLaws.{list_same}
+use Rattle.plain_meaning.proofs.Collectives.CollectiveLaws.{plain_end_collectives}
+use Rattle.plain_meaning.proofs.Orders.OrderLaws.{list_same}
 use Rattle.send_recv.specs.Ops.{SlotAt}
 use Rattle.rcce_ue.specs.Standing.{Tied}
 use Rattle.rcce_ue.specs.Ues.{UeView, in_slot}

@@ -12,14 +12,14 @@ use Rattle.scc_mesh.specs.Scenes.{blank_table, sight_away}
 use Rattle.script_rules.specs.Script.{Script}
 use Rattle.script_rules.specs.Settled.{IsWholeScript}
 use Rattle.script_machine.specs.declared.posts.Posted.{Posted}
-use Rattle.script_plain.specs.Collectives.{start_of_rank}
+use Rattle.plain_meaning.specs.Collectives.{start_of_rank}
 use Rattle.script_machine.specs.Local.{Local}
-use Rattle.script_plain.specs.Meaning.{State, next_of, next_with_calls}
+use Rattle.plain_meaning.specs.Meaning.{State, next_of, next_with_calls}
 use Rattle.script_machine.specs.Next.{Next}
 use Rattle.script_machine.specs.Next.Next.{Recvs}
-use Rattle.script_plain.specs.Ready.{CanMakeNext}
-use Rattle.script_plain.proofs.OwnWays.CameDid.{came_matched}
-use Rattle.script_plain.proofs.ProgramLengths.ReadyLemmas.{ready-law}
+use Rattle.plain_meaning.specs.Ready.{CanMakeNext}
+use Rattle.plain_meaning.proofs.OwnWays.CameDid.{came_matched}
+use Rattle.plain_meaning.proofs.ProgramLengths.ReadyLemmas.{ready-law}
 use Rattle.script_machine.proofs.StoppedLaws.{stopped_ends}
 use Rattle.rcce_ue.specs.Standing as ue
 use Rattle.rcce_ue.specs.Ues.{UeView}

@@ -5,7 +5,7 @@ use Rattle.scc_base.specs.Setups.{SetupView}
 use Rattle.scc_proto.specs.Stages.{Record}
 use Rattle.scc_proto.specs.Views.{View}
 use Rattle.script_machine.specs.Local.{Local}
-use Rattle.script_plain.specs.Meaning.{next_with_calls}
+use Rattle.plain_meaning.specs.Meaning.{next_with_calls}
 use Rattle.script_machine.specs.Next.{Next, is_going}
 use Rattle.script_machine.specs.Next.Next.{Ends, Goes, Posts, Sends, Recvs, Bars}
 use Rattle.chip_run.specs.Waiting.{SlotWaits, Waits}

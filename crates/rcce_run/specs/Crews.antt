@@ -5,9 +5,9 @@ use Rattle.scc_proto.specs.Stages.{Record}
 use Rattle.script_rules.specs.Script.{Script}
 use Rattle.script_machine.specs.declared.ends.UeEnd.TheVariants as ue_end
 use Rattle.script_machine.specs.declared.posts.Posted.{Posted}
-use Rattle.script_plain.specs.Ends.{ended_at}
+use Rattle.plain_meaning.specs.Ends.{ended_at}
 use Rattle.script_machine.specs.Local.{Local}
-use Rattle.script_plain.specs.Meaning.{plain_end, plain_ends}
+use Rattle.plain_meaning.specs.Meaning.{plain_end, plain_ends}
 use Rattle.rcce_ue.specs.Ues.{UeView}
 use Rattle.chip_run.specs.declared.ends.RunEnd.{RunEnd}
 use Rattle.chip_run.specs.declared.ends.RunEnd.TheVariants as run_end

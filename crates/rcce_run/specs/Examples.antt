@@ -14,9 +14,9 @@ use Rattle.script_rules.specs.declared.script.Peer.TheVariants as peer
 use Rattle.script_rules.specs.declared.script.Stmt.TheVariants as stmt
 use Rattle.script_rules.specs.declared.script.Who.TheVariants as who
 use Rattle.script_machine.specs.declared.posts.Posted.{Posted}
-use Rattle.script_plain.specs.Collectives.{start_of_rank}
+use Rattle.plain_meaning.specs.Collectives.{start_of_rank}
 use Rattle.script_machine.specs.Local.{gone_on, local_start, stopped_at}
-use Rattle.script_plain.specs.Meaning.{State}
+use Rattle.plain_meaning.specs.Meaning.{State}
 
 -- rank 0 posts a register without bytes to rank 1; rank 1 asks rank 0 for five bytes; rank 2 enters a barrier of the world
 abbrev pub three_items : List Item

@@ -7,8 +7,8 @@ use Rattle.scc_proto.specs.Stages.{Record}
 use Rattle.scc_proto.specs.Words.{Memory}
 use Rattle.script_rules.specs.Script.{Script, rules_of}
 use Rattle.script_machine.specs.declared.posts.Posted.{Posted}
-use Rattle.script_plain.specs.Collectives.{start_of_rank}
-use Rattle.script_plain.specs.Meaning.{State, next_of}
+use Rattle.plain_meaning.specs.Collectives.{start_of_rank}
+use Rattle.plain_meaning.specs.Meaning.{State, next_of}
 use Rattle.script_machine.specs.Next as next
 use Rattle.rcce_run.specs.Sweep.{Swept}
 

@@ -13,8 +13,8 @@ use Rattle.scc_proto.specs.Words.{Memory, are_peers}
 use Rattle.script_machine.specs.declared.posts.Posted.{Posted}
 use Rattle.script_machine.specs.Next.{Next}
 use Rattle.script_machine.specs.Next.Next.{Ends, Goes, Posts, Sends, Recvs, Bars}
-use Rattle.script_plain.specs.Paths.{DidCalls}
-use Rattle.script_plain.specs.Step.{Configuration}
+use Rattle.plain_meaning.specs.Paths.{DidCalls}
+use Rattle.plain_meaning.specs.Step.{Configuration}
 use Rattle.chip_run.specs.Waiting.{BarWaits, RaiseWaits, SlotWaits, TakeWaits}
 
 -- a rank that a message with another head stopped: it saw the message's `sent`, its noted header words say the head

@@ -13,13 +13,13 @@ use Rattle.scc_mesh.specs.Scenes.{ChipView, IsWhole, about_in, events_in, record
 use Rattle.script_rules.specs.Script.{Script}
 use Rattle.script_machine.specs.declared.ends.UeEnd.TheVariants as ue_end
 use Rattle.script_machine.specs.declared.posts.Posted.{Posted}
-use Rattle.script_plain.specs.Collectives.{CollectivesHold}
-use Rattle.script_plain.specs.Ends.{Ended, ended_at}
+use Rattle.plain_meaning.specs.Collectives.{CollectivesHold}
+use Rattle.plain_meaning.specs.Ends.{Ended, ended_at}
 use Rattle.script_machine.specs.Local.{end_of, local_next, local_start}
 use Rattle.script_machine.specs.Machine.{in_flight}
-use Rattle.script_plain.specs.Meaning.{State, next_of, plain_end, plain_ends}
+use Rattle.plain_meaning.specs.Meaning.{State, next_of, plain_end, plain_ends}
 use Rattle.script_machine.specs.Next as next
-use Rattle.script_plain.specs.Step.{Configuration}
+use Rattle.plain_meaning.specs.Step.{Configuration}
 use Rattle.rcce_ue.specs.Standing.{Tied}
 use Rattle.rcce_ue.specs.Ues.{UeView, in_slot}
 use Rattle.chip_run.specs.declared.ends.RunEnd.{RunEnd}

@@ -6,9 +6,9 @@ use Rattle.scc_proto.specs.Records.{record_of}
 use Rattle.scc_proto.specs.Stages.{Record}
 use Rattle.script_rules.specs.Script.{rules_of}
 use Rattle.script_machine.specs.declared.posts.Posted.{Posted}
-use Rattle.script_plain.specs.Collectives.{start_of_rank}
+use Rattle.plain_meaning.specs.Collectives.{start_of_rank}
 use Rattle.script_machine.specs.Local.{Local}
-use Rattle.script_plain.specs.Meaning.{State, next_of}
+use Rattle.plain_meaning.specs.Meaning.{State, next_of}
 use Rattle.rcce_ue.specs.Ues.{UeView}
 use Rattle.rcce_run.specs.Sweep.{IsStateOfRecord}
 

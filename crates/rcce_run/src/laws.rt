@@ -11,7 +11,7 @@ ghost use Rattle.scc_proto.specs.Stages.{Record};
 ghost use Rattle.scc_proto.specs.Views.{view_of};
 ghost use Rattle.scc_proto.specs.Words.{Memory};
 ghost use Rattle.script_machine.specs.declared.posts.Posted.{Posted};
-ghost use Rattle.script_plain.specs.Meaning.{IsPlainStep, State, keys_of, plain_end};
+ghost use Rattle.plain_meaning.specs.Meaning.{IsPlainStep, State, keys_of, plain_end};
 ghost use Rattle.script_rules.specs.Script.{Script};
 
 /// Where a sweep has found every UE waiting, the script has come to its plain end: whatever the order of turns was, and

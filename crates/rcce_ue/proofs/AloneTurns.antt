@@ -19,7 +19,7 @@ use Rattle.send_recv.specs.Steps.{moves_on}
 use Rattle.send_recv.specs.Tries.{aim_at}
 use Rattle.send_recv.specs.Turns.{NoLoad}
 use Rattle.send_recv.specs.Ranks.{holding_slot}
-use Rattle.script_plain.specs.Collectives.{start_of_rank}
+use Rattle.plain_meaning.specs.Collectives.{start_of_rank}
 use Rattle.script_machine.specs.Local.{Local, local_next}
 use Rattle.script_machine.specs.Moves.{is_ended, is_stopped, went}
 use Rattle.script_machine.specs.Next.{Next, is_going}

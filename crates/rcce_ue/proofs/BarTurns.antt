@@ -33,7 +33,7 @@ use Rattle.barrier.specs.Stages.{BarAt, BarStands, IsAtStage, barrier_aim_at, ba
 use Rattle.barrier.specs.Turns.{BarTurned, Does}
 use Rattle.barrier.specs.declared.stages.BarStage.{BarStage}
 use Rattle.barrier.specs.declared.stages.BarStage.TheVariants as stage
-use Rattle.script_plain.specs.Collectives.{start_of_rank}
+use Rattle.plain_meaning.specs.Collectives.{start_of_rank}
 use Rattle.script_machine.specs.Local.{Local, local_next}
 use Rattle.script_machine.specs.Moves.{is_stopped, after_pass}
 use Rattle.script_machine.specs.Next.{Next}

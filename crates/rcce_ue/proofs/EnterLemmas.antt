@@ -20,15 +20,15 @@ use Rattle.put_get.specs.Cores.{Private}
 use Rattle.send_recv.specs.Ops.{SlotAt, slot_left}
 use Rattle.send_recv.specs.Turns.{HoldsNoneBy}
 use Rattle.send_recv.proofs.Starts.{receive_starts, send_starts}
-use Rattle.script_plain.specs.Collectives.{start_of_rank}
+use Rattle.plain_meaning.specs.Collectives.{start_of_rank}
 use Rattle.script_machine.specs.Local.{Local, local_next}
 use Rattle.script_machine.specs.Machine.{MachineView, in_flight}
 use Rattle.script_machine.specs.Moves.{is_stopped}
 use Rattle.script_machine.specs.Next.{Next}
 use Rattle.script_machine.specs.Next.Next.{Ends, Goes, Posts, Sends, Recvs, Bars}
-use Rattle.script_plain.specs.Ready.{CanMakeNext}
+use Rattle.plain_meaning.specs.Ready.{CanMakeNext}
 use Rattle.script_machine.specs.declared.posts.Posted.{Posted}
-use Rattle.script_plain.proofs.ProgramLengths.ReadyLemmas.{ready-law}
+use Rattle.plain_meaning.proofs.ProgramLengths.ReadyLemmas.{ready-law}
 use Rattle.script_machine.proofs.Choices as choices
 use Rattle.script_machine.proofs.StoppedLaws.{stopped_ends}
 use Rattle.rcce_ue.specs.Left.{ue_left, next_bound, open_left, rest_after, rest_of, unless}

@@ -19,7 +19,7 @@ use Rattle.send_recv.specs.Turns.{LastHeld, OnlyTries, StoresFromBuffer}
 use Rattle.sync_flags.specs.Tries.{NoTry, Failed, Fruitful, Tried}
 use Rattle.sync_flags.specs.Turns.{waits_at}
 use Rattle.barrier.specs.Flags.{IsParityOf}
-use Rattle.script_plain.specs.Collectives.{start_of_rank}
+use Rattle.plain_meaning.specs.Collectives.{start_of_rank}
 use Rattle.script_machine.specs.Local.{Local, local_next}
 use Rattle.script_machine.specs.Machine.{MachineView}
 use Rattle.script_machine.specs.Moves.{is_ended, is_stopped}

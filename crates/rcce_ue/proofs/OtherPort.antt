@@ -11,7 +11,7 @@ use Rattle.sync_flags.specs.Turns.{at_port}
 use Rattle.sync_flags.proofs.TurnLemmas.{between_there, record_at_port}
 use Rattle.barrier.specs.Flags.{IsParityOf}
 use Rattle.barrier.proofs.OtherPort.{barrier_there}
-use Rattle.script_plain.specs.Collectives.{start_of_rank}
+use Rattle.plain_meaning.specs.Collectives.{start_of_rank}
 use Rattle.script_machine.specs.Local.{Local, local_next}
 use Rattle.script_machine.specs.Moves.{bytes_out, length_asked}
 use Rattle.script_machine.specs.Next.{Next}

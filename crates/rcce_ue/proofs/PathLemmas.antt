@@ -8,11 +8,11 @@ use Rattle.scc_proto.specs.Stages.{Record}
 use Rattle.send_recv.specs.Receiving.{SaysHead}
 use Rattle.script_machine.specs.declared.posts.Posted.{Posted}
 use Rattle.script_machine.specs.Local.{Local, local_next}
-use Rattle.script_plain.specs.Meaning.{State, next_of, next_with_calls}
+use Rattle.plain_meaning.specs.Meaning.{State, next_of, next_with_calls}
 use Rattle.script_machine.specs.Moves.{is_stopped}
 use Rattle.script_machine.specs.Next.Next.{Ends, Goes, Posts, Sends, Recvs, Bars}
-use Rattle.script_plain.specs.Paths.{Came}
-use Rattle.script_plain.specs.Paths.Came.{Went, Leaves, Passed, Took, Joined}
+use Rattle.plain_meaning.specs.Paths.{Came}
+use Rattle.plain_meaning.specs.Paths.Came.{Went, Leaves, Passed, Took, Joined}
 use Rattle.script_machine.proofs.StoppedLaws.{refused_stops}
 pub use Rattle.script_machine.proofs.StoppedLaws.{stopped_ends}
 use Rattle.rcce_ue.specs.Standing.{Stood, state_at}

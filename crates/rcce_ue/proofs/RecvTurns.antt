@@ -22,7 +22,7 @@ use Rattle.send_recv.specs.declared.stages.RecvStage.{RecvStage}
 use Rattle.send_recv.specs.Ranks.{receiving}
 use Rattle.send_recv.proofs.Starts.{slot_stays}
 use Rattle.std.specs.List.{count_by, list_all}
-use Rattle.script_plain.specs.Collectives.{start_of_rank}
+use Rattle.plain_meaning.specs.Collectives.{start_of_rank}
 use Rattle.script_machine.specs.Local.{Local, local_next}
 use Rattle.script_machine.specs.Moves.{is_stopped, length_asked, after_refusal, after_take}
 use Rattle.script_machine.specs.Next.{Next}

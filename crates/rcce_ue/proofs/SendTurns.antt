@@ -17,7 +17,7 @@ use Rattle.send_recv.specs.Sending.{IsAtSendStage, IsSameOrEmpty, SendStands, Se
 use Rattle.send_recv.specs.declared.stages.SendStage.{SendStage}
 use Rattle.send_recv.specs.Ranks.{sending}
 use Rattle.send_recv.proofs.Starts.{slot_left_most}
-use Rattle.script_plain.specs.Collectives.{start_of_rank}
+use Rattle.plain_meaning.specs.Collectives.{start_of_rank}
 use Rattle.script_machine.specs.Local.{Local, local_next}
 use Rattle.script_machine.specs.Machine.{in_flight}
 use Rattle.script_machine.specs.Moves.{bytes_out, is_stopped, after_pass}

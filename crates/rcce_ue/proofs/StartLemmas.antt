@@ -10,9 +10,9 @@ use Rattle.send_recv.proofs.Starts as message
 use Rattle.sync_flags.proofs.TurnLemmas.{record_at_start}
 use Rattle.barrier.specs.Flags.{value_at}
 use Rattle.barrier.proofs.OtherPort as barrier
-use Rattle.script_plain.specs.Collectives.{start_of_rank}
+use Rattle.plain_meaning.specs.Collectives.{start_of_rank}
 use Rattle.script_machine.specs.Local.{Local, local_start}
-use Rattle.script_plain.specs.Paths.Came.{Began}
+use Rattle.plain_meaning.specs.Paths.Came.{Began}
 use Rattle.rcce_ue.specs.Bounds.{bounds_of, visits}
 use Rattle.rcce_ue.specs.Left.{ue_left, rest_of}
 use Rattle.rcce_ue.specs.Standing.{IsFree, Stood, Tied, bytes_sent, keeping}

@@ -16,14 +16,14 @@ use Rattle.send_recv.specs.Receiving.{RecvStands, SaysHead}
 use Rattle.send_recv.specs.Sending.{SendStands, SlotStands}
 use Rattle.barrier.specs.Flags.{IsParityOf}
 use Rattle.barrier.specs.Stages.{BarAt, BarStands, is_bar_finished}
-use Rattle.script_plain.specs.Collectives.{start_of_rank}
+use Rattle.plain_meaning.specs.Collectives.{start_of_rank}
 use Rattle.script_machine.specs.Local.{Local, local_next}
 use Rattle.script_machine.specs.Machine.{in_flight}
-use Rattle.script_plain.specs.Meaning.{State, next_of}
+use Rattle.plain_meaning.specs.Meaning.{State, next_of}
 use Rattle.script_machine.specs.Moves.{bytes_out, is_stopped, length_asked}
 use Rattle.script_machine.specs.Next.{Next}
 use Rattle.script_machine.specs.Next.Next.{Ends, Goes, Posts, Sends, Recvs, Bars}
-use Rattle.script_plain.specs.Paths.{Came}
+use Rattle.plain_meaning.specs.Paths.{Came}
 use Rattle.script_machine.specs.declared.posts.Posted.{Posted}
 use Rattle.rcce_ue.specs.Ues.{IsBegun, UeView, capped_count, is_send_call}
 use Rattle.rcce_ue.specs.declared.calls.Open.{Open}

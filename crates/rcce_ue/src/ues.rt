@@ -11,7 +11,7 @@ use line_cache::Evict;
 use put_get::Core;
 use scc_base::{Call, Head, Rank, Setup, Turn};
 use scc_proto::Port;
-use script_machine::{Machine, InFlight, PrintedItem, UeEnd};
+use script_machine::{InFlight, Machine, PrintedItem, UeEnd};
 use script_rules::Scripts;
 use send_recv::{RecvTurn, Slot};
 use std::alloc::{AllocError, Global};

@@ -21,7 +21,12 @@ pub(crate) struct Said {
 }
 
 /// The number that stands behind the option at a word.
-fn number_after(at: usize, least: u32, most: u32, afterwards: Option<&str>) -> Result<u32, WordFault>
+fn number_after(
+    at: usize,
+    least: u32,
+    most: u32,
+    afterwards: Option<&str>,
+) -> Result<u32, WordFault>
     ensures gives { result ≡ number_after at least most (option_map (λ word. word.now) afterwards.entry) }
     ensures least { IfOk result (λ n. least ≤ n) }
     ensures most { IfOk result (λ n. n ≤ most) }
@@ -136,7 +141,12 @@ impl Said {
     }
 
     /// The same with the word `at`, which is no value, and the word behind it.
-    pub(crate) fn take(self, at: usize, word: &str, afterwards: Option<&str>) -> Result<Said, WordFault>
+    pub(crate) fn take(
+        self,
+        at: usize,
+        word: &str,
+        afterwards: Option<&str>,
+    ) -> Result<Said, WordFault>
         requires small { at < usize.MAX }
         requires within { IsSaidInRange self }
         ensures gives { result ≡ take at self word.now (option_map (λ word. word.now) afterwards.entry) }

@@ -2,7 +2,7 @@
 use Rattle.std.proofs.Common.{◌≡◌, ℕ, ◌+◌, ◌<◌, List, [], ◌∷◌, ◌++◌, length, take, drop, get_or, sym, ap, ◌∙◌, append_assoc, add-zero, arith}
 use Rattle.std.proofs.lemmas.List.{take-append-drop, take_more, append-nil, length-take}
 use Rattle.script_machine.specs.declared.ends.UeEnd.{UeEnd}
-use Rattle.script_plain.specs.Ends.{Ended, ended_at, nothing_ended}
+use Rattle.plain_meaning.specs.Ends.{Ended, ended_at, nothing_ended}
 use Rattle.run_program.specs.Reports.{lines_by_rank, end_text, unfinished_text}
 
 -- the lines of two lists, the second of which goes on in the ranks

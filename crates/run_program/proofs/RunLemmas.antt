@@ -1,8 +1,8 @@
 -- The units of execution of a run at its end.
 use Rattle.std.proofs.Common.{◌≡◌, ℕ, ◌<◌, List, length, refl, sym, subst, ap, ◌∙◌, arith, slice_index_or, Option, Some, None}
 use Rattle.script_rules.specs.Script.{Script}
-use Rattle.script_plain.specs.Ends.{all_finished, ended_at}
-use Rattle.script_plain.specs.Meaning.{plain_ends}
+use Rattle.plain_meaning.specs.Ends.{all_finished, ended_at}
+use Rattle.plain_meaning.specs.Meaning.{plain_ends}
 use Rattle.rcce_run.specs.Crews.{EndsAs}
 use Rattle.rcce_ue.specs.Ues.{UeView}
 use Rattle.run_program.specs.Reports.{lines_by_rank, ran_by, unfinished_text}

@@ -11,10 +11,10 @@ use Rattle.scc_base.specs.Calls.DataCall.{Send, Recv, Post, Bar}
 use Rattle.scc_proto.specs.Stages.{Record}
 use Rattle.script_rules.specs.Script.{Script}
 use Rattle.script_machine.specs.Local.{most_steps_left, local_start}
-use Rattle.plain_run.specs.Matches.{plain_matches}
-use Rattle.script_plain.specs.Meaning.{State, plain_end, plain_ends}
+use Rattle.script_plain.specs.Matches.{plain_matches}
+use Rattle.plain_meaning.specs.Meaning.{State, plain_end, plain_ends}
 use Rattle.script_machine.specs.Printed.{Printed}
-use Rattle.script_plain.proofs.Runs.PlainLaws.{length-plain_end}
+use Rattle.plain_meaning.proofs.Runs.PlainLaws.{length-plain_end}
 use Rattle.script_gen.specs.Outcome.{all_sends, all_sent_bytes, counts_line, message_bytes, printed_sum, script_line, sends_of_call, sent_bytes_of}
 use Rattle.script_gen.specs.Scripts.{gen_script_of}
 use Rattle.script_gen.proofs.Sums.{bytes_came, sends_came}

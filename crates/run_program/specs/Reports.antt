@@ -3,8 +3,8 @@ use Rattle.std.specs.Prelude.{ℕ, ◌+◌, List, [], ◌∷◌, ◌++◌, map, 
 use Rattle.script_machine.specs.declared.ends.UeEnd.{UeEnd}
 use Rattle.script_machine.specs.declared.ends.UeEnd.TheVariants as ue_end
 use Rattle.script_machine.specs.Printed.{Printed}
-use Rattle.script_plain.specs.Ends.{Ended, all_finished}
-use Rattle.script_plain.specs.Meaning.{plain_ends}
+use Rattle.plain_meaning.specs.Ends.{Ended, all_finished}
+use Rattle.plain_meaning.specs.Meaning.{plain_ends}
 use Rattle.script_rules.specs.Script.{Script}
 use Rattle.rcce_io.specs.Sending.{joined_texts}
 use Rattle.outcomes.specs.Outcomes.{Ran}

@@ -1,9 +1,9 @@
 -- The crew of a run at its end.
 use Rattle.std.specs.Prelude.{◌≡◌, ℕ, ◌*◌, ◌<◌, ◌≤◌, Option, None, Some, List, length, slice_get, slice_index_or, sum_by}
 use Rattle.script_rules.specs.Script.{Script}
-use Rattle.script_plain.specs.Ends.{ended_at}
+use Rattle.plain_meaning.specs.Ends.{ended_at}
 use Rattle.script_machine.specs.Local.{most_steps_left, local_start}
-use Rattle.script_plain.specs.Meaning.{State, plain_end, plain_ends}
+use Rattle.plain_meaning.specs.Meaning.{State, plain_end, plain_ends}
 use Rattle.script_gen.specs.Outcome.{sends_of_call, sent_bytes_of}
 use Rattle.script_gen.specs.Scripts.{gen_script_of}
 use Rattle.rcce_ue.specs.Ues.{UeView, capped_count}

@@ -5,8 +5,8 @@ ghost use Rattle.std.specs.List.{sum};
 ghost use Rattle.rcce_io.specs.Sending.{Sends};
 ghost use Rattle.rcce_ue.specs.Ues.{capped_count};
 ghost use Rattle.script_gen.specs.Outcome.{all_sends, all_sent_bytes, counts_line, item_bytes, printed_sum};
-ghost use Rattle.script_plain.specs.Ends.{ended_at};
-ghost use Rattle.script_plain.specs.Meaning.{plain_end};
+ghost use Rattle.plain_meaning.specs.Ends.{ended_at};
+ghost use Rattle.plain_meaning.specs.Meaning.{plain_end};
 ghost use Rattle.run_program.specs.Runs.{HaveSent};
 
 use crate::endings::Endings;

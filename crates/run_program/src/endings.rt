@@ -1,13 +1,13 @@
 //! What the ranks of a run came to, as a report is written from it.
 
-use plain_run::End;
 use scc_base::Rank;
 use script_machine::{PrintedItem, UeEnd};
+use script_plain::End;
 
 /// A run that is over: who ended how, and printed what.
 pub trait Endings {
     ghost use Rattle.std.specs.Prelude.{◌≡◌, ◌<◌, length, slice_get, List, Some};
-    ghost use Rattle.script_plain.specs.Ends.{Ended, ended_at};
+    ghost use Rattle.plain_meaning.specs.Ends.{Ended, ended_at};
 
     // What each rank came to, by rank.
     ghost ended: { Self → List Ended };

@@ -2,7 +2,7 @@
 
 ghost use Rattle.std.specs.Prelude.{◌≡◌, [], ◌∷◌, codes, decimal};
 ghost use Rattle.rcce_io.specs.Sending.{Sends};
-ghost use Rattle.script_plain.specs.Ends.{is_rank_finished};
+ghost use Rattle.plain_meaning.specs.Ends.{is_rank_finished};
 ghost use Rattle.run_program.specs.Reports.{end_text};
 ghost use Rattle.run_program.specs.Texts.{call_pieces, message_pieces, mismatch_line, waiting_line};
 

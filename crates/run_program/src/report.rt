@@ -2,7 +2,7 @@
 
 ghost use Rattle.std.specs.Prelude.{◌≡◌, ◌<◌, length};
 ghost use Rattle.rcce_io.specs.Sending.{Sends};
-ghost use Rattle.script_plain.specs.Ends.{ended_at};
+ghost use Rattle.plain_meaning.specs.Ends.{ended_at};
 ghost use Rattle.run_program.specs.Reports.{lines_by_rank, printed_text, unfinished_text};
 
 use crate::endings::Endings;

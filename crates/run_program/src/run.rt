@@ -77,7 +77,7 @@ impl<'s> Run<'s> {
 }
 
 impl<'s> Endings for Run<'s> {
-    ghost use Rattle.script_plain.specs.Meaning.{plain_ends};
+    ghost use Rattle.plain_meaning.specs.Meaning.{plain_ends};
 
     ghost ended = { λ r. plain_ends r.script };
 

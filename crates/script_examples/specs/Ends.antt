@@ -9,8 +9,8 @@ use Rattle.script_rules.specs.declared.script.Form.TheVariants as form
 use Rattle.script_reader.specs.Faults.{◌>>=◌}
 use Rattle.script_reader.specs.Reading.{parse_script}
 use Rattle.script_machine.specs.declared.ends.UeEnd.TheVariants as ue_end
-use Rattle.script_plain.specs.Ends.{Ended}
-use Rattle.script_plain.specs.Meaning.{plain_ends}
+use Rattle.plain_meaning.specs.Ends.{Ended}
+use Rattle.plain_meaning.specs.Meaning.{plain_ends}
 use Rattle.script_machine.specs.Printed.{Printed}
 
 -- the results of a script's ranks at the end of its run, or the first fault of the script

@@ -10,26 +10,26 @@ use Rattle.scc_base.specs.Calls.DataCall.{Send, Recv, Bar}
 use Rattle.scc_base.specs.Groups.{is_with}
 use Rattle.scc_base.specs.Heads.{MessageHead}
 use Rattle.script_rules.specs.Script.{Script}
-use Rattle.plain_run.specs.declared.matches.Match.{Match}
+use Rattle.script_plain.specs.declared.matches.Match.{Match}
 use Rattle.script_machine.specs.declared.posts.Posted.{Posted}
 use Rattle.script_machine.specs.declared.prims.Standing.{Standing}
 use Rattle.script_machine.specs.declared.prims.Standing.TheVariants as standing
-use Rattle.script_plain.specs.Collectives.{start_of_rank}
+use Rattle.plain_meaning.specs.Collectives.{start_of_rank}
 use Rattle.script_machine.specs.Local.{Local, local_next, next_by_act, next_by_prim, prim_by_standing, statement_line}
-use Rattle.plain_run.specs.Matches.{messages_brought, brought_by, statement_line_at, lowest_brought, match_of, matches_on, plain_matches, step_brought, brought_by_take}
-use Rattle.script_plain.specs.Meaning.{State, keys_of, next_of, plain_end, next_with_calls, start_of, steps_left}
+use Rattle.script_plain.specs.Matches.{messages_brought, brought_by, statement_line_at, lowest_brought, match_of, matches_on, plain_matches, step_brought, brought_by_take}
+use Rattle.plain_meaning.specs.Meaning.{State, keys_of, next_of, plain_end, next_with_calls, start_of, steps_left}
 use Rattle.script_machine.specs.Next.{Next, is_at_barrier, past_barrier}
 use Rattle.script_machine.specs.Next.Next.{Ends, Goes, Posts, Sends, Recvs, Bars}
 use Rattle.script_machine.specs.Program.{Act, Prim}
-use Rattle.script_plain.specs.Step.{Configuration, all_at_barrier, by_rank, lowest, lowest_step, next_at, past_if, run_on, slot_at, step_of}
-use Rattle.script_plain.proofs.OwnWays.CameDid.{logged}
-use Rattle.script_plain.proofs.Messages.KeptLaws.{AllKept, KeepsNext, kept_runs}
-use Rattle.script_plain.proofs.Messages.MessageLaws.{Logs, cell_other, empty_slot, logs}
-use Rattle.script_plain.proofs.OwnWays.OwnWayLaws.{stands, start_cell}
-use Rattle.script_plain.proofs.Runs.RunLaws.{stands_there}
-use Rattle.script_plain.proofs.Runs.StepLaws as steps
-use Rattle.script_plain.proofs.Runs.StepLaws.Takes.{Alone, Left, Met, Fetched, RefusedPost, RefusedSend, Passed}
-use Rattle.script_plain.proofs.Runs.ViewLaws.{sum_by-map}
+use Rattle.plain_meaning.specs.Step.{Configuration, all_at_barrier, by_rank, lowest, lowest_step, next_at, past_if, run_on, slot_at, step_of}
+use Rattle.plain_meaning.proofs.OwnWays.CameDid.{logged}
+use Rattle.plain_meaning.proofs.Messages.KeptLaws.{AllKept, KeepsNext, kept_runs}
+use Rattle.plain_meaning.proofs.Messages.MessageLaws.{Logs, cell_other, empty_slot, logs}
+use Rattle.plain_meaning.proofs.OwnWays.OwnWayLaws.{stands, start_cell}
+use Rattle.plain_meaning.proofs.Runs.RunLaws.{stands_there}
+use Rattle.plain_meaning.proofs.Runs.StepLaws as steps
+use Rattle.plain_meaning.proofs.Runs.StepLaws.Takes.{Alone, Left, Met, Fetched, RefusedPost, RefusedSend, Passed}
+use Rattle.plain_meaning.proofs.Runs.ViewLaws.{sum_by-map}
 use Rattle.script_gen.specs.Outcome.{all_sends, all_sent_bytes, message_bytes, sends_of_call, sent_bytes_of}
 use Rattle.script_gen.proofs.Usual.{AreQuiet, AreUsual, IsQuiet, quiet_program}
 

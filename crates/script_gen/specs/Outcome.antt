@@ -4,11 +4,11 @@ use Rattle.std.specs.List.{sum}
 use Rattle.rcce_io.specs.Sending.{joined_texts}
 use Rattle.scc_base.specs.Calls.{DataCall}
 use Rattle.scc_base.specs.Calls.DataCall.{Send, Post}
-use Rattle.plain_run.specs.declared.matches.Match.{Match}
-use Rattle.script_plain.specs.Ends.{Ended}
-use Rattle.plain_run.specs.Matches.{plain_matches}
-use Rattle.script_plain.specs.Meaning.{State, plain_ends}
-use Rattle.script_plain.specs.Step.{Configuration}
+use Rattle.script_plain.specs.declared.matches.Match.{Match}
+use Rattle.plain_meaning.specs.Ends.{Ended}
+use Rattle.script_plain.specs.Matches.{plain_matches}
+use Rattle.plain_meaning.specs.Meaning.{State, plain_ends}
+use Rattle.plain_meaning.specs.Step.{Configuration}
 use Rattle.script_rules.specs.Script.{Script}
 use Rattle.script_gen.specs.Scripts.{gen_script_of}
 

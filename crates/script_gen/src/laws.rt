@@ -2,8 +2,8 @@
 
 ghost use Rattle.std.specs.Prelude.{◌≡◌, ◌≤◌, ℕ, Ok, length};
 ghost use Rattle.script_machine.specs.Local.{most_steps_left, local_start};
-ghost use Rattle.plain_run.specs.Matches.{plain_matches};
-ghost use Rattle.script_plain.specs.Meaning.{plain_end};
+ghost use Rattle.script_plain.specs.Matches.{plain_matches};
+ghost use Rattle.plain_meaning.specs.Meaning.{plain_end};
 ghost use Rattle.script_reader.specs.Reading.{parse_script};
 ghost use Rattle.script_gen.specs.Outcome.{all_sends, all_sent_bytes, message_bytes};
 ghost use Rattle.script_gen.specs.Scripts.{gen_script_of};

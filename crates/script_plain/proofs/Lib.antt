@@ -1,7 +1,5 @@
-pub mod Runs
-pub mod Orders
-pub mod Messages
-pub mod OwnWays
-pub mod ProgramLengths
-pub mod Collectives
-pub mod Arrivals
+pub mod CodeSteps
+pub mod WayLaws
+pub mod StartLaws
+pub mod FacingLaws
+pub mod MatchLaws

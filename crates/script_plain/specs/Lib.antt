@@ -1,11 +1,3 @@
-pub mod Ends
-pub mod Step
-pub mod Paths
-pub mod Meaning
-pub mod Barriers
-pub mod Messages
-pub mod HeldUp
-pub mod Collectives
-pub mod Kept
-pub mod Ready
-pub mod Reached
+pub mod Facing
+pub mod Matches
+pub mod Code

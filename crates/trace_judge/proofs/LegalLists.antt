@@ -2,8 +2,8 @@
 use Rattle.std.proofs.Common.{◌≡◌, ℕ, ◌+◌, ◌<◌, Bool, true, false, if◌then◌else◌, List, [], ◌∷◌, Option, Some, None, Result, Ok, refl}
 use Rattle.std.specs.Prelude.{IsOk}
 use Rattle.std.proofs.lemmas.List.Elements.{All-head, All-tail}
-use Rattle.record_machine.specs.Next.{allowed_for}
-use Rattle.record_machine.specs.declared.next.NextEvent.{NextEvent}
+use Rattle.rank_monitor.specs.Next.{allowed_for}
+use Rattle.rank_monitor.specs.declared.next.NextEvent.{NextEvent}
 use Rattle.scc_base.specs.Events.{IsEvent}
 use Rattle.scc_base.specs.Setups.{SetupView}
 use Rattle.scc_proto.specs.Histories.{IsPermittedRun, memory_from, records_from}

@@ -1,8 +1,8 @@
--- Why an event is refused, by what the words and the machine of its rank say.
+-- Why an event is refused, by what the words and the monitor of its rank say.
 use Rattle.std.proofs.Common.{◌≡◌, ℕ, Bool, true, false, if◌then◌else◌, List, Option, Some, None, refl, sym, ◌∙◌, ap}
 use Rattle.scc_base.specs.Setups.{SetupView}
-use Rattle.record_machine.specs.Next.{allowed_for}
-use Rattle.record_machine.specs.declared.next.NextEvent.{NextEvent}
+use Rattle.rank_monitor.specs.Next.{allowed_for}
+use Rattle.rank_monitor.specs.declared.next.NextEvent.{NextEvent}
 use Rattle.scc_proto.specs.Histories.{memory_from, records_from}
 use Rattle.scc_proto.specs.Records.{is_permitted, IsPermitted}
 use Rattle.scc_proto.specs.Stages.{blank}

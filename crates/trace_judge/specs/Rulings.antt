@@ -5,13 +5,13 @@ use Rattle.scc_base.specs.Setups.{SetupView}
 use Rattle.scc_base.specs.declared.calls.Call.{Call}
 use Rattle.scc_base.specs.declared.events.Event.{Event}
 use Rattle.scc_proto.specs.Records.{is_permitted}
-use Rattle.record_machine.specs.Next.{allowed_for}
+use Rattle.rank_monitor.specs.Next.{allowed_for}
 use Rattle.scc_proto.specs.Stages.{Record}
 use Rattle.scc_proto.specs.Words.{RankEvent}
 use Rattle.chip_memory.specs.Steps.{is_step, stands_at}
 use Rattle.trace_judge.specs.declared.judge.Refusal.{Refusal}
 use Rattle.trace_judge.specs.declared.judge.Refusal.TheVariants.{OtherValue, NotPermitted}
-use Rattle.record_machine.specs.Following.{Adds}
+use Rattle.rank_monitor.specs.Following.{Adds}
 use Rattle.trace_judge.specs.Judged.{Judged, JudgeView, bytes_at, chip_of, judged_after}
 
 -- why an event is refused that is a step: the record of its rank does not permit it, and allows something else

@@ -1,13 +1,13 @@
 //! The judge of events.
 
 ghost use Rattle.std.specs.Prelude.{◌≡◌, ◌<◌, ℕ, IfOk, length, slice_get};
-ghost use Rattle.record_machine.specs.Following.{FollowsRecord};
-ghost use Rattle.record_machine.specs.Next.{allowed_for};
+ghost use Rattle.rank_monitor.specs.Following.{FollowsRecord};
+ghost use Rattle.rank_monitor.specs.Next.{allowed_for};
 ghost use Rattle.scc_proto.specs.Stages.{Record, blank};
 ghost use Rattle.trace_judge.specs.Followed.{FollowsAt};
 
 use chip_memory::ChipWords;
-use record_machine::{Machine, NextEvent};
+use rank_monitor::{NextEvent, RankMonitor};
 use scc_base::{Call, Event, Rank, Setup};
 use std::alloc::{AllocError, Global};
 use std::marker::Model;
@@ -27,16 +27,16 @@ pub enum Refusal {
 pub struct Judge {
     setup: Setup,
     words: ChipWords,
-    machines: Vec<Machine>,
+    monitors: Vec<RankMonitor>,
 }
 
-// Why an event is refused that the machine of its rank does not permit.
-fn not_permitted(machine: &Machine, event: &Event) -> Refusal
-    ensures gives { (rec : Record) → FollowsRecord machine.now rec
-        → result ≡ Refusal.NotPermitted (allowed_for machine.now.setup rec event.now) }
+// Why an event is refused that the monitor of its rank does not permit.
+fn not_permitted(monitor: &RankMonitor, event: &Event) -> Refusal
+    ensures gives { (rec : Record) → FollowsRecord monitor.now rec
+        → result ≡ Refusal.NotPermitted (allowed_for monitor.now.setup rec event.now) }
 {
     Refusal::NotPermitted {
-        next: machine.allowed_for(event),
+        next: monitor.allowed_for(event),
     }
 }
 
@@ -46,22 +46,22 @@ impl Model for Judge {
 
     ghost Value = { JudgeView };
 
-    ghost view = { λ j. record { setup = j.setup; run = j.words; bytes = bytes_shown j.machines.items } };
+    ghost view = { λ j. record { setup = j.setup; run = j.words; bytes = bytes_shown j.monitors.items } };
 
-    ghost invariant = { λ j. IsFollowed j.setup j.machines.items j.words };
+    ghost invariant = { λ j. IsFollowed j.setup j.monitors.items j.words };
 }
 
-// A machine for each rank.
-fn new_machines(alloc: Global, setup: &Setup) -> Result<Vec<Machine>, AllocError>
-    ensures count { IfOk result (λ machines. length machines.items ≡ setup.now.nue) }
-    ensures follows { IfOk result (λ machines. (r : ℕ) → r < setup.now.nue → FollowsAt setup.now r blank (slice_get machines.items r)) }
+// A monitor for each rank.
+fn new_monitors(alloc: Global, setup: &Setup) -> Result<Vec<RankMonitor>, AllocError>
+    ensures count { IfOk result (λ monitors. length monitors.items ≡ setup.now.nue) }
+    ensures follows { IfOk result (λ monitors. (r : ℕ) → r < setup.now.nue → FollowsAt setup.now r blank (slice_get monitors.items r)) }
 {
-    let mut machines = Vec::new(alloc);
+    let mut monitors = Vec::new(alloc);
     for number in 0..setup.nue() {
-        let machine = Machine::new(alloc, setup.copy(), Rank::of(number))?;
-        machines.push(machine)?;
+        let monitor = RankMonitor::new(alloc, setup.copy(), Rank::of(number))?;
+        monitors.push(monitor)?;
     }
-    Ok(machines)
+    Ok(monitors)
 }
 
 impl Judge {
@@ -77,11 +77,11 @@ impl Judge {
     {
         let _nue = setup.nue();
         let words = ChipWords::new(alloc)?;
-        let machines = new_machines(alloc, &setup)?;
+        let monitors = new_monitors(alloc, &setup)?;
         Ok(Judge {
             setup,
             words,
-            machines,
+            monitors,
         })
     }
 
@@ -97,7 +97,7 @@ impl Judge {
         requires below { rank < self.now.setup.nue }
         ensures gives { result.now ≡ bytes_at self.now rank }
     {
-        self.machines[rank.number() as usize].bytes()
+        self.monitors[rank.number() as usize].bytes()
     }
 
     /// Takes the next event if it is a step of the words and its rank's record permits it. Returns the call that is finished by
@@ -114,14 +114,14 @@ impl Judge {
             let found = self.words.stands_at(event.access, event.place);
             return Err(Refusal::OtherValue { found });
         }
-        let machine = &mut self.machines[rank.number() as usize];
-        let taken = machine.take(event);
+        let monitor = &mut self.monitors[rank.number() as usize];
+        let taken = monitor.take(event);
         match taken {
             Ok(call) => {
                 self.words.make(rank, event);
                 Ok(call)
             }
-            Err(_) => Err(not_permitted(machine, event)),
+            Err(_) => Err(not_permitted(monitor, event)),
         }
     }
 }

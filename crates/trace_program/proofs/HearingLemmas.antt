@@ -7,7 +7,7 @@ use Rattle.rcce_audit.specs.Texts.{call_lines, table_lines, text_of}
 use Rattle.rcce_audit.specs.Views.{data_lists}
 use Rattle.rcce_audit.specs.declared.logs.LogCall.{LogCall}
 use Rattle.rcce_audit.proofs.ListLemmas.{get_or-replicate_same, map-set_one}
-use Rattle.record_machine.specs.Following.{Adds, moved_by}
+use Rattle.rank_monitor.specs.Following.{Adds, moved_by}
 use Rattle.scc_base.specs.Calls.{DataCall, call_of}
 use Rattle.scc_base.specs.Setups.{SetupView}
 use Rattle.scc_base.specs.declared.calls.Call.{Call}

@@ -1,10 +1,10 @@
 -- What `rccetrace` says of what a record allows next (this project's profile).
 use Rattle.std.specs.Prelude.{ℕ, List, [], ◌∷◌, ◌++◌, codes, decimal, Option, Some, None}
 use Rattle.rcce_io.specs.Sending.{joined_texts}
-use Rattle.record_machine.specs.declared.next.NextEvent.{NextEvent}
-use Rattle.record_machine.specs.declared.next.NextEvent.TheVariants as next
-use Rattle.record_machine.specs.declared.next.NextStore.{NextStore}
-use Rattle.record_machine.specs.declared.next.NextStore.TheVariants as may
+use Rattle.rank_monitor.specs.declared.next.NextEvent.{NextEvent}
+use Rattle.rank_monitor.specs.declared.next.NextEvent.TheVariants as next
+use Rattle.rank_monitor.specs.declared.next.NextStore.{NextStore}
+use Rattle.rank_monitor.specs.declared.next.NextStore.TheVariants as may
 
 -- a text with a number in it
 abbrev pub text_round : (before : List ℕ) → ℕ → (after : List ℕ) → List ℕ

@@ -4,7 +4,7 @@ ghost use Rattle.std.specs.Prelude.{◌≡◌, IfOk, vec_len};
 ghost use Rattle.std.specs.Option.{ForSome};
 ghost use Rattle.scc_base.specs.Calls.{DataCall, call_of};
 ghost use Rattle.rcce_audit.specs.Views.{data_of};
-ghost use Rattle.record_machine.specs.Following.{moved_by};
+ghost use Rattle.rank_monitor.specs.Following.{moved_by};
 
 use rcce_audit::{LogCall, no_calls, push_call};
 use scc_base::{Call, Rank};
@@ -36,7 +36,7 @@ impl FinishedCalls {
     ghost use Rattle.std.specs.Prelude.{◌≡◌, ◌<◌, ◌+◌, ◌^◌, Bool, List, ℕ, IfOk, slice_index};
     ghost use Rattle.rcce_audit.specs.Grammar.{no_calls, with_call};
     ghost use Rattle.scc_base.specs.Calls.{DataCall, call_of};
-    ghost use Rattle.record_machine.specs.Following.{moved_by};
+    ghost use Rattle.rank_monitor.specs.Following.{moved_by};
     ghost use Rattle.trace_program.specs.Hearings.{HoldsFinished};
 
     /// No rank has finished a call.

@@ -4,8 +4,8 @@ ghost use Rattle.std.specs.Prelude.{codes};
 ghost use Rattle.rcce_io.specs.Sending.{Sends};
 ghost use Rattle.trace_program.specs.NextTexts.{next_text, ready_text, store_text, text_round};
 
+use rank_monitor::{NextEvent, NextStore};
 use rcce_io::{Piece, Sink, WriteFault, write_all, write_texts};
-use record_machine::{NextEvent, NextStore};
 use scc_base::Rank;
 
 /// Writes a text with a number in it.

@@ -10,9 +10,9 @@ use crate::finished::FinishedCalls;
 use crate::judging::RefusedEvent;
 use crate::next_texts::write_next;
 use outcomes::Report;
+use rank_monitor::NextEvent;
 use rcce_audit::{LogCall, write_lists};
 use rcce_io::{Piece, Sink, TextSource, WriteFault, write_all, write_hex, write_texts};
-use record_machine::NextEvent;
 use scc_base::Rank;
 use trace_judge::Refusal;
 

@@ -3,12 +3,12 @@
 ghost use Rattle.std.specs.Prelude.{◌≡◌, ◌<◌, [], ◌∷◌, codes, decimal, map};
 ghost use Rattle.std.specs.List.{range_with_len};
 ghost use Rattle.rcce_io.specs.Sending.{Sends, joined_texts};
-ghost use Rattle.record_machine.specs.Uses.{role_meant};
+ghost use Rattle.rank_monitor.specs.Uses.{role_meant};
 ghost use Rattle.trace_writer.specs.Lines.{access_name, comm_line, comma_before, comm_line_after, comment_words, event_line, first_lines, header_word_name, host_words, layout_name, place_words, role_words, signal_name, split_line};
 
+use rank_monitor::{Use, use_of};
 use rcce_io::Piece::{Number, Text};
 use rcce_io::{Sink, TextSource, WriteFault, write_all, write_hex, write_texts};
-use record_machine::{Use, use_of};
 use scc_base::{Access, CommRule, Event, Layout, Rank, Setup, Signal};
 
 /// The first lines of a trace: its head, and the communicators that are splits.

@@ -1,6 +1,6 @@
 use Rattle.std.proofs.Common.{◌≡◌, map}
 use Rattle.std.specs.List.{range_with_len}
-use Rattle.script_plain.specs.Meaning.{keys_of}
+use Rattle.plain_meaning.specs.Meaning.{keys_of}
 use Rattle.check_program.specs.Waiting.{found_at}
 use Rattle.check_program.proofs.trouble.all_found.Given as goal
 

@@ -1,5 +1,5 @@
 use Rattle.std.proofs.Common.{sym, ◌∙◌, ap}
-use Rattle.script_plain.specs.HeldUp.{is_barrier_of, ended_at_barrier}
+use Rattle.plain_meaning.specs.HeldUp.{is_barrier_of, ended_at_barrier}
 use Rattle.check_program.proofs.waiting.is_at_barrier.Goals as goal
 
 -- Names the goal, so that the prover rejects a wrong body at once, without a search.

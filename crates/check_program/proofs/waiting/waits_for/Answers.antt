@@ -1,5 +1,5 @@
-use Rattle.script_plain.specs.Meaning.{keys_of, plain_ends}
-use Rattle.script_plain.proofs.Messages.HeldUpLaws.{explained}
+use Rattle.plain_meaning.specs.Meaning.{keys_of, plain_ends}
+use Rattle.plain_meaning.proofs.Messages.HeldUpLaws.{explained}
 use Rattle.check_program.proofs.WaitingLaws.{answer_peer, many}
 use Rattle.check_program.proofs.waiting.waits_for.Goals as goal
 

@@ -1,6 +1,6 @@
 use Rattle.std.proofs.Common.{◌≡◌, ◌∙◌, ℕ, Option, Some, ap, length, sym, arith}
-use Rattle.script_plain.specs.Meaning.{keys_of, plain_ends}
-use Rattle.script_plain.proofs.Messages.HeldUpLaws.{explained}
+use Rattle.plain_meaning.specs.Meaning.{keys_of, plain_ends}
+use Rattle.plain_meaning.proofs.Messages.HeldUpLaws.{explained}
 use Rattle.check_program.specs.Waiting.{cause_at, least_walked, waits_for}
 use Rattle.check_program.specs.declared.causes.Cause.TheVariants as cause
 use Rattle.check_program.proofs.CauseLaws.{answer_means}

@@ -1,5 +1,5 @@
 use Rattle.std.proofs.Common.{◌≡◌, ◌∙◌, ◌-◌, ◌+◌, min, sym, arith}
-use Rattle.script_plain.specs.Meaning.{keys_of}
+use Rattle.plain_meaning.specs.Meaning.{keys_of}
 use Rattle.check_program.specs.Waiting.{waits_for}
 use Rattle.check_program.proofs.WaitingLaws.{least_on}
 use Rattle.check_program.proofs.walking.least.Goals as goal

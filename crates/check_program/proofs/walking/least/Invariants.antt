@@ -1,5 +1,5 @@
 use Rattle.std.proofs.Common.{◌≡◌, ◌-◌, ◌<◌, ◌≤◌, min}
-use Rattle.script_plain.specs.Meaning.{keys_of}
+use Rattle.plain_meaning.specs.Meaning.{keys_of}
 use Rattle.check_program.specs.Waiting.{least_walked, waits_for}
 use Rattle.check_program.proofs.walking.least.Given as goal
 

@@ -1,5 +1,5 @@
 use Rattle.std.proofs.Common.{◌≡◌, ◌-◌, ◌<◌}
-use Rattle.script_plain.specs.Meaning.{keys_of}
+use Rattle.plain_meaning.specs.Meaning.{keys_of}
 use Rattle.check_program.specs.Waiting.{waits_for, after_steps}
 use Rattle.check_program.proofs.walking.walk.Given as goal
 

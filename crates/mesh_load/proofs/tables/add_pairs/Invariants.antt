@@ -1,7 +1,7 @@
 use Rattle.std.proofs.Common.{◌≡◌, ◌<◌, ◌≤◌, ◌*◌, ℕ, Bool, cond, get_or, length, take, sum_by}
 use Rattle.mesh_load.specs.Mesh.{lines_moved}
 use Rattle.mesh_load.specs.Tables.{IsPlaced, sum_where, pair_place, total}
-use Rattle.plain_run.specs.declared.matches.Match.{Match}
+use Rattle.script_plain.specs.declared.matches.Match.{Match}
 use Rattle.mesh_load.proofs.tables.add_pairs.Given as goal
 
 abbrev pub invariant-loop-i : goal.invariant-loop-i

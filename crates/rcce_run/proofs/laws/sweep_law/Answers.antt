@@ -1,5 +1,5 @@
-use Rattle.script_plain.specs.Meaning.{next_of}
-use Rattle.script_plain.specs.Collectives.{start_of_rank}
+use Rattle.plain_meaning.specs.Meaning.{next_of}
+use Rattle.plain_meaning.specs.Collectives.{start_of_rank}
 use Rattle.rcce_run.proofs.OpenCalls.{none_drafts, open_is_next}
 use Rattle.rcce_run.proofs.ScriptSweep.{script_calls, script_empty, script_ends, script_slots, script_still, script_waits}
 use Rattle.rcce_run.proofs.laws.sweep_law.Goals as goal

@@ -2,7 +2,7 @@ use Rattle.std.proofs.Common.{◌≡◌, ◌<◌, ◌+◌, ◌-◌, ◌^◌, ℕ
 use Rattle.chip_run.specs.declared.members.Member.{Member}
 use Rattle.rcce_ue.specs.Ues.{UeView, capped_count}
 use Rattle.script_gen.specs.Outcome.{sends_of_call}
-use Rattle.script_plain.specs.Meaning.{State}
+use Rattle.plain_meaning.specs.Meaning.{State}
 use Rattle.run_program.proofs.SentLemmas.{all_cells, sends_more}
 use Rattle.run_program.proofs.counts.sends_in.Goals as goal
 

@@ -1,7 +1,7 @@
 use Rattle.std.proofs.Common.{◌≡◌, sum_by, take}
 use Rattle.rcce_ue.specs.Ues.{capped_count}
 use Rattle.script_gen.specs.Outcome.{sends_of_call}
-use Rattle.script_plain.specs.Meaning.{State, plain_end}
+use Rattle.plain_meaning.specs.Meaning.{State, plain_end}
 use Rattle.run_program.proofs.counts.sends_in.Given as goal
 
 abbrev pub invariant-loop-number : goal.invariant-loop-number

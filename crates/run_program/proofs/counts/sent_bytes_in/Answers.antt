@@ -2,7 +2,7 @@ use Rattle.std.proofs.Common.{◌≡◌, ◌<◌, ◌+◌, ◌-◌, ◌^◌, ℕ
 use Rattle.chip_run.specs.declared.members.Member.{Member}
 use Rattle.rcce_ue.specs.Ues.{UeView, capped_count}
 use Rattle.script_gen.specs.Outcome.{sent_bytes_of}
-use Rattle.script_plain.specs.Meaning.{State}
+use Rattle.plain_meaning.specs.Meaning.{State}
 use Rattle.run_program.proofs.SentLemmas.{all_cells, bytes_more}
 use Rattle.run_program.proofs.counts.sent_bytes_in.Goals as goal
 

@@ -1,7 +1,7 @@
 use Rattle.std.proofs.Common.{◌≡◌, sum_by, take}
 use Rattle.rcce_ue.specs.Ues.{capped_count}
 use Rattle.script_gen.specs.Outcome.{sent_bytes_of}
-use Rattle.script_plain.specs.Meaning.{State, plain_end}
+use Rattle.plain_meaning.specs.Meaning.{State, plain_end}
 use Rattle.run_program.proofs.counts.sent_bytes_in.Given as goal
 
 abbrev pub invariant-loop-number : goal.invariant-loop-number

@@ -1,4 +1,4 @@
-use Rattle.script_plain.specs.Ends.{ended_at}
+use Rattle.plain_meaning.specs.Ends.{ended_at}
 use Rattle.run_program.proofs.SentLemmas.{items_more}
 use Rattle.run_program.proofs.counts.with_items.Goals as goal
 

@@ -1,6 +1,6 @@
 use Rattle.std.proofs.Common.{◌≡◌, ◌+◌, ◌%◌, ◌^◌, sum_by, take}
 use Rattle.std.specs.List.{sum}
-use Rattle.script_plain.specs.Ends.{ended_at}
+use Rattle.plain_meaning.specs.Ends.{ended_at}
 use Rattle.script_machine.specs.Printed.{Printed}
 use Rattle.run_program.proofs.counts.with_items.Given as goal
 

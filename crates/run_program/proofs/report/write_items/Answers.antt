@@ -2,7 +2,7 @@ use Rattle.std.proofs.Common.{◌≡◌, ◌<◌, ◌≤◌, List, ℕ, length, 
 use Rattle.std.proofs.lemmas.Option.{get_or_from_slice_get}
 use Rattle.rcce_io.specs.Sending.{RestWaits}
 use Rattle.rcce_io.proofs.SendingLemmas.{cut_gathered, joined-all, joined-more, joined-parts, sends_err, sends_waiting, waits_none, waits_within}
-use Rattle.script_plain.specs.Ends.{ended_at}
+use Rattle.plain_meaning.specs.Ends.{ended_at}
 use Rattle.run_program.specs.Reports.{printed_line}
 use Rattle.run_program.proofs.report.write_items.Goals as goal
 

@@ -1,6 +1,6 @@
 use Rattle.std.proofs.Common.{map, take}
 use Rattle.rcce_io.specs.Sending.{RestWaits, joined_texts}
-use Rattle.script_plain.specs.Ends.{ended_at}
+use Rattle.plain_meaning.specs.Ends.{ended_at}
 use Rattle.run_program.specs.Reports.{printed_line}
 use Rattle.run_program.proofs.report.write_items.Given as goal
 

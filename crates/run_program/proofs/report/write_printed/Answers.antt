@@ -1,6 +1,6 @@
 use Rattle.std.proofs.Common.{◌<◌, length, arith}
 use Rattle.rcce_io.proofs.SendingLemmas.{cut_within, sends_err, whole_within}
-use Rattle.script_plain.specs.Ends.{nothing_ended}
+use Rattle.plain_meaning.specs.Ends.{nothing_ended}
 use Rattle.run_program.specs.Reports.{printed_text}
 use Rattle.run_program.proofs.ReportLemmas.{lines_by_rank-more, lines_by_rank-parts}
 use Rattle.run_program.proofs.report.write_printed.Goals as goal

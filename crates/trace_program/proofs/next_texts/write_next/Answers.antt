@@ -1,7 +1,7 @@
 use Rattle.std.proofs.Common.{sym, subst}
 use Rattle.rcce_io.specs.Sending.{CutShort, Sends}
 use Rattle.rcce_io.proofs.SendingLemmas.{cut_then, sends_after, sends_err}
-use Rattle.record_machine.specs.declared.next.NextEvent.{NextEvent}
+use Rattle.rank_monitor.specs.declared.next.NextEvent.{NextEvent}
 use Rattle.trace_program.specs.NextTexts.{next_text, ready_text, store_text}
 use Rattle.trace_program.proofs.next_texts.write_next.Goals as goal
 

@@ -1,7 +1,7 @@
 use Rattle.std.proofs.Common.{subst, sym, ◌∙◌}
 use Rattle.rcce_io.specs.Sending.{Sends, joined_texts}
-use Rattle.record_machine.specs.Uses.{role_meant}
-use Rattle.record_machine.specs.declared.uses.Use.{Use}
+use Rattle.rank_monitor.specs.Uses.{role_meant}
+use Rattle.rank_monitor.specs.declared.uses.Use.{Use}
 use Rattle.trace_writer.specs.Lines.{role_words}
 use Rattle.trace_writer.proofs.lines.write_use.Goals as goal
 

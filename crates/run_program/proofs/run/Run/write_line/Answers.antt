@@ -1,7 +1,7 @@
 use Rattle.std.proofs.Common.{◌≡◌, ◌∙◌, ◌<◌, List, Option, Some, ap, arith, length, subst, sym, ℕ}
 use Rattle.rcce_io.specs.Sending.{Sends}
 use Rattle.script_rules.specs.Script.{Script}
-use Rattle.script_plain.specs.Meaning.{plain_ends}
+use Rattle.plain_meaning.specs.Meaning.{plain_ends}
 use Rattle.script_gen.specs.Outcome.{printed_sum, script_line}
 use Rattle.chip_run.proofs.ServedLaws.{some_worker}
 use Rattle.run_program.specs.Reports.{Shown}

@@ -1,8 +1,8 @@
 use Rattle.std.proofs.Common.{subst, sym, ◌∙◌, ap}
-use Rattle.script_plain.specs.Meaning.{plain_ends}
+use Rattle.plain_meaning.specs.Meaning.{plain_ends}
 use Rattle.rcce_run.specs.Crews.{EndsAs}
 use Rattle.chip_run.specs.declared.ends.RunEnd.{RunEnd}
-use Rattle.script_plain.specs.Ends.{all_finished}
+use Rattle.plain_meaning.specs.Ends.{all_finished}
 use Rattle.rcce_run.proofs.FinishedLaws.{finished_all, stuck_one}
 use Rattle.run_program.specs.Reports.{Shown}
 use Rattle.run_program.proofs.RunLemmas.{ran_finished}

@@ -1,6 +1,6 @@
 use Rattle.std.proofs.Common.{ap, sym, subst, Option, List, ℕ, ◌∙◌}
 use Rattle.rcce_io.specs.Sending.{Sends}
-use Rattle.script_plain.specs.Meaning.{plain_ends}
+use Rattle.plain_meaning.specs.Meaning.{plain_ends}
 use Rattle.run_program.specs.Reports.{Shown, lines_by_rank, printed_text, ran_by}
 use Rattle.rcce_run.proofs.FinishedLaws.{plain_count}
 use Rattle.run_program.proofs.run.RunReport.write_out.Goals as goal

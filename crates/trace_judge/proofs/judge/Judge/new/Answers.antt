@@ -6,6 +6,6 @@ use Rattle.trace_judge.proofs.judge.Judge.new.Goals as goal
 
 pub invariant_of-result : goal.invariant_of-result
 invariant_of-result c =
-    let machines = c.in_ok-machines.machines.items in
-    subst (λ (run : List RankEvent). IsFollowed c.args.setup machines run) (sym c.in_ok-words.ensures.gives)
-    (nothing_made c.args.setup machines c.nue-nue.ensures.valid c.in_ok-machines.ensures.count c.in_ok-machines.ensures.follows)
+    let monitors = c.in_ok-monitors.monitors.items in
+    subst (λ (run : List RankEvent). IsFollowed c.args.setup monitors run) (sym c.in_ok-words.ensures.gives)
+    (nothing_made c.args.setup monitors c.nue-nue.ensures.valid c.in_ok-monitors.ensures.count c.in_ok-monitors.ensures.follows)

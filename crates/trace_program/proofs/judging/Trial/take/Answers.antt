@@ -1,5 +1,5 @@
 use Rattle.std.proofs.Common.{◌<◌, Option, refl, subst, sym, ◌∙◌, arith}
-use Rattle.record_machine.specs.Following.{Adds}
+use Rattle.rank_monitor.specs.Following.{Adds}
 use Rattle.scc_base.specs.Setups.{SetupView}
 use Rattle.scc_base.specs.declared.calls.Call.{Call}
 use Rattle.scc_proto.specs.Words.{RankEvent}

@@ -1,5 +1,0 @@
-pub mod CodeSteps
-pub mod WayLaws
-pub mod StartLaws
-pub mod FacingLaws
-pub mod MatchLaws

@@ -1,3 +1,0 @@
-pub mod Facing
-pub mod Matches
-pub mod Code

@@ -1,0 +1,11 @@
+pub mod ChunkLaws
+pub mod MonitorLaws
+pub mod NextKept
+pub mod NextLaws
+pub mod NotedLaws
+pub mod PartLaws
+pub mod ReceiveLaws
+pub mod SendLaws
+pub mod StageLaws
+pub mod StepLaws
+pub mod WorkLaws

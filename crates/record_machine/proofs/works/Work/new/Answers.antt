@@ -1,6 +1,0 @@
-use Rattle.record_machine.specs.Standing.KeepsStage.{AtIdle}
-use Rattle.record_machine.proofs.PartLaws.{flags_unset, said_none}
-use Rattle.record_machine.proofs.works.Work.new.Goals as goal
-
-pub returns-clause-stands : goal.returns-clause-stands
-returns-clause-stands c = record { keeps = AtIdle; post = tt; said = said_none; flags = flags_unset }

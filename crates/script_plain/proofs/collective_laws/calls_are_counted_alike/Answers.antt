@@ -1,5 +1,0 @@
-use Rattle.script_plain.proofs.Arrivals.CountLaws.{counted}
-use Rattle.script_plain.proofs.collective_laws.calls_are_counted_alike.Goals as goal
-
-pub returns : goal.returns
-returns c = record { law = counted }

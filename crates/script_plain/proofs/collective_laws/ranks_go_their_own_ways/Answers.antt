@@ -1,5 +1,0 @@
-use Rattle.script_plain.proofs.OwnWays.OwnWayLaws.{own_ways}
-use Rattle.script_plain.proofs.collective_laws.ranks_go_their_own_ways.Goals as goal
-
-pub returns : goal.returns
-returns c = record { law = λ script end reached. own_ways script reached.0 end reached.1 }

@@ -1,5 +1,0 @@
-use Rattle.script_plain.proofs.Orders.BarrierLaws.{met}
-use Rattle.script_plain.proofs.laws.barriers_meet.Goals as goal
-
-pub returns : goal.returns
-returns c = record { law = λ script end reached. met script reached.0 end reached.1 }

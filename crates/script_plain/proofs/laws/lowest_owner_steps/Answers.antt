@@ -1,9 +1,0 @@
-use Rattle.script_plain.specs.Meaning.{next_of}
-use Rattle.script_plain.proofs.Orders.EndLaws.{is_still, taken}
-use Rattle.script_plain.proofs.laws.lowest_owner_steps.Goals as goal
-
-pub returns-clause-taken : goal.returns-clause-taken
-returns-clause-taken c = λ keys. taken keys next_of
-
-pub returns-clause-still : goal.returns-clause-still
-returns-clause-still c = λ keys. is_still keys next_of

@@ -1,5 +1,0 @@
-use Rattle.script_plain.proofs.OwnWays.CameDid.{came_matched}
-use Rattle.script_plain.proofs.laws.ways_tell_calls.Goals as goal
-
-pub returns : goal.returns
-returns c = record { law = λ start u last none came. came_matched start u last none came }
