@@ -138,7 +138,8 @@ RestsAt false s now me w = HasStopped (now me) w ⊎ WaitsThen s now me w.want
 
 -- a turn of a rank at home that did not move. Seven parameters: the workers' conduct, whether it is finished, the rank, and
 -- the chip and the worker before and after.
-pub record HasStayed {A : Type 0} (c : Behaviour A) (finished : Bool) (chip : ChipView) (r : ℕ) (now : ChipView) (old new : A) : Type 0 where
+pub record HasStayed {A : Type 0} (c : Behaviour A) (finished : Bool) (chip : ChipView) (r : ℕ) (now : ChipView) (old new : A)
+    : Type 0 where
   pub stays : c.stays old new
   pub seen : c.seen (about_in chip) r new ≡ c.seen (about_in chip) r old
   pub alike : Like (records_in chip r) (records_in now r)

@@ -115,7 +115,8 @@ fn in_threads<W: Worker + Send, G: Gate + Sync, R: Threads + Sync, M: Marks + Sy
         threads,
         &|at: usize, member: &mut Member<W>|
             requires { IsAway (W.behaviour.tied member.old.worker) words.space.now.about words.space.now.table at member.old.token }
-            ensures { IsAway (W.behaviour.tied member.new.worker) words.entry.space.now.about words.entry.space.now.table at member.new.token
+            ensures { IsAway (W.behaviour.tied member.new.worker) words.entry.space.now.about words.entry.space.now.table at
+                member.new.token
                 × TookSlice W.behaviour words.entry.space.now.about at member.old.worker member.new.worker
                 × M.shown.began at × G.passed gate.entry.now at }
         { go(words, gate, roll, at, member) },

@@ -17,5 +17,3 @@ pub use laws::{
     barriers_meet, every_order_has_one_end, every_order_is_finite, lowest_owner_steps,
     steps_commute, ways_tell_calls,
 };
-pub use script_machine::{PrintedItem as Printed, UeEnd};
-pub use script_rules::Form;

@@ -13,4 +13,6 @@ mod ues;
 pub use barriers::{is_with, setup_of};
 pub use ends::{End, have_finished};
 pub use matches::{History, Match, Matches, plain_history, plain_matches};
+pub use script_machine::{PrintedItem as Printed, UeEnd};
+pub use script_rules::Form;
 pub use steps::plain_run;

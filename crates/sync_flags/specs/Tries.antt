@@ -99,7 +99,8 @@ changing_after before (e ∷ es) = changing_after (is_changing before e.access e
 -- each try among the events was vain
 abbrev pub all_failed : Aim → Bool → List Event → Bool
 all_failed aim changing [] = true
-all_failed aim changing (e ∷ es) = (not (is_try changing aim e) || has_failed aim e) && all_failed aim (is_changing changing e.access e.value) es
+all_failed aim changing (e ∷ es) =
+    (not (is_try changing aim e) || has_failed aim e) && all_failed aim (is_changing changing e.access e.value) es
 
 -- one of the events is a store or a free
 abbrev pub has_write : List Event → Bool
@@ -124,4 +125,5 @@ pub data Tried (aim : Option Aim) (events : List Event) (waits : Option Spot) : 
   NoTry : aim ≡ None → waits ≡ None → Tried aim events waits
   Failed : (at : Aim) → aim ≡ Some at → tries_at at events ≡ 1 → all_failed at false events ≡ true → waits ≡ Some (spot_of at)
       → Tried aim events waits
-  Fruitful : (at : Aim) → aim ≡ Some at → tries_at at events ≡ 1 → all_failed at false events ≡ false → waits ≡ None → Tried aim events waits
+  Fruitful : (at : Aim) → aim ≡ Some at → tries_at at events ≡ 1 → all_failed at false events ≡ false → waits ≡ None
+      → Tried aim events waits
