@@ -15,14 +15,14 @@ use Rattle.scc_proto.specs.Groups.{is_open}
 use Rattle.scc_proto.specs.Singles.{IsConsistent}
 use Rattle.scc_proto.specs.Passed.{gathered_barriers, passed_open, passed_calls, slot_of}
 use Rattle.scc_proto.specs.Agreement.{RecordsAgree, GroupsAgree}
-use Rattle.scc_proto.specs.Legality.{in_group, Grows, ByNothing}
+use Rattle.scc_proto.specs.Legality.{in_group, Grows}
 use Rattle.scc_proto.proofs.Messages.Growth.{grows_by_barrier}
 use Rattle.scc_proto.proofs.Layouts.MoveFacts.{IsMember, IsViewStep}
 use Rattle.scc_proto.proofs.Barriers.BarrierFacts.{Counts, bar_at, seen_in, gathered_in, releases_in, is_open-bar, gathered-bar, Level}
 use Rattle.scc_proto.proofs.Barriers.BarrierMoves.{is_barrier_move, saw_bar, look_gather-bar, look_gather-other}
 use Rattle.scc_proto.proofs.Barriers.GroupRanks.{put_here, put_there, at_rank, place_within, barrier_told, has_flipped}
 use Rattle.scc_proto.proofs.Barriers.GroupLaw.{groups_kept}
-use Rattle.scc_proto.proofs.Barriers.GatherFacts.{open_bar, gathered_full, gathered_more, le_test, positive, held_test, up_one, never, same_nat, passed_else, passed_here, gathered_here, slots_stay, unmoved, barrier_is, look_gather_none, open_low, mine_last, own_root, at_member, group_told, group_test}
+use Rattle.scc_proto.proofs.Barriers.GatherFacts.{open_bar, gathered_full, gathered_more, le_test, positive, held_test, up_one, never, same_nat, passed_else, passed_here, gathered_here, slots_stay, unmoved, barrier_is, look_gather_none, open_low, mine_last, own_root, at_member, group_told, group_test, gathers_by, quiet_barrier}
 use Rattle.scc_proto.proofs.Barriers.ReleaseCalls.{write_release_grows, look_release_grows}
 use Rattle.scc_proto.proofs.Barriers.EntryCalls.{flip_grows}
 
@@ -116,28 +116,12 @@ module _ (s : SetupView) (me : ℕ) (view : View) (records : ℕ → Record) (lo
 
           -- not all members are seen yet
           waits : suc x.seen ≢ last_of s c me → GrowsBy (LookGather c from place value)
-          waits more = ByNothing calls slots
+          waits more =
+              quiet_barrier s me records (new_of (LookGather c from place value)) (λ i. refl) (λ i. refl) refl (me_new ∙ ap (λ (n : ℕ). (records me).calls ++ (if nat_le ((records me).flips c) n then Bar c ∷ [] else [])) new_gathered ∙ sym me_old)
+              (gathers_by s me records (new_of (LookGather c from place value)) c (new_gathered ∙ sym old_gathered) other_gathered)
             where
               new_gathered : gathered_barriers c (last_of s c me) (new_of (LookGather c from place value)) ≡ (records me).flips c - 1
               new_gathered = new_by ∙ gathered_more (last_of s c me) ((records me).flips c) (record { seen = suc x.seen; released = x.released }) (omega (arith, within, more))
-
-              gathers : (k comm : ℕ) → root_of s comm k ≡ me → gathered_barriers comm (last_of s comm k) (new_of (LookGather c from place value)) ≡ gathered_barriers comm (last_of s comm k) (records me)
-              gathers k comm led =
-                  ⊎_elim
-                  (λ (same : comm ≡ c).
-                  let same_last : last_of s c k ≡ last_of s c me = mine_last s me c k (subst (λ (y : ℕ). root_of s y k ≡ me) same led) in
-                  subst (λ (y : ℕ). gathered_barriers y (last_of s y k) (new_of (LookGather c from place value)) ≡ gathered_barriers y (last_of s y k) (records me)) (sym same)
-                  (subst (λ (n : ℕ). gathered_barriers c n (new_of (LookGather c from place value)) ≡ gathered_barriers c n (records me)) (sym same_last) (new_gathered ∙ sym old_gathered)))
-                  (λ (apart : comm ≢ c). other_gathered (last_of s comm k) comm apart)
-                  (equal_or_not comm c)
-
-              calls : (k : ℕ) → passed_calls s (next_of (LookGather c from place value)) k ≡ passed_calls s records k
-              calls k =
-                  ⊎_elim
-                  (λ (same : k ≡ me). subst (λ (y : ℕ). passed_calls s (next_of (LookGather c from place value)) y ≡ passed_calls s records y) (sym same)
-                  (me_new ∙ ap (λ (n : ℕ). (records me).calls ++ (if nat_le ((records me).flips c) n then Bar c ∷ [] else [])) new_gathered ∙ sym me_old))
-                  (λ (other : k ≢ me). passed_else s me records (new_of (LookGather c from place value)) (λ i. refl) (λ i. refl) k other (λ comm led open_at. gathers k comm led))
-                  (equal_or_not k me)
 
           -- all members are seen: each of them is in this barrier
           all_through : suc x.seen ≡ last_of s c me → GrowsBy (LookGather c from place value)

@@ -14,13 +14,13 @@ use Rattle.scc_proto.specs.Records.{chunk_of, last_of}
 use Rattle.scc_proto.specs.Views.{View}
 use Rattle.scc_proto.specs.Passed.{gathered_barriers, is_gathered, passed_open, passed_calls, slot_of}
 use Rattle.scc_proto.specs.Agreement.{RecordsAgree, GroupsAgree}
-use Rattle.scc_proto.specs.Legality.{in_group, Grows, ByNothing}
+use Rattle.scc_proto.specs.Legality.{in_group, Grows}
 use Rattle.scc_proto.proofs.Messages.Growth.{grows_by_barrier}
 use Rattle.scc_proto.proofs.Layouts.MoveFacts.{IsViewStep}
 use Rattle.scc_proto.proofs.Barriers.BarrierFacts.{Counts, bar_at, gathered_in, gathered-bar}
 use Rattle.scc_proto.proofs.Barriers.BarrierMoves.{idle_told, flip_gather-bar, flip_gather-other}
 use Rattle.scc_proto.proofs.Barriers.GroupRanks.{put_here, put_there, place_within, last_same}
-use Rattle.scc_proto.proofs.Barriers.GatherFacts.{gathered_more, gathered_entered, passed_else, passed_here, gathered_here, slots_stay, no_message_received, no_message_sent, open_low, mine_last, own_root, at_member, group_told, group_test}
+use Rattle.scc_proto.proofs.Barriers.GatherFacts.{gathered_more, gathered_entered, passed_else, passed_here, gathered_here, slots_stay, no_message_received, no_message_sent, open_low, own_root, at_member, group_told, group_test, gathers_by, quiet_barrier}
 
 module _ (s : SetupView) (me : ℕ) (view : View) (records : ℕ → Record) (low : me < s.nue) (consistent : RecordsAgree s records) (groups : GroupsAgree s view records) where
   -- the passed calls and the slots after a move of this rank
@@ -113,7 +113,9 @@ module _ (s : SetupView) (me : ℕ) (view : View) (records : ℕ → Record) (lo
               other is = absurd (true≢false (sym (subst (λ (x : ℕ). in_group s.nue (setup_key s) c me x ≡ true) (sym is) (group_test s c me me low refl)) ∙ without))
 
       enters : (last == 0) ≡ false → GrowsBy (FlipGather c value last)
-      enters some = ByNothing calls slots
+      enters some =
+          quiet_barrier s me records (new_of (FlipGather c value last)) messages.0 messages.1 refl (new_passed ∙ sym old_passed)
+          (gathers_by s me records (new_of (FlipGather c value last)) c (new_gathered (last_of s c me) (λ zero. more (last_is ∙ zero)) ∙ sym (old_gathered (last_of s c me) c)) other_gathered)
         where
           more : last ≢ 0
           more = grind (arith, nat_tests)
@@ -158,23 +160,6 @@ module _ (s : SetupView) (me : ℕ) (view : View) (records : ℕ → Record) (lo
               ∙ ap₂ (λ (l : List DataCall) (st : Stage). l ++ passed_open s me st (next_of (FlipGather c value last))) (ap (λ (b : Bool). finished_if b (Bar c) (records me).calls) some) new_stage
               ∙ ap (λ (b : Bool). (records me).calls ++ (if b then Bar c ∷ [] else [])) not_through
               ∙ append-nil (records me).calls
-
-          gathers : (k comm : ℕ) → root_of s comm k ≡ me → gathered_barriers comm (last_of s comm k) (new_of (FlipGather c value last)) ≡ gathered_barriers comm (last_of s comm k) (records me)
-          gathers k comm mine =
-              ⊎_elim
-              (λ (same : comm ≡ c).
-              let same_last : last_of s c k ≡ last_of s c me = mine_last s me c k (subst (λ (x : ℕ). root_of s x k ≡ me) same mine) in
-              subst (λ (x : ℕ). gathered_barriers x (last_of s x k) (new_of (FlipGather c value last)) ≡ gathered_barriers x (last_of s x k) (records me)) (sym same)
-              (new_gathered (last_of s c k) (λ zero. more (last_is ∙ sym same_last ∙ zero)) ∙ sym (old_gathered (last_of s c k) c)))
-              (λ (apart : comm ≢ c). other_gathered (last_of s comm k) comm apart)
-              (equal_or_not comm c)
-
-          calls : (k : ℕ) → passed_calls s (next_of (FlipGather c value last)) k ≡ passed_calls s records k
-          calls k =
-              ⊎_elim
-              (λ (same : k ≡ me). subst (λ (x : ℕ). passed_calls s (next_of (FlipGather c value last)) x ≡ passed_calls s records x) (sym same) (new_passed ∙ sym old_passed))
-              (λ (other : k ≢ me). passed_else s me records (new_of (FlipGather c value last)) messages.0 messages.1 k other (λ comm mine open_at. gathers k comm mine))
-              (equal_or_not k me)
 
       by_last : (b : Bool) → (last == 0) ≡ b → GrowsBy (FlipGather c value last)
       by_last true none = one_through none

@@ -201,6 +201,30 @@ module _ (s : SetupView) (me : ℕ) (records : ℕ → Record) (new : Record) wh
           (λ (other : k ≢ me). ap (λ (rec : Record). rec.post) (put_there records me k new other))
           (equal_or_not k me)
 
+  -- a move changes what this rank has gathered in at most one communicator: then it suffices to compare that one and the others
+  pub gathers_by : (c : ℕ) → gathered_barriers c (last_of s c me) new ≡ gathered_barriers c (last_of s c me) (records me) → ((n comm : ℕ) → comm ≢ c → gathered_barriers comm n new ≡ gathered_barriers comm n (records me))
+      → (k comm : ℕ) → root_of s comm k ≡ me → gathered_barriers comm (last_of s comm k) new ≡ gathered_barriers comm (last_of s comm k) (records me)
+  gathers_by c here others k comm mine =
+      ⊎_elim
+      (λ (is : comm ≡ c).
+      subst (λ (n : ℕ). gathered_barriers comm n new ≡ gathered_barriers comm n (records me)) (sym (mine_last s me comm k mine))
+      (subst (λ (x : ℕ). gathered_barriers x (last_of s x me) new ≡ gathered_barriers x (last_of s x me) (records me)) (sym is) here))
+      (λ (apart : comm ≢ c). others (last_of s comm k) comm apart)
+      (equal_or_not comm c)
+
+  -- a move in a barrier passes nothing if it keeps the messages, the post, this rank's passed calls, and what this rank has gathered
+  pub quiet_barrier : ((i : ℕ) → received_messages i new.calls ≡ received_messages i (records me).calls) → ((i : ℕ) → sent_messages i new.calls ≡ sent_messages i (records me).calls) → new.post ≡ (records me).post
+      → passed_calls s (table_with records me new) me ≡ passed_calls s records me → ((k comm : ℕ) → root_of s comm k ≡ me → gathered_barriers comm (last_of s comm k) new ≡ gathered_barriers comm (last_of s comm k) (records me))
+      → Grows s.nue (setup_key s) (passed_calls s records) (slot_of s records) (passed_calls s (table_with records me new)) (slot_of s (table_with records me new))
+  quiet_barrier received sent post own gathers = ByNothing calls (slots_stay received sent post)
+    where
+      calls : (k : ℕ) → passed_calls s (table_with records me new) k ≡ passed_calls s records k
+      calls k =
+          ⊎_elim
+          (λ (is : k ≡ me). subst (λ (x : ℕ). passed_calls s (table_with records me new) x ≡ passed_calls s records x) (sym is) own)
+          (λ (other : k ≢ me). passed_else received sent k other (λ comm mine open_at. gathers k comm mine))
+          (equal_or_not k me)
+
   -- a record that stays as it is
   pub unmoved : new ≡ records me → Grows s.nue (setup_key s) (passed_calls s records) (slot_of s records) (passed_calls s (table_with records me new)) (slot_of s (table_with records me new))
   unmoved same =

@@ -16,12 +16,12 @@ use Rattle.scc_proto.specs.Groups.{is_open}
 use Rattle.scc_proto.specs.Singles.{IsBarrier}
 use Rattle.scc_proto.specs.Passed.{gathered_barriers, is_gathered, passed_open, passed_calls, slot_of}
 use Rattle.scc_proto.specs.Agreement.{RecordsAgree, GroupsAgree}
-use Rattle.scc_proto.specs.Legality.{Grows, ByNothing}
+use Rattle.scc_proto.specs.Legality.{Grows}
 use Rattle.scc_proto.proofs.Layouts.MoveFacts.{IsViewStep}
 use Rattle.scc_proto.proofs.Barriers.BarrierFacts.{Counts, bar_at, gathered_in, releases_in, released_bar, is_open-bar, gathered-bar}
 use Rattle.scc_proto.proofs.Barriers.BarrierMoves.{look_release-other, Releases, may_release_told}
 use Rattle.scc_proto.proofs.Barriers.GroupRanks.{put_here, last_same, barrier_told, root_zeroth}
-use Rattle.scc_proto.proofs.Barriers.GatherFacts.{open_bar, gathered_full, gathered_released, same_nat, released_gathered, passed_else, passed_here, gathered_here, slots_stay, unmoved, barrier_is, look_release_none, released_no_message, let_go_no_message, mine_last, own_root, at_member}
+use Rattle.scc_proto.proofs.Barriers.GatherFacts.{open_bar, gathered_full, gathered_released, same_nat, released_gathered, passed_here, gathered_here, unmoved, barrier_is, look_release_none, released_no_message, let_go_no_message, own_root, at_member, gathers_by, quiet_barrier}
 
 module _ (s : SetupView) (me : ℕ) (view : View) (records : ℕ → Record) (low : me < s.nue) (consistent : RecordsAgree s records) (groups : GroupsAgree s view records) where
   -- the passed calls and the slots after a move of this rank
@@ -30,7 +30,9 @@ module _ (s : SetupView) (me : ℕ) (view : View) (records : ℕ → Record) (lo
 
   -- the root releases a member: its barrier was gathered before and is so after
   pub write_release_grows : (c to place value last : ℕ) → IsViewStep s me view (records me) (WriteRelease c to place value last) → GrowsBy (WriteRelease c to place value last)
-  write_release_grows c to place value last step = ByNothing calls (slots_stay s me records (after (chunk_of s) (WriteRelease c to place value last) (records me)) messages.0 messages.1 refl)
+  write_release_grows c to place value last step =
+      quiet_barrier s me records (after (chunk_of s) (WriteRelease c to place value last) (records me)) messages.0 messages.1 refl (new_passed ∙ sym old_passed)
+      (gathers_by s me records (after (chunk_of s) (WriteRelease c to place value last) (records me)) c (new_gathered ∙ sym old_gathered) other_gathered)
     where
       messages : ((i : ℕ) → received_messages i (calls_released last (records me).stage (records me).calls) ≡ received_messages i (records me).calls) × ((i : ℕ) → sent_messages i (calls_released last (records me).stage (records me).calls) ≡ sent_messages i (records me).calls)
       messages = released_no_message last (records me).stage (records me).calls
@@ -54,18 +56,8 @@ module _ (s : SetupView) (me : ℕ) (view : View) (records : ℕ → Record) (lo
           ∙ ap (λ (n : ℕ). gathered_in n ((records me).flips c) (released_bar last told.counts)) (sym last_is)
           ∙ gathered_released last ((records me).flips c) told.counts told.all
 
-      gathers : (k comm : ℕ) → root_of s comm k ≡ me → gathered_barriers comm (last_of s comm k) (after (chunk_of s) (WriteRelease c to place value last) (records me)) ≡ gathered_barriers comm (last_of s comm k) (records me)
-      gathers k comm mine =
-          ⊎_elim
-          (λ (is : comm ≡ c).
-          let same_last : last_of s c k ≡ last_of s c me = mine_last s me c k (subst (λ (x : ℕ). root_of s x k ≡ me) is mine) in
-          subst (λ (x : ℕ). gathered_barriers x (last_of s x k) (after (chunk_of s) (WriteRelease c to place value last) (records me)) ≡ gathered_barriers x (last_of s x k) (records me)) (sym is)
-          (subst (λ (n : ℕ). gathered_barriers c n (after (chunk_of s) (WriteRelease c to place value last) (records me)) ≡ gathered_barriers c n (records me)) (sym same_last) (new_gathered ∙ sym old_gathered)))
-          (λ (apart : comm ≢ c).
-          gathered-bar comm (last_of s comm k) (after (chunk_of s) (WriteRelease c to place value last) (records me))
-          ∙ ap (gathered_in (last_of s comm k) ((records me).flips comm)) (told.others comm apart)
-          ∙ sym (gathered-bar comm (last_of s comm k) (records me)))
-          (equal_or_not comm c)
+      other_gathered : (n comm : ℕ) → comm ≢ c → gathered_barriers comm n (after (chunk_of s) (WriteRelease c to place value last) (records me)) ≡ gathered_barriers comm n (records me)
+      other_gathered n comm apart = gathered-bar comm n (after (chunk_of s) (WriteRelease c to place value last) (records me)) ∙ ap (gathered_in n ((records me).flips comm)) (told.others comm apart) ∙ sym (gathered-bar comm n (records me))
 
       open_now : is_open c (records me).stage ≡ true
       open_now = is_open-bar c (records me).stage ∙ ap (is_some {T = Counts}) told.bar
@@ -101,13 +93,6 @@ module _ (s : SetupView) (me : ℕ) (view : View) (records : ℕ → Record) (lo
               (is_open-bar c (write_release last (records me).stage) ∙ ap (is_some {T = Counts}) (told.after ∙ ap (λ (b : Bool). if b then None else Some (record { seen = told.counts.seen; released = suc told.counts.released })) is))
               ∙ ap (λ (b : Bool). if b then Bar c ∷ [] else []) all_gathered)
 
-      calls : (k : ℕ) → passed_calls s (table_with records me (after (chunk_of s) (WriteRelease c to place value last) (records me))) k ≡ passed_calls s records k
-      calls k =
-          ⊎_elim
-          (λ (is : k ≡ me). subst (λ (x : ℕ). passed_calls s (table_with records me (after (chunk_of s) (WriteRelease c to place value last) (records me))) x ≡ passed_calls s records x) (sym is) (new_passed ∙ sym old_passed))
-          (λ (other : k ≢ me). passed_else s me records (after (chunk_of s) (WriteRelease c to place value last) (records me)) messages.0 messages.1 k other (λ comm mine is. gathers k comm mine))
-          (equal_or_not k me)
-
   -- the record of this rank after a move, and all records
   abbrev new_of : Move → Record
   new_of move = after (chunk_of s) move (records me)
@@ -136,7 +121,7 @@ module _ (s : SetupView) (me : ℕ) (view : View) (records : ℕ → Record) (lo
       unmoved_by stage calls = unmoved s me records (new_of (LookRelease c value)) (λ i. record (records me) { stage = stage i; calls = calls i })
 
       leaves : (x : Counts) → bar_at c (records me).stage ≡ Some x → (value == (records me).flips c % 2) ≡ true → GrowsBy (LookRelease c value)
-      leaves x is at = ByNothing calls (slots_stay s me records (new_of (LookRelease c value)) messages.0 messages.1 refl)
+      leaves x is at = quiet_barrier s me records (new_of (LookRelease c value)) messages.0 messages.1 refl (new_passed ∙ sym old_passed) gathers
         where
           both_tests : ((c == c) && (value == (records me).flips c % 2)) ≡ true
           both_tests = grind (arith, nat_tests)
@@ -189,13 +174,6 @@ module _ (s : SetupView) (me : ℕ) (view : View) (records : ℕ → Record) (lo
               ∙ ap (gathered_in (last_of s comm k) ((records me).flips comm)) (look_release-other c comm value ((records me).flips c % 2) (records me).stage apart)
               ∙ sym (gathered-bar comm (last_of s comm k) (records me)))
               (equal_or_not comm c)
-
-          calls : (k : ℕ) → passed_calls s (next_of (LookRelease c value)) k ≡ passed_calls s records k
-          calls k =
-              ⊎_elim
-              (λ (same : k ≡ me). subst (λ (x : ℕ). passed_calls s (next_of (LookRelease c value)) x ≡ passed_calls s records x) (sym same) (new_passed ∙ sym old_passed))
-              (λ (other : k ≢ me). passed_else s me records (new_of (LookRelease c value)) messages.0 messages.1 k other (λ comm mine open_at. gathers k comm mine))
-              (equal_or_not k me)
 
       by_bar : (b : Option Counts) → bar_at c (records me).stage ≡ b → GrowsBy (LookRelease c value)
       by_bar None is = let same = look_release_none c value ((records me).flips c % 2) (records me).stage (records me).calls is in unmoved_by same.0 same.1

@@ -1,8 +1,7 @@
 -- The moves of messages add nothing to the passed calls, or the calls of one post, one receive, or one send and its receive.
-use Rattle.std.proofs.Common.{◌≡◌, ◌≢◌, ℕ, suc, ◌<◌, ◌==◌, Bool, true, false, true≢false, ◌&&◌, if◌then◌else◌, List, [], ◌∷◌, ◌++◌, length, is_none, Option, Some, None, unwrap_or, ⊎_elim, refl, sym, ◌∙◌, ap, ap₂, subst, append-nil, arith}
+use Rattle.std.proofs.Common.{◌≡◌, ℕ, suc, ◌<◌, ◌==◌, Bool, true, false, true≢false, ◌&&◌, if◌then◌else◌, List, [], ◌∷◌, ◌++◌, length, is_none, Option, Some, None, unwrap_or, ⊎_elim, refl, sym, ◌∙◌, ap, ap₂, subst, append-nil, arith}
 use Rattle.scc_base.specs.Calls.{DataCall, Message}
 use Rattle.scc_base.specs.Setups.{SetupView, IsSetup, setup_key}
-use Rattle.scc_base.proofs.Confluence.{equal_or_not}
 use Rattle.scc_base.proofs.ChangeLaws.{true_or_false}
 use Rattle.scc_base.specs.declared.signals.Signal.TheVariants.{Sent, Ready}
 use Rattle.scc_proto.specs.Tables.{table_with}
@@ -17,7 +16,7 @@ use Rattle.scc_proto.specs.Pairs.{Resting, Offering, pair_of, IsReady, HasArrive
 use Rattle.scc_proto.specs.Singles.{IsConsistent, is_free}
 use Rattle.scc_proto.specs.Passed.{in_hand, is_received_ahead, passed_open, passed_calls, slot_by, slot_of}
 use Rattle.scc_proto.specs.Agreement.{RecordsAgree, PairsAgree, SendersAgree, GroupsAgree}
-use Rattle.scc_proto.specs.Legality.{Grows, ByNothing}
+use Rattle.scc_proto.specs.Legality.{Grows}
 use Rattle.scc_proto.proofs.Messages.Growth.{grows_by_post}
 use Rattle.scc_proto.proofs.Layouts.MoveFacts.{IsViewStep}
 use Rattle.scc_proto.proofs.Messages.MessageLists.{sent_messages-post, received_messages-send, received_messages-post, message_here}
@@ -26,7 +25,7 @@ use Rattle.scc_proto.proofs.Barriers.BarrierFacts.{bar_at}
 use Rattle.scc_proto.proofs.Barriers.BarrierMoves.{is_barrier_move, bar_kept}
 use Rattle.scc_proto.proofs.Barriers.BarrierCalls.{barrier_calls}
 use Rattle.scc_proto.proofs.Tests.{both_first, both_second, same_by_eqb}
-use Rattle.scc_proto.proofs.Messages.QuietMoves.{received_at, passed_stays, slot_stays, passed_now, slot_now, sent_now, quiet, draft_header-passed, draft_chunk-passed, read_chunk-passed, lower_sent-passed, look_ready-passed, look_ready-slot, no_post_beside, one_more, test_same, test_apart, not_received}
+use Rattle.scc_proto.proofs.Messages.QuietMoves.{received_at, passed_stays, slot_stays, passed_now, slot_now, sent_now, same_passed, quiet, draft_header-passed, draft_chunk-passed, read_chunk-passed, lower_sent-passed, look_ready-passed, look_ready-slot, no_post_beside, one_more, test_same, test_apart, not_received}
 use Rattle.scc_proto.proofs.Messages.ReceiveCalls.{raise_ready_grows}
 
 module _ (s : SetupView) (me : ℕ) (view : View) (records : ℕ → Record) (low : me < s.nue) (consistent : RecordsAgree s records) (pairs : PairsAgree s view records) (senders : SendersAgree s view records) where
@@ -251,7 +250,7 @@ module _ (s : SetupView) (me : ℕ) (view : View) (records : ℕ → Record) (lo
 
               not_yet : is_received_ahead me j records ≡ false
               not_yet = ap (λ (k : ℕ). is_received_ahead me k records) target ∙ not_received (received_messages me (records by).calls) (sent_messages by (records me).calls) arrived.1
-          by_last true last = ByNothing calls slots
+          by_last true last = same_passed s me records (new_of (LowerSignal Ready by)) refl bars received (new_passed ∙ sym old_passed) (slot_now s me records (new_of (LowerSignal Ready by)) refl bars ∙ sym empty)
             where
               arrived : HasArrived true (chunk_of s) false message chunk ready.0 (sent_messages by (records me).calls) (received_messages me (records by).calls)
               arrived = subst (λ (b : Bool). HasArrived b (chunk_of s) false message chunk ready.0 (sent_messages by (records me).calls) (received_messages me (records by).calls)) last ready.1.arrived
@@ -278,20 +277,6 @@ module _ (s : SetupView) (me : ℕ) (view : View) (records : ℕ → Record) (lo
                   passed_now s me records (new_of (LowerSignal Ready by)) refl bars
                   ∙ ap₂ (λ (l : List DataCall) (x : Stage). l ++ passed_open s me x (next_of (LowerSignal Ready by))) new_calls new_stage
                   ∙ append-nil ((records me).calls ++ send_to j (message_of (with_chunk (chunk_of s) message chunk)) ∷ [])
-
-              calls : (k : ℕ) → passed_calls s (next_of (LowerSignal Ready by)) k ≡ passed_calls s records k
-              calls k =
-                  ⊎_elim
-                  (λ (same : k ≡ me). subst (λ (x : ℕ). passed_calls s (next_of (LowerSignal Ready by)) x ≡ passed_calls s records x) (sym same) (new_passed ∙ sym old_passed))
-                  (λ (other : k ≢ me). passed_stays s me records (new_of (LowerSignal Ready by)) refl bars k other (received k))
-                  (equal_or_not k me)
-
-              slots : (k : ℕ) → slot_of s (next_of (LowerSignal Ready by)) k ≡ slot_of s records k
-              slots k =
-                  ⊎_elim
-                  (λ (same : k ≡ me). subst (λ (x : ℕ). slot_of s (next_of (LowerSignal Ready by)) x ≡ slot_of s records x) (sym same) (slot_now s me records (new_of (LowerSignal Ready by)) refl bars ∙ sym empty))
-                  (λ (other : k ≢ me). slot_stays s me records (new_of (LowerSignal Ready by)) refl bars k other (received k))
-                  (equal_or_not k me)
       by_stage (Sending j Filling message chunk) is = not_allowed (Sending j Filling message chunk) is refl
       by_stage (Sending j Raised message chunk) is = not_allowed (Sending j Raised message chunk) is refl
       by_stage Idle is = a_post Idle is refl refl refl refl
@@ -300,28 +285,24 @@ module _ (s : SetupView) (me : ℕ) (view : View) (records : ℕ → Record) (lo
       by_stage (Taking from message chunk) is = a_post (Taking from message chunk) is refl refl refl refl
       by_stage (Barrier c seen released) is = a_post (Barrier c seen released) is refl refl refl refl
 
-  kept_quiet : (move : Move) → (new_of move).flips ≡ (records me).flips → ((comm : ℕ) → bar_at comm (new_of move).stage ≡ bar_at comm (records me).stage) → (new_of move).calls ≡ (records me).calls
-      → slot_by (chunk_of s) me (new_of move).post records ≡ slot_by (chunk_of s) me (records me).post records → passed_open s me (new_of move).stage records ≡ passed_open s me (records me).stage records → GrowsBy move
-  kept_quiet move flips bars calls post open_call = quiet s me records (new_of move) flips bars calls post open_call
-
   message_grows : (move : Move) → IsViewStep s me view (records me) move → is_barrier_move move ≡ false → GrowsBy move
-  message_grows (DraftHeader k v) step other = kept_quiet (DraftHeader k v) refl (λ comm. bar_kept comm (chunk_of s) (DraftHeader k v) (records me) refl) refl refl (draft_header-passed s me k v (records me).stage records)
-  message_grows (DraftChunk k v) step other = kept_quiet (DraftChunk k v) refl (λ comm. bar_kept comm (chunk_of s) (DraftChunk k v) (records me) refl) refl refl (draft_chunk-passed s me k v (records me).stage records)
+  message_grows (DraftHeader k v) step other = quiet s me records (new_of (DraftHeader k v)) refl (λ comm. bar_kept comm (chunk_of s) (DraftHeader k v) (records me) refl) refl refl (draft_header-passed s me k v (records me).stage records)
+  message_grows (DraftChunk k v) step other = quiet s me records (new_of (DraftChunk k v)) refl (λ comm. bar_kept comm (chunk_of s) (DraftChunk k v) (records me) refl) refl refl (draft_chunk-passed s me k v (records me).stage records)
   message_grows (RaiseSignal Sent to) step other = raise_sent_grows to step
-  message_grows (LookSignal Sent is_set) step other = kept_quiet (LookSignal Sent is_set) refl (λ comm. refl) refl refl refl
-  message_grows (ReadHeader from k v) step other = kept_quiet (ReadHeader from k v) refl (λ comm. refl) refl refl refl
-  message_grows (ReadChunk from k v) step other = kept_quiet (ReadChunk from k v) refl (λ comm. bar_kept comm (chunk_of s) (ReadChunk from k v) (records me) refl) refl refl (read_chunk-passed s me from k v (records me).stage records)
-  message_grows (LowerSignal Sent from) step other = kept_quiet (LowerSignal Sent from) refl (λ comm. bar_kept comm (chunk_of s) (LowerSignal Sent from) (records me) refl) refl refl (lower_sent-passed s me from (unwrap_or ((records me).notes from) []) (records me).stage records)
+  message_grows (LookSignal Sent is_set) step other = quiet s me records (new_of (LookSignal Sent is_set)) refl (λ comm. refl) refl refl refl
+  message_grows (ReadHeader from k v) step other = quiet s me records (new_of (ReadHeader from k v)) refl (λ comm. refl) refl refl refl
+  message_grows (ReadChunk from k v) step other = quiet s me records (new_of (ReadChunk from k v)) refl (λ comm. bar_kept comm (chunk_of s) (ReadChunk from k v) (records me) refl) refl refl (read_chunk-passed s me from k v (records me).stage records)
+  message_grows (LowerSignal Sent from) step other = quiet s me records (new_of (LowerSignal Sent from)) refl (λ comm. bar_kept comm (chunk_of s) (LowerSignal Sent from) (records me) refl) refl refl (lower_sent-passed s me from (unwrap_or ((records me).notes from) []) (records me).stage records)
   message_grows (RaiseSignal Ready to) step other = raise_ready_grows s me view records low consistent pairs senders to step
-  message_grows (LookSignal Ready is_set) step other = kept_quiet (LookSignal Ready is_set) refl (λ comm. bar_kept comm (chunk_of s) (LookSignal Ready is_set) (records me) refl) refl (look_ready-slot (chunk_of s) me is_set (records me).post records) (look_ready-passed s me is_set (records me).stage records)
+  message_grows (LookSignal Ready is_set) step other = quiet s me records (new_of (LookSignal Ready is_set)) refl (λ comm. bar_kept comm (chunk_of s) (LookSignal Ready is_set) (records me) refl) refl (look_ready-slot (chunk_of s) me is_set (records me).post records) (look_ready-passed s me is_set (records me).stage records)
   message_grows (LowerSignal Ready by) step other = lower_ready_grows by step
   message_grows (FlipGather c value last) step other = absurd (true≢false other)
   message_grows (LookGather c from place value) step other = absurd (true≢false other)
   message_grows (WriteRelease c to place value last) step other = absurd (true≢false other)
   message_grows (LookRelease c value) step other = absurd (true≢false other)
-  message_grows (StoreHeap place value) step other = kept_quiet (StoreHeap place value) refl (λ comm. refl) refl refl refl
-  message_grows NoMove step other = kept_quiet NoMove refl (λ comm. refl) refl refl refl
-  message_grows Misplaced step other = kept_quiet Misplaced refl (λ comm. refl) refl refl refl
+  message_grows (StoreHeap place value) step other = quiet s me records (new_of (StoreHeap place value)) refl (λ comm. refl) refl refl refl
+  message_grows NoMove step other = quiet s me records (new_of NoMove) refl (λ comm. refl) refl refl refl
+  message_grows Misplaced step other = quiet s me records (new_of Misplaced) refl (λ comm. refl) refl refl refl
 
 pub message_calls : (s : SetupView) (me : ℕ) (view : View) (records : ℕ → Record) (move : Move) → IsSetup s → IsViewStep s me view (records me) move → RecordsAgree s records → PairsAgree s view records → SendersAgree s view records → is_barrier_move move ≡ false
     → Grows s.nue (setup_key s) (passed_calls s records) (slot_of s records) (passed_calls s (table_with records me (after (chunk_of s) move (records me)))) (slot_of s (table_with records me (after (chunk_of s) move (records me))))

@@ -93,34 +93,38 @@ module _ (s : SetupView) (me : ℕ) (records : ℕ → Record) (new : Record) (f
   pub sent_now : (to : ℕ) → sent_messages to (table_with records me new me).calls ≡ sent_messages to new.calls
   sent_now to = ap (λ (rec : Record). sent_messages to rec.calls) (put_here records me me new refl)
 
-  -- a move that finishes no call, and passes and posts nothing
-  pub quiet : new.calls ≡ (records me).calls → slot_by (chunk_of s) me new.post records ≡ slot_by (chunk_of s) me (records me).post records → passed_open s me new.stage records ≡ passed_open s me (records me).stage records
+  -- a move passes nothing if it keeps the received messages, and this rank's passed calls and slot
+  pub same_passed : ((k : ℕ) → received_messages k new.calls ≡ received_messages k (records me).calls) → passed_calls s (table_with records me new) me ≡ passed_calls s records me → slot_of s (table_with records me new) me ≡ slot_of s records me
       → Grows s.nue (setup_key s) (passed_calls s records) (slot_of s records) (passed_calls s (table_with records me new)) (slot_of s (table_with records me new))
-  quiet calls post open_call = ByNothing passed slots
+  same_passed received own slot = ByNothing calls slots
     where
-      received : (k : ℕ) → received_messages k new.calls ≡ received_messages k (records me).calls
-      received k = ap (received_messages k) calls
-
-      sent : (to : ℕ) → sent_messages to (table_with records me new me).calls ≡ sent_messages to (records me).calls
-      sent to = sent_now to ∙ ap (sent_messages to) calls
-
-      passed : (k : ℕ) → passed_calls s (table_with records me new) k ≡ passed_calls s records k
-      passed k =
+      calls : (k : ℕ) → passed_calls s (table_with records me new) k ≡ passed_calls s records k
+      calls k =
           ⊎_elim
-          (λ (is : k ≡ me).
-          subst (λ (j : ℕ). passed_calls s (table_with records me new) j ≡ passed_calls s records j) (sym is)
-          (passed_now ∙ ap₂ (λ (l more : List DataCall). l ++ more) calls (open_at s me new.stage records (table_with records me new) (received_at me (received me)) sent (gathers_alike me) ∙ open_call)))
+          (λ (is : k ≡ me). subst (λ (j : ℕ). passed_calls s (table_with records me new) j ≡ passed_calls s records j) (sym is) own)
           (λ (other : k ≢ me). passed_stays k other (received k))
           (equal_or_not k me)
 
       slots : (k : ℕ) → slot_of s (table_with records me new) k ≡ slot_of s records k
       slots k =
           ⊎_elim
-          (λ (is : k ≡ me).
-          subst (λ (j : ℕ). slot_of s (table_with records me new) j ≡ slot_of s records j) (sym is)
-          (slot_now ∙ slot_at_rank s me new.post records (table_with records me new) (received_at me (received me)) sent ∙ post))
+          (λ (is : k ≡ me). subst (λ (j : ℕ). slot_of s (table_with records me new) j ≡ slot_of s records j) (sym is) slot)
           (λ (other : k ≢ me). slot_stays k other (received k))
           (equal_or_not k me)
+
+  -- a move that finishes no call, and passes and posts nothing
+  pub quiet : new.calls ≡ (records me).calls → slot_by (chunk_of s) me new.post records ≡ slot_by (chunk_of s) me (records me).post records → passed_open s me new.stage records ≡ passed_open s me (records me).stage records
+      → Grows s.nue (setup_key s) (passed_calls s records) (slot_of s records) (passed_calls s (table_with records me new)) (slot_of s (table_with records me new))
+  quiet calls post open_call =
+      same_passed received
+      (passed_now ∙ ap₂ (λ (l more : List DataCall). l ++ more) calls (open_at s me new.stage records (table_with records me new) (received_at me (received me)) sent (gathers_alike me) ∙ open_call))
+      (slot_now ∙ slot_at_rank s me new.post records (table_with records me new) (received_at me (received me)) sent ∙ post)
+    where
+      received : (k : ℕ) → received_messages k new.calls ≡ received_messages k (records me).calls
+      received k = ap (received_messages k) calls
+
+      sent : (to : ℕ) → sent_messages to (table_with records me new me).calls ≡ sent_messages to (records me).calls
+      sent to = sent_now to ∙ ap (sent_messages to) calls
 
 -- ---- moves that pass nothing
 
