@@ -21,7 +21,7 @@ loop-at-preserved g c =
     let d = c.index-members-at.result in
     let so = c.loop-at.invariant in
     served_one _ c.args.members.now c.loop-at.members c.loop-at.at c.begin.new.member d c.loop-at-test.true so
-    (c.begin.ensures.begins ∙ ap (λ (m : Member g.slice.W.Denot). record m { failed = 0 }) (so.left c.loop-at.at d (omega arith)), c.begin.ensures.passed)
+    (c.begin.ensures.begins ∙ ap (λ (m : Member g.row.W.Denot). record m { failed = 0 }) (so.left c.loop-at.at d (omega arith)), c.begin.ensures.passed)
 
 pub returns : goal.returns
 returns g c = record { served = all_served _ c.loop-at.at _ c.args.members.now c.loop-at.members c.loop-at.auto.at-end c.loop-at-test.false c.loop-at.invariant }
