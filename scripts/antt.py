@@ -23,6 +23,17 @@ def crates():
     return [re.split(r"[ :]", line)[0] for line in lines if line]
 
 
+def subjects():
+    """The headings of crates.txt, in its order, each with the crates below it."""
+    found = {}
+    for line in text_of(f"{TOP}/crates.txt").splitlines():
+        if heading := re.fullmatch(r"# (\w[\w ]*)", line):
+            at = found.setdefault(heading[1], [])
+        elif line := line.split("#")[0].strip():
+            at.append(re.split(r"[ :]", line)[0])
+    return found
+
+
 def files(kind, ending):
     """The files of each crate's folder of this kind, as crate, name and path."""
     for crate in crates():
