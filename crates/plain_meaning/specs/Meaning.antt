@@ -16,7 +16,7 @@ pub record State : Type 0 where
   pub local : Local
   pub matched : List DataCall
 
--- a rank's next action, where each state after it has the call added to the calls done
+-- a rank's next action, with the call added to the calls done in the state after it; a refused receive adds none
 abbrev pub next_with_calls : List DataCall → Next Local → Next State
 next_with_calls calls Ends = Ends
 next_with_calls calls (Goes after) = Goes (record { local = after; matched = calls })

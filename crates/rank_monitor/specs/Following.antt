@@ -63,7 +63,7 @@ pub record Takes (old : RankMonitor) (e : Event) (new : RankMonitor) (answer : R
   pub finishes : (rec : Record) → FollowsRecord old rec
       → FinishesCall answer new.work.bytes.items rec.calls (record_after old.setup old.rank rec e).calls
 
--- a half-written message begins, with no call unfinished before
+-- the stage in which a message is half written, if the rank was between calls before
 abbrev pub with_draft_open : Stage → Stage
 with_draft_open Idle = Drafting [] []
 with_draft_open stage = stage

@@ -23,19 +23,19 @@ is_sending (standing.Raised to head) = true
 is_sending (standing.Answered to head) = true
 is_sending mid = false
 
--- nothing is half written or being taken, and no barrier is unfinished
+-- the rank is between calls, or between two chunks that it takes
 abbrev pub leaves_words : Standing → Bool
 leaves_words standing.Idle = true
 leaves_words (standing.Between from head) = true
 leaves_words mid = false
 
--- the rank may write words of a header line
+-- the stage allows words of a header line: no call is unfinished, or a message is half written (a post in flight may still forbid them)
 abbrev pub opens_header : Standing → Bool
 opens_header standing.Idle = true
 opens_header standing.Drafting = true
 opens_header mid = false
 
--- the rank may write words of a chunk
+-- the stage allows words of a chunk (a post in flight may still forbid them)
 abbrev pub opens_chunk : Standing → Bool
 opens_chunk standing.Idle = true
 opens_chunk standing.Drafting = true

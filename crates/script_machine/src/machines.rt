@@ -238,7 +238,7 @@ impl<'s> Machine<'s> {
         };
     }
 
-    /// How the rank's run ended, if this message of its is in flight.
+    /// How the rank's run ended, given its posted message that is in flight, if any.
     pub fn end(&self, post: Option<InFlight>) -> UeEnd
         requires { is_going (local_next self.now.local) ≡ false }
         ensures { (slot : Option Posted) → option_map in_flight slot ≡ post → result ≡ end_of slot self.now.local }
