@@ -6,6 +6,7 @@ use Rattle.rank_monitor.specs.Next.{allowed_for}
 use Rattle.rank_monitor.specs.declared.next.NextEvent.{NextEvent}
 use Rattle.scc_base.specs.Events.{IsEvent}
 use Rattle.scc_base.specs.Setups.{SetupView}
+use Rattle.scc_base.specs.declared.events.Access.{Access}
 use Rattle.scc_proto.specs.Histories.{IsPermittedRun, memory_from, records_from}
 use Rattle.scc_proto.specs.Records.{is_permitted, IsPermitted}
 use Rattle.scc_proto.specs.Stages.{Record}
@@ -20,23 +21,23 @@ use Rattle.trace_judge.specs.declared.judge.Refusal.TheVariants.{OtherValue, Not
 abbrev IsTaken : Judged → RankEvent → Type 0
 IsTaken j e = IsStep j.memory e.event × IsPermitted j.setup e.rank (j.records e.rank) e.event
 
-none_told : (step permitted : Bool) (next : NextEvent) (found : ℕ) → (if step then (if permitted then None else Some (NotPermitted next)) else Some (OtherValue found)) ≡ None → (step ≡ true) × (permitted ≡ true)
-none_told true true next found is = (refl, refl)
-none_told true false next found is = absurd cc
-none_told false permitted next found is = absurd cc
+none_told : (step permitted : Bool) (next : NextEvent) (access : Access) (found : ℕ) → (if step then (if permitted then None else Some (NotPermitted next)) else Some (OtherValue access found)) ≡ None → (step ≡ true) × (permitted ≡ true)
+none_told true true next access found is = (refl, refl)
+none_told true false next access found is = absurd cc
+none_told false permitted next access found is = absurd cc
 
-none_from : (step permitted : Bool) (next : NextEvent) (found : ℕ) → step ≡ true → permitted ≡ true → (if step then (if permitted then None else Some (NotPermitted next)) else Some (OtherValue found)) ≡ None
-none_from true true next found s p = refl
-none_from true false next found s p = absurd cc
-none_from false permitted next found s p = absurd cc
+none_from : (step permitted : Bool) (next : NextEvent) (access : Access) (found : ℕ) → step ≡ true → permitted ≡ true → (if step then (if permitted then None else Some (NotPermitted next)) else Some (OtherValue access found)) ≡ None
+none_from true true next access found s p = refl
+none_from true false next access found s p = absurd cc
+none_from false permitted next access found s p = absurd cc
 
 pub ruling_told : (j : Judged) (e : RankEvent) → refusal_of j e ≡ None → IsTaken j e
 ruling_told j e none =
-    let both = none_told (is_step j.memory e.event) (is_permitted j.setup e.rank (j.records e.rank) e.event) (allowed_for j.setup (j.records e.rank) e.event) (stands_at j.memory e.event) none in
+    let both = none_told (is_step j.memory e.event) (is_permitted j.setup e.rank (j.records e.rank) e.event) (allowed_for j.setup (j.records e.rank) e.event) e.event.access (stands_at j.memory e.event) none in
     (step_told e.event.access e.event.place e.event.value j.memory both.0, both.1)
 
 pub ruling_from_taken : (j : Judged) (e : RankEvent) → IsTaken j e → refusal_of j e ≡ None
-ruling_from_taken j e taken = none_from (is_step j.memory e.event) (is_permitted j.setup e.rank (j.records e.rank) e.event) (allowed_for j.setup (j.records e.rank) e.event) (stands_at j.memory e.event)
+ruling_from_taken j e taken = none_from (is_step j.memory e.event) (is_permitted j.setup e.rank (j.records e.rank) e.event) (allowed_for j.setup (j.records e.rank) e.event) e.event.access (stands_at j.memory e.event)
     (step_tested e.event.access e.event.place e.event.value j.memory taken.0) taken.1
 
 -- a ruling that goes on refuses nothing

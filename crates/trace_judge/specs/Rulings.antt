@@ -21,7 +21,7 @@ permit_refusal s me rec e = if is_permitted s me rec e then None else Some (NotP
 -- why an event is refused: its place has another value, or else the record of its rank does not permit it
 abbrev pub refusal_of : Judged → RankEvent → Option Refusal
 refusal_of j e = if is_step j.memory e.event then permit_refusal j.setup e.rank (j.records e.rank) e.event
-    else Some (OtherValue (stands_at j.memory e.event))
+    else Some (OtherValue e.event.access (stands_at j.memory e.event))
 
 -- an event that was refused: its number in the list, from 0, its rank, and why
 pub record RefusedAt : Type 0 where

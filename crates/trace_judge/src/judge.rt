@@ -8,15 +8,15 @@ ghost use Rattle.trace_judge.specs.Followed.{FollowsAt};
 
 use chip_memory::ChipWords;
 use rank_monitor::{NextEvent, RankMonitor};
-use scc_base::{Call, Event, Rank, Setup};
+use scc_base::{Access, Call, Event, Rank, Setup};
 use std::alloc::{AllocError, Global};
 use std::marker::Model;
 
 /// Why an event is refused.
 #[derive(Drop)]
 pub enum Refusal {
-    /// It is no step: its word, or its core's register, has this value.
-    OtherValue { found: u64 },
+    /// It is no step: its word, or its core's register, has this value. With it, how the event touches them.
+    OtherValue { access: Access, found: u64 },
     /// It is a step, but the record of its rank does not permit it next, and allows this.
     NotPermitted { next: NextEvent },
 }
@@ -112,7 +112,8 @@ impl Judge {
     {
         if !self.words.is_step(event) {
             let found = self.words.stands_at(event.access, event.place);
-            return Err(Refusal::OtherValue { found });
+            let access = event.access;
+            return Err(Refusal::OtherValue { access, found });
         }
         let monitor = &mut self.monitors[rank.number() as usize];
         let taken = monitor.take(event);

@@ -1,5 +1,5 @@
 -- The lines that `rccetrace` prints of a judged trace (this project's profile).
-use Rattle.std.specs.Prelude.{ℕ, nat_lt, Bool, if◌then◌else◌, List, [], ◌∷◌, ◌++◌, codes, decimal, length, Option, Some, None, Vec}
+use Rattle.std.specs.Prelude.{ℕ, ◌==◌, nat_lt, Bool, if◌then◌else◌, List, [], ◌∷◌, ◌++◌, codes, decimal, length, Option, Some, None, Vec}
 use Rattle.std.specs.declared.alloc.Global.{Global}
 use Rattle.rcce_audit.specs.Views.{data_lists}
 use Rattle.rcce_audit.specs.declared.logs.LogCall.{LogCall}
@@ -9,6 +9,8 @@ use Rattle.rcce_audit.specs.Texts.{call_lines, table_lines, text_of}
 use Rattle.rcce_io.specs.Digits.{hex_text}
 use Rattle.rcce_io.specs.Sending.{joined_texts}
 use Rattle.scc_base.specs.Calls.{DataCall}
+use Rattle.scc_base.specs.declared.events.Access.{Access}
+use Rattle.scc_base.specs.declared.events.Access.TheVariants.{Load, Store, Take, Free}
 use Rattle.trace_judge.specs.declared.judge.Refusal.{Refusal}
 use Rattle.trace_judge.specs.declared.judge.Refusal.TheVariants.{OtherValue, NotPermitted}
 use Rattle.trace_program.specs.NextTexts.{next_text}
@@ -42,11 +44,17 @@ lists_text (Some lists) = text_of (table_lines call_lines 0 (data_lists lists.it
 abbrev pub kept_text : ℕ → FinishedCalls → List ℕ
 kept_text nue f = codes "legal\n" ++ (text_of (table_lines (count_lines nue) 0 f.counts) ++ lists_text f.lists)
 
+-- what an event found that is no step: the value of the word, or for a take of a register what it must answer
+abbrev pub found_text : Access → ℕ → List ℕ
+found_text Load found = codes "the value there is " ++ hex_text (to_be_bytes w64 found)
+found_text Store found = codes "the value there is " ++ hex_text (to_be_bytes w64 found)
+found_text Take found = if found == 0 then codes "the register is free: a take answers 1" else codes "the register is held: a take answers 0"
+found_text Free found = codes "the value there is " ++ hex_text (to_be_bytes w64 found)
+
 -- what is printed of one that is not: the line of its first event that is refused, and why
 abbrev pub refused_text : (line rank : ℕ) → Refusal → List ℕ
-refused_text line rank (OtherValue found) =
-    joined_texts (codes "not legal: line " ∷ decimal line ∷ codes ": the value there is "
-    ∷ hex_text (to_be_bytes w64 found) ∷ codes "\n" ∷ [])
+refused_text line rank (OtherValue access found) =
+    joined_texts (codes "not legal: line " ∷ decimal line ∷ codes ": " ∷ found_text access found ∷ codes "\n" ∷ [])
 refused_text line rank (NotPermitted next) =
     joined_texts (codes "not legal: line " ∷ decimal line ∷ codes ": the record of rank " ∷ decimal rank ∷ codes " does not permit it; "
     ∷ next_text next ∷ codes "\n" ∷ [])

@@ -4,7 +4,7 @@ ghost use Rattle.std.specs.Prelude.{◌≡◌, length, vec_len};
 ghost use Rattle.std.specs.Option.{ForSome};
 ghost use Rattle.rcce_io.specs.Sending.{Sends};
 ghost use Rattle.rcce_audit.specs.Texts.{table_lines, text_of};
-ghost use Rattle.trace_program.specs.Texts.{count_lines, kept_text, lists_text, refused_text};
+ghost use Rattle.trace_program.specs.Texts.{count_lines, found_text, kept_text, lists_text, refused_text};
 
 use crate::finished::FinishedCalls;
 use crate::judging::RefusedEvent;
@@ -13,7 +13,7 @@ use outcomes::Report;
 use rank_monitor::NextEvent;
 use rcce_audit::{LogCall, write_lists};
 use rcce_io::{Piece, Sink, TextSource, WriteFault, write_all, write_hex, write_texts};
-use scc_base::Rank;
+use scc_base::{Access, Rank};
 use trace_judge::Refusal;
 
 /// How many ranks a legal trace has, and what they have finished.
@@ -38,8 +38,24 @@ enum Part<'a> {
     Count(usize),
     /// A value of 64 bits in 16 hex digits.
     Value(u64),
+    /// What an event found that is no step.
+    Found(Access, u64),
     /// What a record allows next.
     Next(NextEvent),
+}
+
+/// Writes what an event found that is no step.
+fn write_found<S: Sink>(sink: &mut S, access: Access, found: u64) -> Result<(), WriteFault>
+    ensures { Sends (found_text access found) (S.seen sink.old) (S.seen sink.new) result }
+{
+    match access {
+        Access::Take if found == 0 => write_all(sink, b"the register is free: a take answers 1"),
+        Access::Take => write_all(sink, b"the register is held: a take answers 0"),
+        Access::Load | Access::Store | Access::Free => {
+            write_all(sink, b"the value there is ")?;
+            write_hex(sink, &found.to_be_bytes())
+        }
+    }
 }
 
 impl TextSource for Part<'_> {
@@ -52,6 +68,7 @@ impl TextSource for Part<'_> {
             Part::Text(text) => write_all(sink, text.as_bytes()),
             Part::Count(count) => Piece::Number(*count as u64).write_to(sink),
             Part::Value(value) => write_hex(sink, &value.to_be_bytes()),
+            Part::Found(access, found) => write_found(sink, *access, *found),
             Part::Next(next) => write_next(sink, next),
         }
     }
@@ -114,13 +131,13 @@ fn write_refused<S: Sink>(
     ensures { Sends (refused_text line rank why.now) (S.seen sink.old) (S.seen sink.new) result }
 {
     match why {
-        Refusal::OtherValue { found } => write_texts(
+        Refusal::OtherValue { access, found } => write_texts(
             sink,
             &[
                 Part::Text("not legal: line "),
                 Part::Count(line),
-                Part::Text(": the value there is "),
-                Part::Value(*found),
+                Part::Text(": "),
+                Part::Found(*access, *found),
                 Part::Text("\n"),
             ],
         ),
