@@ -44,17 +44,23 @@ lists_text (Some lists) = text_of (table_lines call_lines 0 (data_lists lists.it
 abbrev pub kept_text : ℕ → FinishedCalls → List ℕ
 kept_text nue f = codes "legal\n" ++ (text_of (table_lines (count_lines nue) 0 f.counts) ++ lists_text f.lists)
 
--- what an event found that is no step: the value of the word, or for a take of a register what it must answer
-abbrev pub found_text : Access → ℕ → List ℕ
-found_text Load found = codes "the value there is " ++ hex_text (to_be_bytes w64 found)
-found_text Store found = codes "the value there is " ++ hex_text (to_be_bytes w64 found)
-found_text Take found = if found == 0 then codes "the register is free: a take answers 1" else codes "the register is held: a take answers 0"
-found_text Free found = codes "the value there is " ++ hex_text (to_be_bytes w64 found)
+-- what the register of a core answers to a take, by the value in it
+abbrev pub register_text : ℕ → List ℕ
+register_text found = if found == 0 then codes "the register is free: a take answers 1" else codes "the register is held: a take answers 0"
 
--- what is printed of one that is not: the line of its first event that is refused, and why
+-- the line of an access that is no step, with the value that it found
+abbrev pub value_text : (line found : ℕ) → List ℕ
+value_text line found =
+    joined_texts (codes "not legal: line " ∷ decimal line ∷ codes ": the value there is "
+    ∷ hex_text (to_be_bytes w64 found) ∷ codes "\n" ∷ [])
+
+-- what is printed of a trace that is not legal: the line of its first event that is refused, and why
 abbrev pub refused_text : (line rank : ℕ) → Refusal → List ℕ
-refused_text line rank (OtherValue access found) =
-    joined_texts (codes "not legal: line " ∷ decimal line ∷ codes ": " ∷ found_text access found ∷ codes "\n" ∷ [])
+refused_text line rank (OtherValue Load found) = value_text line found
+refused_text line rank (OtherValue Store found) = value_text line found
+refused_text line rank (OtherValue Take found) =
+    joined_texts (codes "not legal: line " ∷ decimal line ∷ codes ": " ∷ register_text found ∷ codes "\n" ∷ [])
+refused_text line rank (OtherValue Free found) = value_text line found
 refused_text line rank (NotPermitted next) =
     joined_texts (codes "not legal: line " ∷ decimal line ∷ codes ": the record of rank " ∷ decimal rank ∷ codes " does not permit it; "
     ∷ next_text next ∷ codes "\n" ∷ [])

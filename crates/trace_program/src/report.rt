@@ -4,7 +4,7 @@ ghost use Rattle.std.specs.Prelude.{◌≡◌, length, vec_len};
 ghost use Rattle.std.specs.Option.{ForSome};
 ghost use Rattle.rcce_io.specs.Sending.{Sends};
 ghost use Rattle.rcce_audit.specs.Texts.{table_lines, text_of};
-ghost use Rattle.trace_program.specs.Texts.{count_lines, found_text, kept_text, lists_text, refused_text};
+ghost use Rattle.trace_program.specs.Texts.{count_lines, kept_text, lists_text, refused_text, register_text, value_text};
 
 use crate::finished::FinishedCalls;
 use crate::judging::RefusedEvent;
@@ -38,23 +38,18 @@ enum Part<'a> {
     Count(usize),
     /// A value of 64 bits in 16 hex digits.
     Value(u64),
-    /// What an event found that is no step.
-    Found(Access, u64),
     /// What a record allows next.
     Next(NextEvent),
 }
 
-/// Writes what an event found that is no step.
-fn write_found<S: Sink>(sink: &mut S, access: Access, found: u64) -> Result<(), WriteFault>
-    ensures { Sends (found_text access found) (S.seen sink.old) (S.seen sink.new) result }
+/// What the register of a core answers to a take, by the value in it.
+fn register_text(found: u64) -> &'static str
+    ensures { result.now ≡ register_text found }
 {
-    match access {
-        Access::Take if found == 0 => write_all(sink, b"the register is free: a take answers 1"),
-        Access::Take => write_all(sink, b"the register is held: a take answers 0"),
-        Access::Load | Access::Store | Access::Free => {
-            write_all(sink, b"the value there is ")?;
-            write_hex(sink, &found.to_be_bytes())
-        }
+    if found == 0 {
+        "the register is free: a take answers 1"
+    } else {
+        "the register is held: a take answers 0"
     }
 }
 
@@ -68,7 +63,6 @@ impl TextSource for Part<'_> {
             Part::Text(text) => write_all(sink, text.as_bytes()),
             Part::Count(count) => Piece::Number(*count as u64).write_to(sink),
             Part::Value(value) => write_hex(sink, &value.to_be_bytes()),
-            Part::Found(access, found) => write_found(sink, *access, *found),
             Part::Next(next) => write_next(sink, next),
         }
     }
@@ -122,6 +116,22 @@ fn write_legal<S: Sink>(sink: &mut S, nue: u8, finished: &FinishedCalls) -> Resu
     write_asked(sink, &finished.lists)
 }
 
+/// Writes the line of an access that is no step, with the value that it found.
+fn write_value<S: Sink>(sink: &mut S, line: usize, found: u64) -> Result<(), WriteFault>
+    ensures { Sends (value_text line found) (S.seen sink.old) (S.seen sink.new) result }
+{
+    write_texts(
+        sink,
+        &[
+            Part::Text("not legal: line "),
+            Part::Count(line),
+            Part::Text(": the value there is "),
+            Part::Value(found),
+            Part::Text("\n"),
+        ],
+    )
+}
+
 fn write_refused<S: Sink>(
     sink: &mut S,
     line: usize,
@@ -131,16 +141,21 @@ fn write_refused<S: Sink>(
     ensures { Sends (refused_text line rank why.now) (S.seen sink.old) (S.seen sink.new) result }
 {
     match why {
-        Refusal::OtherValue { access, found } => write_texts(
-            sink,
-            &[
-                Part::Text("not legal: line "),
-                Part::Count(line),
-                Part::Text(": "),
-                Part::Found(*access, *found),
-                Part::Text("\n"),
-            ],
-        ),
+        Refusal::OtherValue { access, found } => match access {
+            Access::Load => write_value(sink, line, *found),
+            Access::Store => write_value(sink, line, *found),
+            Access::Take => write_texts(
+                sink,
+                &[
+                    Part::Text("not legal: line "),
+                    Part::Count(line),
+                    Part::Text(": "),
+                    Part::Text(register_text(*found)),
+                    Part::Text("\n"),
+                ],
+            ),
+            Access::Free => write_value(sink, line, *found),
+        },
         Refusal::NotPermitted { next } => write_texts(
             sink,
             &[
