@@ -102,15 +102,15 @@ HOST_KINDS = _kinds(HOSTS, {
 
 # (docs/LOGS.md has no table of kinds)
 LOG_KINDS = [
-    Kind("TooLong", LOG, "the log has more than 67,108,864 bytes; said of line 0", "a log of at most 67,108,864 bytes",
+    Kind("TooLong", LOG, "the log has more than 67,108,864 bytes; reported at line 0", "a log of at most 67,108,864 bytes",
          ["rcce log 2", "# and 67,108,864 dashes"], ["rcce log 2"], whole=True, dashes=67108864),
     Kind("BadHead", LOG, "the first line is not `rcce log N` with N from 1 to 48",
          f"{LOG_HEAD}, with N from 1 to 48, single blanks and no leading zero",
          ["rcce log 02"], ["rcce log 2"]),
-    Kind("BadComm", LOG, "a line that begins with comm is no split of its form, or stands out of its place",
+    Kind("BadComm", LOG, "a line that begins with comm does not have its form, or is not in its place",
          f"{COMM} before all calls, with rising numbers and a parent that is there",
          ["comm 2 0 rest 2"], ["comm 2 0 mod 2"], before=["rcce log 4"]),
-    Kind("BadCall", LOG, "a line that does not begin with comm is no call of its form, or stands out of its place",
+    Kind("BadCall", LOG, "a line that does not begin with comm is not a call, or is not in its place",
          f"{CALL}, {POST} or {BARRIER}, by rank, with single blanks and lower-case hex",
          ["0 send 1 plain 0 2 01"], ["0 send 1 plain 0 1 01"], before=["rcce log 2"]),
 ]

@@ -3,11 +3,11 @@ from __future__ import annotations
 
 RULES: dict[str, list[tuple[str, str]]] = {
     "host file": [
-        ("TooLong", "the file has more than 65,536 bytes; said of line 0"),
+        ("TooLong", "the file has more than 65,536 bytes; reported at line 0"),
         ("NotText", "a byte outside a comment is no blank and no printable character"),
         ("BadCore", "the line has something else than one core number"),
         ("TwiceCore", "an earlier line has that core"),
-        ("TooFew", "fewer than N cores; said of the line behind the last"),
+        ("TooFew", "fewer than N cores; reported at the line after the last"),
     ],
     "script": [
         ("NotText", "a byte outside a comment is no blank and no printable character"),
@@ -31,16 +31,16 @@ RULES: dict[str, list[tuple[str, str]]] = {
         ("TooManyNames", "the 65th name of the file"),
     ],
     "lab": [
-        ("TooLong", "the file has more than 1,048,576 bytes; said of line 0"),
+        ("TooLong", "the file has more than 1,048,576 bytes; reported at line 0"),
         ("NotText", "a byte outside a comment is no blank and no printable character"),
         ("BadCore", "the line does not begin with core C, and is no first line rcce lab 1"),
         ("BadStep", "what follows core C is none of the forms of a step"),
     ],
     "trace": [
-        ("TooLong", "the file has more than 1,073,741,824 bytes or 16,777,216 lines; said of line 0"),
-        ("BadHead", "line 1 is not of its form"),
-        ("BadComm", "a line that begins with comm is no split of its form, or stands out of its place"),
-        ("BadEvent", "the line is none of an event, lacks its line feed, or has more than 255 bytes"),
+        ("TooLong", "the file has more than 1,073,741,824 bytes or 16,777,216 lines; reported at line 0"),
+        ("BadHead", "line 1 does not have its form"),
+        ("BadComm", "a line that begins with comm does not have its form, or is not in its place"),
+        ("BadEvent", "a line that does not begin with comm is not an event, lacks its line feed, or has more than 255 bytes"),
     ],
 }
 FORMS: dict[str, list[str]] = {
