@@ -3,11 +3,11 @@ from __future__ import annotations
 
 RULES: dict[str, list[tuple[str, str]]] = {
     "host file": [
-        ("TooLong", "the file has more than 65,536 bytes; said of line 0"),
+        ("TooLong", "the file has more than 65,536 bytes; reported at line 0"),
         ("NotText", "a byte outside a comment is no blank and no printable character"),
         ("BadCore", "the line has something else than one core number"),
         ("TwiceCore", "an earlier line has that core"),
-        ("TooFew", "fewer than N cores; said of the line behind the last"),
+        ("TooFew", "fewer than N cores; reported at the line after the last"),
     ],
     "script": [
         ("NotText", "a byte outside a comment is no blank and no printable character"),
