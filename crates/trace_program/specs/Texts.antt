@@ -48,18 +48,18 @@ abbrev pub register_text : ℕ → List ℕ
 register_text found = if found == 0 then codes "the register is free: a take answers 1" else codes "the register is held: a take answers 0"
 
 -- the line of an access that is no step, with the value that it found
-abbrev pub found_line : (line found : ℕ) → List ℕ
-found_line line found =
+abbrev pub no_step_line : (line found : ℕ) → List ℕ
+no_step_line line found =
     joined_texts (codes "not legal: line " ∷ decimal line ∷ codes ": the value there is "
     ∷ hex_text (to_be_bytes w64 found) ∷ codes "\n" ∷ [])
 
 -- what is printed of a trace that is not legal: the line of its first event that is refused, and why
 abbrev pub refused_text : (line rank : ℕ) → Refusal → List ℕ
-refused_text line rank (OtherValue Load found) = found_line line found
-refused_text line rank (OtherValue Store found) = found_line line found
+refused_text line rank (OtherValue Load found) = no_step_line line found
+refused_text line rank (OtherValue Store found) = no_step_line line found
 refused_text line rank (OtherValue Take found) =
     joined_texts (codes "not legal: line " ∷ decimal line ∷ codes ": " ∷ register_text found ∷ codes "\n" ∷ [])
-refused_text line rank (OtherValue Free found) = found_line line found
+refused_text line rank (OtherValue Free found) = no_step_line line found
 refused_text line rank (NotPermitted next) =
     joined_texts (codes "not legal: line " ∷ decimal line ∷ codes ": the record of rank " ∷ decimal rank ∷ codes " does not permit it; "
     ∷ next_text next ∷ codes "\n" ∷ [])

@@ -4,7 +4,7 @@ ghost use Rattle.std.specs.Prelude.{◌≡◌, length, vec_len};
 ghost use Rattle.std.specs.Option.{ForSome};
 ghost use Rattle.rcce_io.specs.Sending.{Sends};
 ghost use Rattle.rcce_audit.specs.Texts.{table_lines, text_of};
-ghost use Rattle.trace_program.specs.Texts.{count_lines, kept_text, lists_text, refused_text, register_text, found_line};
+ghost use Rattle.trace_program.specs.Texts.{count_lines, kept_text, lists_text, refused_text, register_text, no_step_line};
 
 use crate::finished::FinishedCalls;
 use crate::judging::RefusedEvent;
@@ -118,7 +118,7 @@ fn write_legal<S: Sink>(sink: &mut S, nue: u8, finished: &FinishedCalls) -> Resu
 
 /// Writes the line of an access that is no step, with the value that it found.
 fn write_value<S: Sink>(sink: &mut S, line: usize, found: u64) -> Result<(), WriteFault>
-    ensures { Sends (found_line line found) (S.seen sink.old) (S.seen sink.new) result }
+    ensures { Sends (no_step_line line found) (S.seen sink.old) (S.seen sink.new) result }
 {
     write_texts(
         sink,
