@@ -1,4 +1,4 @@
-# Completion in bash of the commands. Sourced, or found in share/bash-completion/completions.
+# Completion in bash of the commands. Sourced, or found in share/bash-completion/completions, where ./install puts it with the names of the programs.
 
 # _rcce_files WORD [ENDING]: files, or folders and files that end so
 _rcce_files() {
@@ -39,11 +39,6 @@ _rcce() {
     at=2
   fi
   case $program:$command in
-    rccerun:) options='-nue -f -evict -serial -bits -gen --help --version' ;;
-    rccecheck:) options='-nue --help --version' ;;
-    rccemesh:) options='-nue -at --help --version' ;;
-    rcceaudit:) options='-log -nue --help --version' ;;
-    rccelab:) options='--help --version' ;;
     rcce-trace:) options='--help --version -o --calls' ;;
     rcce-page:) options='--help --version -o --from --to' ;;
     rcce-trace-from:) options='--help --version' ;;
@@ -61,6 +56,8 @@ _rcce() {
     rcce:lab) options='--help --version --json --quiet --show' ;;
     rcce:audit | rcce:explain) options='--help --version --json --quiet' ;;
     rcce:*) options='--help --version --json --quiet -nue' ;;
+    # those that its help tells
+    *) options=$("${COMP_WORDS[0]/#\~/$HOME}" --help 2>/dev/null | sed -nE 's/^  (-[a-z]+) .*/\1/p')' --help --version' ;;
   esac
   case $word in
     -*) _rcce_words "$options" "$word" ;;
@@ -80,4 +77,4 @@ _rcce() {
   esac
 }
 
-complete -F _rcce rcce rcce-trace rcce-page rcce-trace-from rccerun rccecheck rccemesh rcceaudit rccecoll rccelab rccetrace
+complete -F _rcce rcce rcce-trace rcce-page rcce-trace-from @PROGRAMS@

@@ -1,8 +1,19 @@
 """The scripts that are measured: the largest that the limits allow, the works that other programs do too, and turns of few kinds."""
 from __future__ import annotations
 
+import pathlib
+import re
 from dataclasses import dataclass
 from typing import Callable
+
+HELP = pathlib.Path(__file__).resolve().parents[2] / "scripts/help"
+
+
+def readers() -> dict[str, bool]:
+    """The programs that work a script out without a chip, by the form of their words, and whether they take the cores of the ranks."""
+    form = re.compile(r"(?m)^usage: (\S+) -nue N( \[-at LIST\])? SCRIPT$")
+    found = (form.search(path.read_text(encoding="utf-8")) for path in sorted(HELP.iterdir()))
+    return {it[1]: bool(it[2]) for it in found if it}
 
 
 def statements(size: int) -> bytes:

@@ -16,7 +16,8 @@ from rcce_lib.texts import lines_of, strange
 # six columns and four rows of tiles, with two cores each
 COLUMNS, ROWS = 6, 4
 LINK = re.compile(r"(\d),(\d) -> (\d),(\d) (\d+)")
-NOT_FINISHED = "rccemesh: not finished"
+PROGRAM = "rccemesh"
+NOT_FINISHED = f"{PROGRAM}: not finished"
 
 
 @dataclass(frozen=True)
@@ -31,12 +32,12 @@ class Link:
 def read_links(text: str) -> list[Link]:
     """The links that carry lines, by what rccemesh writes."""
     links = []
-    for line in lines_of("rccemesh", text):
+    for line in lines_of(PROGRAM, text):
         if not (found := LINK.fullmatch(line)):
-            raise strange("rccemesh", line)
+            raise strange(PROGRAM, line)
         x, y, to_x, to_y, count = map(int, found.groups())
         if abs(x - to_x) + abs(y - to_y) != 1:
-            raise strange("rccemesh", line)
+            raise strange(PROGRAM, line)
         links.append(Link((x, y), (to_x, to_y), count))
     return links
 
@@ -60,7 +61,7 @@ def cores_of(programs: Programs, hosts: Given, empty: Given, ues: int) -> list[i
 def load(told: Told, cores: list[int] | None) -> dict[str, Any]:
     """What each link carries, by rccemesh, and its sums, which are to agree with the messages that rccecheck tells."""
     at = ["-at", ",".join(map(str, cores))] if cores else []
-    ran = told.programs.run("rccemesh", "-nue", str(told.ues), *at, told.script.path, tells=NOT_FINISHED)
+    ran = told.programs.run(PROGRAM, "-nue", str(told.ues), *at, told.script.path, tells=NOT_FINISHED)
     links = read_links(ran.out)
     tiles = [tile(core) for core in cores or range(told.ues)]
     total, inside = 0, 0
@@ -70,7 +71,7 @@ def load(told: Told, cores: list[int] | None) -> dict[str, Any]:
         total += hops * (1 + -(-message.head.length // 32))
         inside += hops == 0
     if total != sum(link.lines for link in links) or ran.status != told.status:
-        raise differ("rccemesh and rccecheck on the lines that the messages move")
+        raise differ(f"{PROGRAM} and rccecheck on the lines that the messages move")
     heaviest = max(links, key=lambda link: link.lines, default=None)
     return {
         "command": "mesh",
