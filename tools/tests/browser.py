@@ -1,6 +1,7 @@
 """Drives a headless Chromium through its pipe for tools, where the machine has one."""
 from __future__ import annotations
 
+import glob
 import json
 import os
 import select
@@ -12,6 +13,10 @@ from types import TracebackType
 from typing import Any
 
 NAMES = ("chromium", "chromium-browser", "google-chrome", "chrome")
+# where Playwright keeps its own
+KEPT = "~/.cache/ms-playwright/chromium*/chrome-linux*/*chrome*"
+# what a key is to a browser that has to do by itself what it does with it
+CODES = {"End": 35, "Home": 36, "ArrowLeft": 37, "ArrowUp": 38, "ArrowRight": 39, "ArrowDown": 40}
 OPTIONS = ["--headless", "--no-sandbox", "--disable-gpu", "--no-first-run", "--disable-extensions", "--host-resolver-rules=MAP * ~NOTFOUND",
            "--window-size=1280,900", "--force-color-profile=srgb", "--remote-debugging-pipe", "about:blank"]
 # after so many seconds without a word the browser is given up
@@ -20,7 +25,8 @@ SECONDS = 120
 
 def find_browser() -> str | None:
     """The path of a Chromium, if there is one."""
-    return next((path for path in map(shutil.which, NAMES) if path), None)
+    kept = [path for path in sorted(glob.glob(os.path.expanduser(KEPT))) if os.path.basename(path) in ("chrome", "headless_shell", "chrome-headless-shell")]
+    return next((path for path in [*map(shutil.which, NAMES), *kept] if path), None)
 
 
 class Browser:
@@ -88,7 +94,21 @@ class Browser:
     def press(self, key: str) -> None:
         """Presses a key."""
         for kind in ("keyDown", "keyUp"):
-            self.ask("Input.dispatchKeyEvent", type=kind, key=key, code=key)
+            self.ask("Input.dispatchKeyEvent", type=kind, key=key, code=key, windowsVirtualKeyCode=CODES.get(key, 0))
+
+    def click(self, name: str) -> None:
+        """Clicks in the midst of an element, by its id, as a mouse does."""
+        x, y = self.run(f"(({{ left, top, width, height }}) => [left + width / 2, top + height / 2])(document.getElementById('{name}').getBoundingClientRect())")
+        for kind in ("mousePressed", "mouseReleased"):
+            self.ask("Input.dispatchMouseEvent", type=kind, x=x, y=y, button="left", clickCount=1)
+
+    def resize(self, width: int, height: int) -> None:
+        """Makes the window as large as this."""
+        self.ask("Emulation.setDeviceMetricsOverride", width=width, height=height, deviceScaleFactor=1, mobile=False)
+
+    def prefer(self, scheme: str) -> None:
+        """Asks pages for light or for dark."""
+        self.ask("Emulation.setEmulatedMedia", features=[{"name": "prefers-color-scheme", "value": scheme}])
 
     def __enter__(self) -> "Browser":
         return self

@@ -38,7 +38,8 @@ LAB_PAGE = "A lab of raw accesses, a line a step."
 # a lab itself: below comments its first line names a core, or the version
 LAB = re.compile(rb"(?:[ \t\r]*(?:#[^\n]*)?\n)*[ \t\r]*(?:core|rcce[ \t]+lab)[ \t]")
 NOT_RUN = "what rccelab prints of this lab: rccelab LAB > OUT 2>&1, and then page OUT"
-NEITHER = "a trace, whose first line begins with rcce trace, or what rccelab prints of a lab: line N: STEP, and below it its accesses and answers"
+NEITHER = ("a trace, whose first line begins with rcce trace, or what rccelab prints of a lab: line N: STEP, "
+           "and below it its accesses and answers")
 
 
 def trace(argv: list[str]) -> int:
@@ -62,7 +63,8 @@ def _viewer_text(words: argparse.Namespace, given: Given, programs: Programs) ->
 def page(argv: list[str]) -> int:
     """The command page."""
     parser = _parser("page", PAGE, "the trace, or the output of a lab")
-    parser.add_argument("--from", metavar="LINE", dest="first", type=int, default=0, help="the first line of the trace, or of the lab, that is shown")
+    parser.add_argument("--from", metavar="LINE", dest="first", type=int, default=0,
+                        help="the first line of the trace, or of the lab, that is shown")
     parser.add_argument("--to", metavar="LINE", dest="last", type=int, help="and the last one")
     return _command(parser.parse_args(argv), _page_text)
 

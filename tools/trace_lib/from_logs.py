@@ -117,7 +117,8 @@ class Logs:
         assert there.line is not None
         for k, value in enumerate(self._values(words[4], size // WORD_BYTES), offset // WORD_BYTES):
             line, word = there.line + k // 4, k % 4
-            yield Event(at, rank, "store" if is_write else "load", there.core, line, word, value, self.map.setup.role(there.core, line, word))
+            role = self.map.setup.role(there.core, line, word)
+            yield Event(at, rank, "store" if is_write else "load", there.core, line, word, value, role)
 
     @staticmethod
     def _values(word: Word, count: int) -> list[int]:
@@ -205,8 +206,8 @@ def _lines(map_: Map, accesses: Iterator[Access]) -> Iterator[str]:
 def _tell(cores: list[int], logs: Logs, unknown: list[tuple[Access, Access]]) -> None:
     """Tells on standard error what is left out, and where the order is not known."""
     if logs.strange:
-        print(f"trace_from: {counted(logs.strange, 'access', 'accesses')} left out, at addresses that the map has not; the first: {logs.first_strange}",
-              file=sys.stderr)
+        left_out = counted(logs.strange, "access", "accesses")
+        print(f"trace_from: {left_out} left out, at addresses that the map has not; the first: {logs.first_strange}", file=sys.stderr)
     for first, second in unknown[:MOST_TOLD]:
         event = second.event
         print(f"{second.place}: OrderUnknown: {second.does(cores)} at {event.place} ({event.role}) at time {second.time}", file=sys.stderr)

@@ -49,8 +49,9 @@ class Drop(NamedTuple):
 
 @dataclass
 class Core:
-    """What a core holds: its cached lines in the order in which they were brought in, and the line in its write-combining buffer. `changes` has what
-    became of the cache since it was taken last."""
+    """What a core holds: its cached lines in the order in which they were brought in, and the line in its write-combining buffer.
+
+    `changes` has what became of the cache since it was taken last."""
 
     cache: dict[Line, list[int]] = field(default_factory=dict)
     buffer: Buffer | None = None
@@ -94,7 +95,7 @@ class Core:
 
 @dataclass
 class Step:
-    """A step: its line in the lab, the core, the verb, its accesses as lines, what it changed, and what is in its core's write-combining buffer then."""
+    """A step: its line in the lab, the core, the verb, its accesses as lines, what it changed, and what its core's buffer has then."""
 
     line: int
     text: str
@@ -206,7 +207,8 @@ class Lab:
     def _holdings(self, core: int) -> list[str]:
         """What a print of a core says."""
         holds = self.cores[core]
-        lines = [f"core {core} caches {line[0]}:{line[1]}" + "".join(f" {value:016x}" for value in words) for line, words in holds.cache.items()]
+        lines = [f"core {core} caches {line[0]}:{line[1]}" + "".join(f" {value:016x}" for value in words)
+                 for line, words in holds.cache.items()]
         lines = lines or [f"core {core} caches nothing"]
         if not holds.buffer:
             return [*lines, f"core {core} buffers nothing"]

@@ -5,7 +5,8 @@ function go(step, isJump = false) {
   const before = now;
   now = Math.max(0, Math.min(count, Math.trunc(step) || 0));
   // what can differ from what is shown: all that the steps between touch, with what this step and the one before have tagged
-  const [low, high] = [Math.min(before, now), Math.max(before, now)], touched = isShown && high - low < every ? data.steps.slice(Math.max(0, low - 1), high) : null;
+  const [low, high] = [Math.min(before, now), Math.max(before, now)];
+  const touched = isShown && high - low < every ? data.steps.slice(Math.max(0, low - 1), high) : null;
   const state = stateAt(now), here = now ? data.steps[now - 1] : { words: none, loads: none, registers: none };
   isShown = true;
   say();
@@ -24,7 +25,8 @@ function go(step, isJump = false) {
 let isShown = false;
 const actor = data.kind === "lab" ? "this core" : "this rank";
 
-// the text of the step, which a screen reader says: at the slider as its value, elsewhere as the status, and while it plays fast not until it pauses
+// the text of the step, which a screen reader says: at the slider as its value, elsewhere as the status, and while it plays fast
+// not until it pauses
 function say() {
   const text = saysAt(now), isQuiet = document.activeElement === find("slider") || timer && Number(find("speed").value) > 1;
   find("says").setAttribute("aria-live", isQuiet ? "off" : "polite");
@@ -33,10 +35,12 @@ function say() {
   find("slider").setAttribute("aria-valuetext", text);
 }
 
-// the address names the step, so that it can be sent; browsers refuse that where it comes too often
+// the address names the step, so that it can be sent; browsers refuse that where it comes too often. One that names it is left alone: to
+// write it once more would end the way to another page of the history that has begun meanwhile
 let told = 0, later = 0;
 function tellAddress() {
   clearTimeout(later);
+  if (location.hash === `#${now}`) return;
   const wait = told + 400 - Date.now();
   if (wait > 0) later = setTimeout(tellAddress, wait);
   else {
@@ -57,8 +61,8 @@ const stores = at => data.steps[at].words.length > 0;
 const isOwn = at => now > 0 && data.steps[at].who === data.steps[now - 1].who;
 
 // which buttons lead nowhere (one that is disabled would lose the focus)
-const ends = () => [["to-first", now === 0], ["back", now === 0], ["forward", now === count], ["to-last", now === count], ["store-back", !seek(-1, stores)],
-  ["store-forward", !seek(1, stores)], ["own-back", !seek(-1, isOwn)], ["own-forward", !seek(1, isOwn)]];
+const ends = () => [["to-first", now === 0], ["back", now === 0], ["forward", now === count], ["to-last", now === count],
+  ["store-back", !seek(-1, stores)], ["store-forward", !seek(1, stores)], ["own-back", !seek(-1, isOwn)], ["own-forward", !seek(1, isOwn)]];
 
 // goes where somebody asks for; what plays stops
 function move(step, isJump = false) {
@@ -137,8 +141,11 @@ function begin() {
   find("slider").addEventListener("input", () => move(Number(find("slider").value)));
   find("slider").addEventListener("focus", say);
   find("slider").addEventListener("blur", () => { find("says").setAttribute("aria-live", "polite"); });
-  const buttons = { "to-first": () => move(0, true), back: () => move(now - 1), forward: () => move(now + 1), "to-last": () => move(count, true), play: () => timer ? pause() : play() };
-  for (const [id, way, test] of [["store-back", -1, stores], ["store-forward", 1, stores], ["own-back", -1, isOwn], ["own-forward", 1, isOwn]]) {
+  const buttons = { "to-first": () => move(0, true), back: () => move(now - 1), forward: () => move(now + 1) };
+  buttons["to-last"] = () => move(count, true);
+  buttons.play = () => timer ? pause() : play();
+  const seeks = [["store-back", -1, stores], ["store-forward", 1, stores], ["own-back", -1, isOwn], ["own-forward", 1, isOwn]];
+  for (const [id, way, test] of seeks) {
     buttons[id] = () => move(seek(way, test) || now, true);
   }
   buttons["found-back"] = () => search(-1);
@@ -152,7 +159,8 @@ function begin() {
     const { left, width } = find("strip").getBoundingClientRect();
     move(Math.ceil(count * (event.clientX - left) / width) || 1, true);
   });
-  for (const [id, way] of [["own-back", "Previous"], ["own-forward", "Next"]]) find(id).setAttribute("aria-label", `${way} step of ${actor}`);
+  find("own-back").setAttribute("aria-label", `Previous step of ${actor}`);
+  find("own-forward").setAttribute("aria-label", `Next step of ${actor}`);
   addEventListener("keydown", pressKey);
   addEventListener("hashchange", () => move(named()));
   addEventListener("resize", fit);

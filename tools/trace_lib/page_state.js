@@ -103,13 +103,15 @@ function alsoSays(at) {
   const call = callOf(at), what = lane => data.kind === "lab" ? `what ${nameOf(lane)} stored` : `the chunk that ${nameOf(lane)} told of`;
   const sentences = call ? [`It is in the call ${call[3]}.`] : [];
   for (const [lane, start] of comes.get(at) ?? none) sentences.push(`It takes ${what(lane)} in step ${start + 1}.`);
-  for (const [, , other, end] of goes.get(at) ?? none) sentences.push(`${nameOf(other).replace(/^./, it => it.toUpperCase())} takes it in step ${end + 1}.`);
+  const begun = name => name.replace(/^./, it => it.toUpperCase());
+  for (const [, , other, end] of goes.get(at) ?? none) sentences.push(`${begun(nameOf(other))} takes it in step ${end + 1}.`);
   return sentences.length ? `\n${sentences.join(" ")}` : "";
 }
 
 // all that is said of the state behind so many steps
 function saysAt(step) {
   if (step) return `Step ${step} of ${count}, line ${data.script[step - 1][0]}: ${doesSay(step - 1)}${alsoSays(step - 1)}`;
-  const before = data["is part"] ? "the words, the registers and the cores are as the lines before leave them." : "all words are 0, and all registers are free.";
+  const before = data["is part"] ? "the words, the registers and the cores are as the lines before leave them."
+    : "all words are 0, and all registers are free.";
   return `Before the first of ${count} steps: ${before}`;
 }

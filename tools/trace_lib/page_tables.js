@@ -3,8 +3,10 @@
 // moves a part that scrolls so far that an element of it is seen, clear of the corner that stays where it is
 function reveal(part, it, corner) {
   if (!it) return;
-  const outer = part.getBoundingClientRect(), inner = it.getBoundingClientRect(), { width, height } = corner?.getBoundingClientRect() ?? { width: 0, height: 0 };
-  const top = outer.top + height, left = outer.left + width, bottom = outer.top + (part.clientHeight || outer.height), right = outer.left + (part.clientWidth || outer.width);
+  const outer = part.getBoundingClientRect(), inner = it.getBoundingClientRect();
+  const { width, height } = corner?.getBoundingClientRect() ?? { width: 0, height: 0 };
+  const top = outer.top + height, bottom = outer.top + (part.clientHeight || outer.height);
+  const left = outer.left + width, right = outer.left + (part.clientWidth || outer.width);
   if (inner.top < top || inner.bottom > bottom) part.scrollTop += inner.top - top - Math.max(0, bottom - top - inner.height) / 2;
   if (inner.left < left || inner.right > right) part.scrollLeft += inner.left - left - Math.max(0, right - left - inner.width) / 2;
 }
@@ -27,7 +29,8 @@ function makeLines(from, to) {
 function showLine() {
   if (!count) return;
   const at = Math.max(0, now - 1), from = Math.floor(at / page) * page, hadFocus = find("script-part").contains(document.activeElement);
-  if (!links.has(at) || at < from + 10 && from && !links.has(from - 1)) makeLines(Math.max(0, from - page), Math.min(count, from + 2 * page));
+  const isNear = at < from + 10 && from && !links.has(from - 1);
+  if (!links.has(at) || isNear) makeLines(Math.max(0, from - page), Math.min(count, from + 2 * page));
   current?.setAttribute("tabindex", "-1");
   current?.removeAttribute("aria-current");
   current = links.get(at);
@@ -56,7 +59,8 @@ function showWords(state, step, touched) {
   const changed = new Map(step.words), loaded = new Set(step.loads);
   const places = touched ? touched.flatMap(it => [...it.words.map(([place]) => place), ...it.loads]) : cells.keys();
   for (const place of new Set(places)) {
-    const tag = changed.has(place) ? "stored" : loaded.has(place) ? "loaded" : "", value = wordOf(state, place), shown = `${value} ${tag}`, cell = cells.get(place);
+    const tag = changed.has(place) ? "stored" : loaded.has(place) ? "loaded" : "";
+    const value = wordOf(state, place), shown = `${value} ${tag}`, cell = cells.get(place);
     if (cell.shown === shown) continue;
     cell.shown = shown;
     cell.className = `value${changed.has(place) ? " changed" : ""}${loaded.has(place) ? " loaded" : ""}`;
@@ -93,15 +97,18 @@ function makeCores() {
 // whether these steps touch what the table of a core shows: what it holds, or a shared word of a line that it holds
 function touchesCore(state, core, touched) {
   const holds = line => state.caches.get(core)?.has(line);
-  return touched.some(it => it.caches.some(([its]) => its === core) || it.buffers.some(([its]) => its === core) || it.words.some(([place]) => holds(lineOf(place))));
+  const isIts = ([its]) => its === core;
+  return touched.some(it => it.caches.some(isIts) || it.buffers.some(isIts) || it.words.some(([place]) => holds(lineOf(place))));
 }
 
 function showCores(state, step, touched) {
   for (const [core, it] of tables) {
     if (touched && !touchesCore(state, core, touched)) continue;
     const rows = coreRows(state, core);
-    it.rows = new Map(rows.map(([name, words]) =>
-      [name, make("tr", {}, make("th", { scope: "row" }, name), ...words.map(([value, tag]) => make("td", { class: `value ${tag}` }, ...inCell(value, tag))))]));
+    it.rows = new Map(rows.map(([name, words]) => {
+      const held = words.map(([value, tag]) => make("td", { class: `value ${tag}` }, ...inCell(value, tag)));
+      return [name, make("tr", {}, make("th", { scope: "row" }, name), ...held)];
+    }));
     it.body.replaceChildren(...(rows.length ? it.rows.values() : [make("tr", {}, make("td", { colspan: "5" }, "holds nothing"))]));
   }
   for (const [core, it] of registers) {
@@ -109,7 +116,8 @@ function showCores(state, step, touched) {
     if (it.textContent !== says) it.textContent = says;
   }
   // the register of this step, or the acting core's line, else its table
-  const register = step.registers.map(([core]) => registers.get(core))[0], line = [...step.loads, ...step.words.map(it => it[0])].map(lineOf)[0];
+  const register = step.registers.map(([core]) => registers.get(core))[0];
+  const line = [...step.loads, ...step.words.map(it => it[0])].map(lineOf)[0];
   const acts = tables.get(data.lanes[step.who]?.core);
   reveal(find("cores"), register ?? (acts && (acts.rows.get(`cached ${line}`) ?? acts.caption)));
 }
@@ -122,7 +130,8 @@ function makeMesh() {
     const row = [make("th", { scope: "row" }, `${y}`)];
     for (let x = 0; x < 6; x++) {
       const cores = [12 * y + 2 * x, 12 * y + 2 * x + 1], lanes = data.lanes.filter(it => cores.includes(it.core)), tags = make("div");
-      const names = lanes.flatMap(it => [make("br"), it.name]), cell = make("td", { class: lanes.length ? "used" : "" }, `cores ${cores.join(", ")}`, ...names, tags);
+      const names = lanes.flatMap(it => [make("br"), it.name]), kind = lanes.length ? "used" : "";
+      const cell = make("td", { class: kind }, `cores ${cores.join(", ")}`, ...names, tags);
       cores.forEach(core => tiles.set(core, { cell, tags }));
       row.push(cell);
     }

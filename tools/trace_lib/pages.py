@@ -14,7 +14,8 @@ from trace_lib.labs import ANSWER, FIRST_HEAP, HOLDS, LOAD_STORE, Drop, Fill, La
 MOST_STEPS = 20_000
 HERE = os.path.dirname(os.path.realpath(__file__))
 Object = dict[str, Any]
-LAB_LETTERS = {"write": "w", "read": "r", "flush": "f", "invalidate": "i", "put": "p", "get": "g", "load": "l", "store": "s", "take": "t", "free": "F", "print": "h"}
+LAB_LETTERS = {"write": "w", "read": "r", "flush": "f", "invalidate": "i", "put": "p", "get": "g", "load": "l", "store": "s", "take": "t",
+               "free": "F", "print": "h"}
 
 # the page's own style and scripts, in their order
 STYLE, SCRIPTS = "page.css", ("page_state.js", "page_tables.js", "page_lanes.js", "page_moves.js")
@@ -50,18 +51,21 @@ def letters_of(letters: dict[str, str]) -> str:
 
 
 def of_lab(lab: Lab, first: int = 0, last: int | None = None) -> Object:
-    """The data of a lab, of its lines from one to another alone: a step a line, a lane a core; an arrow goes from the step that stored a word to the first
-    one of another core that loads it."""
+    """The data of a lab, of its lines from one to another alone: a step a line, a lane a core.
+
+    An arrow goes from the step that stored a word to the first one of another core that loads it."""
     before = [step for step in lab.steps if step.line < first]
     steps = [step for step in lab.steps if step.line >= first and (last is None or step.line <= last)]
     cores, start = sorted(lab.cores), _start(before)
-    used = {line for step in steps for line, *_ in [*step.stored, *step.loaded]} | {line for step in [*before, *steps] for line in _held_lines(step)}
+    used = {line for step in steps for line, *_ in [*step.stored, *step.loaded]}
+    used |= {line for step in [*before, *steps] for line in _held_lines(step)}
     return {
         "kind": "lab",
         "is part": len(steps) < len(lab.steps),
         "lanes": [{"name": f"core {core}", "core": core} for core in cores],
         "letters": letters_of(LAB_LETTERS),
-        "lines": [[_name(line), f"line {line[1]} of the heap of core {line[0]}, line {FIRST_HEAP + line[1]} of its buffer"] for line in sorted(used)],
+        "lines": [[_name(line), f"line {line[1]} of the heap of core {line[0]}, line {FIRST_HEAP + line[1]} of its buffer"]
+                  for line in sorted(used)],
         "registers": sorted({core for step in lab.steps for core, _ in step.registers}),
         "start": start,
         "script": [[step.line, step.text] for step in steps],
@@ -109,7 +113,7 @@ def _held_lines(step: Step) -> list[Line]:
 
 
 def _change(it: Fill | Write | Drop) -> list[Any]:
-    """A change of a cache: a line with four words is brought in, a line with a word and a value is written, a line alone leaves, and nothing is all lines."""
+    """A change of a cache: a line with four words is brought in, one with a word and a value is written, one alone leaves; none is all."""
     if isinstance(it, Fill):
         return [_name(it.line), [f"{value:x}" for value in it.words]]
     if isinstance(it, Write):

@@ -55,7 +55,9 @@ def _closed(key: Key, numbers: list[int], looks: int) -> Iterator[Group]:
 
 
 def _looks(events: list[Event], numbers: list[int]) -> Iterator[tuple[Key, list[int]]]:
-    """The looks of a rank: loads of words of a line one after the other, or a register that was found taken. Any other event is alone, and has no key."""
+    """The looks of a rank: loads of words of a line one after the other, or a register that was found taken.
+
+    Any other event is alone, and has no key."""
     at = 0
     while at < len(numbers):
         start, event = at, events[numbers[at]]

@@ -54,8 +54,8 @@ def of_trace(trace: Trace, first: int = 0, last: int | None = None) -> Object:
     state = State()
     for event in trace.events[:begin]:
         state.go(event)
-    start = {"words": [[place, f"{value:x}"] for place, value in state.words.items()], "registers": list(map(list, state.registers.items())),
-             "caches": [], "buffers": []}
+    words, registers = [[place, f"{value:x}"] for place, value in state.words.items()], list(map(list, state.registers.items()))
+    start = {"words": words, "registers": registers, "caches": [], "buffers": []}
     return {
         "kind": "trace",
         "is part": end - begin < len(trace.events),
@@ -125,9 +125,11 @@ def _says(events: list[Event], group: Group, was: int) -> str:
     if event.access == "free":
         return f"{rank} frees the register of core {event.core}."
     if event.access == "take":
-        return f"{rank} takes the register of core {event.core}." if event.value else f"{rank} finds the register of core {event.core} taken{times}."
+        register = f"the register of core {event.core}"
+        return f"{rank} takes {register}." if event.value else f"{rank} finds {register} taken{times}."
     if group.looks == 1:
         return f"{rank} loads {event.place} and finds {event.value:x}: {event.role}."
     look = [events[number] for number in group.of_one_look]
     places = event.place if len(look) == 1 else f"{event.place} to {look[-1].place}"
-    return f"{rank} polls {places} {times.strip()} and finds {' '.join(f'{it.value:x}' for it in look)} each time: {_what([it.role for it in look])}."
+    found = " ".join(f"{it.value:x}" for it in look)
+    return f"{rank} polls {places} {times.strip()} and finds {found} each time: {_what([it.role for it in look])}."
