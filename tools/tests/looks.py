@@ -108,6 +108,11 @@ def _looks(browser: Browser, url: str, size: tuple[int, int]) -> list[str]:
         wrong += [f"step {step}: {what} is out of sight" for what in ("line", "lane") if not told[what]]
         # (four words of a line may be wider than a narrow part: then one of them is shown)
         wrong += [] if not told["cells"] or any(told["cells"]) else [f"step {step}: the word that it touches is out of sight"]
+    # in a window of another width the lines break elsewhere
+    browser.resize(*(WIDE if size == NARROW else NARROW))
+    browser.run("new Promise(done => requestAnimationFrame(() => setTimeout(done, 100)))")
+    wrong += [] if browser.run("looks.seen(document.querySelector('#script [aria-current=step]'))") else ["in another width the line is out of sight"]
+    browser.resize(*size)
     # where the page is scrolled the controls and what is said stay
     browser.run("scrollTo(0, document.documentElement.scrollHeight)")
     hidden = browser.run(f"{[*CONTROLS, 'says']}.filter(it => !looks.inWindow(find(it)))")

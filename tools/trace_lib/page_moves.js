@@ -133,6 +133,7 @@ function fit() {
   makeStrip();
   showLanes();
   showStrip();
+  reveal(find("script-part"), current);
 }
 
 function begin() {
